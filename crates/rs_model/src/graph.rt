@@ -1,0 +1,91 @@
+ghost use Rattle.std.specs.Prelude.{◌≡◌, [], ◌∷◌, ◌++◌, OnOk, OnErr};
+
+use crate::{NoMemory, Sort};
+use std::alloc::Global;
+use std::marker::Model;
+
+/// A participant, by its place in the roles line, from 0.
+#[derive(Clone, Copy, Debug, PartialEq, Eq)]
+pub struct Role(pub u8);
+
+/// A label, by its place among the labels of its document, from 0.
+#[derive(Clone, Copy, Debug, PartialEq, Eq)]
+pub struct Label(pub u16);
+
+/// One alternative of a talk or of a state: a label, the sort of the payload, and the number of the node or state
+/// behind it.
+#[derive(Clone, Copy, Debug, PartialEq, Eq)]
+pub struct Arm {
+    pub label: Label,
+    pub sort: Sort,
+    pub next: u32,
+}
+
+/// The alternatives of a talk or of a state, in the order of the text.
+#[derive(Drop, Debug)]
+pub struct Arms {
+    items: Vec<Arm>,
+}
+
+impl Model for Arms {
+    ghost use Rattle.std.specs.Prelude.{List};
+    ghost use Rattle.rs_model.specs.declared.graph.Arm.{Arm};
+
+    ghost Value = { List Arm };
+
+    ghost view = { λ a. a.items.items };
+}
+
+impl Arms {
+    /// No arms.
+    pub fn new(alloc: Global) -> Arms
+        ensures { result ≡ [] }
+    {
+        Arms {
+            items: Vec::new(alloc),
+        }
+    }
+
+    /// Appends an arm; where memory is refused nothing changes.
+    pub fn push(&mut self, arm: Arm) -> Result<(), NoMemory>
+        ensures ok { OnOk result (self.new ≡ self.old ++ arm ∷ []) }
+        ensures err { OnErr result (self.new ≡ self.old) }
+    {
+        self.items.push(arm)?;
+        Ok(())
+    }
+
+    pub fn as_slice(&self) -> &[Arm]
+        ensures { result.now ≡ self.now }
+    {
+        self.items.as_slice()
+    }
+}
+
+/// A node of a protocol: its end, or one talk with its alternatives.
+#[derive(Drop, Debug)]
+pub enum Node {
+    Finished,
+    Talk {
+        sender: Role,
+        receiver: Role,
+        arms: Arms,
+    },
+}
+
+/// A protocol among `roles` participants (a global type as a graph): its nodes, numbered by their places, and the
+/// number of the first one.
+#[derive(Drop, Debug)]
+pub struct Protocol {
+    pub roles: u8,
+    pub nodes: Vec<Node>,
+    pub root: u32,
+}
+
+impl Model for Protocol {
+    ghost use Rattle.rs_model.specs.Data.{Protocol_data};
+
+    ghost Value = { Protocol_data };
+
+    ghost view = { λ p. record { roles = p.roles; nodes = p.nodes.items; root = p.root } };
+}

@@ -1,0 +1,14 @@
+//! The types of Rumpsteak: protocols, machines, sorts and values, and the test of a machine.
+#![tactic(auto)]
+
+mod graph;
+mod machines;
+mod memory;
+mod values;
+mod words;
+
+pub use graph::{Arm, Arms, Label, Node, Protocol, Role};
+pub use machines::{Act, Machine, State};
+pub use memory::NoMemory;
+pub use values::{Numbers, Octets, Sort, Value};
+pub use words::{Name, Names};
