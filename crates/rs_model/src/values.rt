@@ -1,4 +1,4 @@
-ghost use Rattle.std.specs.Prelude.{◌≡◌, ℕ, ℤ, List, IfOk};
+ghost use Rattle.std.specs.Prelude.{◌≡◌, IfOk};
 
 use crate::NoMemory;
 use std::alloc::Global;
@@ -22,6 +22,8 @@ pub struct Octets {
 }
 
 impl Model for Octets {
+    ghost use Rattle.std.specs.Prelude.{ℕ, List};
+
     ghost Value = { List ℕ };
 
     ghost view = { λ o. o.bytes.items };
@@ -51,6 +53,8 @@ pub struct Numbers {
 }
 
 impl Model for Numbers {
+    ghost use Rattle.std.specs.Prelude.{ℤ, List};
+
     ghost Value = { List ℤ };
 
     ghost view = { λ n. n.items.items };
@@ -82,4 +86,25 @@ pub enum Value {
     Whole(i64),
     Octets(Octets),
     Numbers(Numbers),
+}
+
+impl Value {
+    ghost use Rattle.std.specs.Prelude.{◌≡◌};
+    ghost use Rattle.rs_model.specs.Sorts.{fits};
+
+    /// Whether the value has the sort: it is of the sort's own kind, and a `Natural` is at most
+    /// 9,223,372,036,854,775,807.
+    pub fn fits(&self, sort: Sort) -> bool
+        ensures { result ≡ fits self.now sort }
+    {
+        match (self, sort) {
+            (Value::Natural(n), Sort::Natural) => *n <= i64::MAX as u64,
+            (Value::Unit, Sort::Unit)
+            | (Value::Flag(_), Sort::Flag)
+            | (Value::Whole(_), Sort::Whole)
+            | (Value::Octets(_), Sort::Octets)
+            | (Value::Numbers(_), Sort::Numbers) => true,
+            _ => false,
+        }
+    }
 }
