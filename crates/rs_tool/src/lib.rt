@@ -1,0 +1,5 @@
+//! Documents, reports and `command`.
+#![tactic(auto)]
+
+mod reading;
+mod straight;
