@@ -54,7 +54,7 @@ abbrev pub act_text : List ℕ → Talk → List ℕ
 act_text role t = if sends role t then t.receiver ++ (codes "!" ++ payload_text t) else (if receives role t then t.sender ++ (codes "?" ++ payload_text t) else [])
 
 -- the machine part that is the role's projection: its acts in the order of the talks, and then the end
-abbrev pub machine_text : List Talk → List ℕ → List ℕ
+unfoldable pub machine_text : List Talk → List ℕ → List ℕ
 machine_text talks role = codes "machine " ++ (role ++ (codes ": " ++ (flat_map (act_text role) talks ++ codes "end\n")))
 
 -- the machine parts, in role order; `parts` tells of each role whether it has one
@@ -72,11 +72,15 @@ all_differ (name ∷ names) = not (list_any (λ other. bytes_eq other name) name
 abbrev pub is_between_roles : List (List ℕ) → Talk → Bool
 is_between_roles roles t = list_any (λ role. sends role t) roles && list_any (λ role. receives role t) roles && not (bytes_eq t.sender t.receiver)
 
--- the labels of the talks behind those that were seen, each once, in order of their first places
-abbrev pub labels_behind : List (List ℕ) → List Talk → List (List ℕ)
-labels_behind seen [] = seen
-labels_behind seen (t ∷ ts) = labels_behind (if list_any (λ label. bytes_eq label t.label) seen then seen else seen ++ t.label ∷ []) ts
+-- the names, and behind them the label where it isn't there yet
+abbrev pub with_label : List (List ℕ) → List ℕ → List (List ℕ)
+with_label labels label = if list_any (λ other. bytes_eq other label) labels then labels else labels ++ label ∷ []
 
+abbrev pub labels_behind : List (List ℕ) → List Talk → List (List ℕ)
+labels_behind labels [] = labels
+labels_behind labels (t ∷ ts) = labels_behind (with_label labels t.label) ts
+
+-- the labels of the talks, each once, in order of their first places
 abbrev pub labels_of : List Talk → List (List ℕ)
 labels_of = labels_behind []
 
@@ -112,7 +116,7 @@ pub record SpellsStraight (bytes : List ℕ) (s : Straight_data) (parts : List B
   pub text : bytes ≡ protocol_text s ++ machines_text s.talks s.roles parts
 
 -- A role with a sends and b receives has a derivation of a + 2b + 1 nodes, at most one act pending, and rank 0.
-abbrev pub figures_text : List Talk → List ℕ → List ℕ
+unfoldable pub figures_text : List Talk → List ℕ → List ℕ
 figures_text talks role =
     let receives_of = count_by (receives role) talks in
     role ++ codes ": nodes " ++ decimal (count_by (sends role) talks + 2 * receives_of + 1)

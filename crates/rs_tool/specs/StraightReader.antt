@@ -1,12 +1,12 @@
 -- How the text of a straight protocol is read, from its front to its end.
-use Rattle.std.specs.Prelude.{ℕ, zero, suc, ◌+◌, List, [], ◌∷◌, codes, Bool, true, false, ◌&&◌, Option, Some, None, length, take, drop, nat_le, nat_eq, if◌then◌else◌}
-use Rattle.std.specs.List.{starts_with}
+use Rattle.std.specs.Prelude.{ℕ, zero, suc, ◌+◌, List, [], ◌∷◌, codes, Bool, true, false, ◌&&◌, Option, Some, None, length, take, drop, nat_le, nat_lt, nat_eq, ◌==◌, if◌then◌else◌}
+use Rattle.std.specs.List.{starts_with, list_all}
 use Rattle.std.specs.Str.{bytes_eq}
 use Rattle.rs_model.specs.declared.values.Sort.{Sort}
 use Rattle.rs_model.specs.declared.values.Sort.TheVariants as sort
 use Rattle.rs_tool.specs.declared.straight.Talk.{Talk}
-use Rattle.rs_tool.specs.Words.{is_word_byte}
-use Rattle.rs_tool.specs.Straight.{Straight_data, machine_text, acts_of}
+use Rattle.rs_tool.specs.Words.{is_word_byte, is_word, is_role_name}
+use Rattle.rs_tool.specs.Straight.{Straight_data, machine_text, acts_of, labels_of, all_differ, is_between_roles}
 
 infixl 10 ◌>>=◌
 abbrev pub ◌>>=◌ : {A B : Type 0} → Option A → (A → Option B) → Option B
@@ -75,9 +75,30 @@ straight_at bytes = do
   talks ← talks_at 1025 body
   Some (record { roles = names.0; talks = talks.0 }, talks.1)
 
--- the bytes are machine parts of some of the roles, in order, each within its limit
-abbrev pub are_parts : List Talk → List (List ℕ) → List ℕ → Bool
-are_parts talks [] bytes = nat_le (length bytes) 0
-are_parts talks (role ∷ roles) bytes =
-    if starts_with nat_eq bytes (machine_text talks role) then nat_le (acts_of talks role) 256 && are_parts talks roles (drop (length (machine_text talks role)) bytes)
-    else are_parts talks roles bytes
+-- what stands behind the role's machine part, where the bytes begin with it and it is within its limit; else the bytes
+unfoldable pub behind_part : List Talk → List ℕ → List ℕ → List ℕ
+behind_part talks role bytes =
+    if starts_with nat_eq bytes (machine_text talks role) && nat_le (acts_of talks role) 256 then drop (length (machine_text talks role)) bytes else bytes
+
+abbrev pub behind_parts : List Talk → List (List ℕ) → List ℕ → List ℕ
+behind_parts talks [] bytes = bytes
+behind_parts talks (role ∷ roles) bytes = behind_parts talks roles (behind_part talks role bytes)
+
+-- the tests of a straight protocol
+abbrev pub has_roles : Straight_data → Bool
+has_roles s = nat_le 2 (length s.roles) && nat_le (length s.roles) 16 && list_all is_role_name s.roles && all_differ s.roles
+
+abbrev pub has_talks : Straight_data → Bool
+has_talks s = nat_le (length s.talks) 1024 && list_all (is_between_roles s.roles) s.talks && list_all (λ t. is_word t.label) s.talks
+
+abbrev pub is_small : Straight_data → Bool
+is_small s = nat_le (length (labels_of s.talks)) 256 && list_all (λ role. nat_lt (acts_of s.talks role) 1024) s.roles
+
+abbrev pub is_straight : Straight_data → Bool
+is_straight s = has_roles s && has_talks s && is_small s
+
+-- the straight protocol that the bytes spell
+unfoldable pub straight_of : List ℕ → Option Straight_data
+straight_of bytes = do
+  read ← straight_at bytes
+  if is_straight read.0 && (length (behind_parts read.0.talks read.0.roles read.1) == 0) then Some read.0 else None

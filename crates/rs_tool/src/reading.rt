@@ -14,20 +14,20 @@ pub const MOST_ROLES: usize = 16;
 /// The most talks of a protocol.
 pub const MOST_TALKS: usize = 1024;
 
-fn is_letter(byte: u8) -> bool
+pub fn is_letter(byte: u8) -> bool
     ensures { result ≡ is_letter byte }
 {
     matches!(byte, b'A'..=b'Z' | b'a'..=b'z' | b'_')
 }
 
-fn is_word_byte(byte: u8) -> bool
+pub fn is_word_byte(byte: u8) -> bool
     ensures { result ≡ is_word_byte byte }
 {
     is_letter(byte) || matches!(byte, b'0'..=b'9')
 }
 
 /// What stands behind the mark, where the bytes begin with it.
-fn behind<'a>(mark: &[u8], bytes: &'a [u8]) -> Option<&'a [u8]>
+pub fn behind<'a>(mark: &[u8], bytes: &'a [u8]) -> Option<&'a [u8]>
     ensures { option_map (λ rest. rest.now) result ≡ behind mark.now bytes.now }
 {
     if bytes.starts_with(mark) {
@@ -133,7 +133,7 @@ fn talks_at(alloc: Global, bytes: &[u8]) -> Result<Option<(Vec<Talk<'_>>, &[u8])
 
 /// The roles line and the protocol, and what stands behind them.
 #[tactic(auto, unfolding(crate::specs::StraightReader::straight_at))]
-fn straight_at(alloc: Global, bytes: &[u8]) -> Result<Option<(Straight<'_>, &[u8])>, NoMemory>
+pub fn straight_at(alloc: Global, bytes: &[u8]) -> Result<Option<(Straight<'_>, &[u8])>, NoMemory>
     ensures { IfOk result (λ read. option_map (λ x. (x.0, x.1.now)) read ≡ straight_at bytes.now) }
 {
     let Some(line) = behind(b"roles ", bytes) else {
