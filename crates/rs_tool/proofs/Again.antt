@@ -27,7 +27,7 @@ word_length-again (b ∷ bs) r c h d =
     let t = both (is_word_byte b) (list_all is_word_byte bs) h in
     rw (t.0, word_length-again bs r c t.1 d) (add-one (length bs))
 
-word_of-again : (w r : List ℕ) (c : ℕ) → IsRun w → is_word_byte c ≡ false → word_of (w ++ c ∷ r) ≡ w
+pub word_of-again : (w r : List ℕ) (c : ℕ) → IsRun w → is_word_byte c ≡ false → word_of (w ++ c ∷ r) ≡ w
 word_of-again w r c h d = rw (word_length-again w r c h d) (take-append_seam w (c ∷ r))
 
 behind_word-again : (w r : List ℕ) (c : ℕ) → IsRun w → is_word_byte c ≡ false → behind_word (w ++ c ∷ r) ≡ c ∷ r
@@ -51,7 +51,7 @@ sort-again sort.Whole r = (refl, refl)
 sort-again sort.Octets r = (refl, refl)
 sort-again sort.Numbers r = (refl, refl)
 
-bind-again : {A B : Type 0} (o : Option A) (x : A) (f : A → Option B) → o ≡ Some x → (o >>= f) ≡ f x
+pub bind-again : {A B : Type 0} (o : Option A) (x : A) (f : A → Option B) → o ≡ Some x → (o >>= f) ≡ f x
 bind-again o x f e = rw e refl
 
 -- the words of a talk are words
@@ -92,7 +92,7 @@ abbrev pub AreRuns : List (List ℕ) → Type 0
 AreRuns [] = Unit {0}
 AreRuns (name ∷ names) = IsRun name × AreRuns names
 
-starts-no : (b : Bool) {A : Type 0} (x y z : A) → b ≡ false → y ≡ z → cond b x y ≡ z
+pub starts-no : (b : Bool) {A : Type 0} (x y z : A) → b ≡ false → y ≡ z → cond b x y ≡ z
 starts-no b x y z e f = rw e f
 
 pub names_at-again : (n : ℕ) (name : List ℕ) (names : List (List ℕ)) (r : List ℕ) → length (name ∷ names) ≤ n → AreRuns (name ∷ names) → names_at n (names_text (name ∷ names) ++ (10 ∷ r)) ≡ Some (name ∷ names, 10 ∷ r)

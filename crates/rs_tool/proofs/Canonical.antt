@@ -15,20 +15,20 @@ use Rattle.rs_tool.specs.StraightReader.{◌>>=◌, behind, word_length, word_of
 
 -- ---- what is read stands in the text
 
-abbrev some : {A B : Type 0} → A × B → Option (A × B)
+abbrev pub some : {A B : Type 0} → A × B → Option (A × B)
 some x = Some x
 
 -- a step that was taken, and the steps behind it
-from_bind : {A B : Type 0} (C : Type 0) (o : Option A) (f : A → Option B) (y : B) → (o >>= f) ≡ Some y → ((x : A) → o ≡ Some x → f x ≡ Some y → C) → C
+pub from_bind : {A B : Type 0} (C : Type 0) (o : Option A) (f : A → Option B) (y : B) → (o >>= f) ≡ Some y → ((x : A) → o ≡ Some x → f x ≡ Some y → C) → C
 from_bind C (Some x) f y e next = next x refl e
 from_bind C None f y e next = absurd cc
 
-some-pair : {A B : Type 0} (a b : A) (x y : B) → some (a, x) ≡ some (b, y) → (a ≡ b) × (x ≡ y)
+pub some-pair : {A B : Type 0} (a b : A) (x y : B) → some (a, x) ≡ some (b, y) → (a ≡ b) × (x ≡ y)
 some-pair {A} {B} a b x y e =
     let same : (a, x) ≡ (b, y) = cc in
     (ap (λ (p : A × B). p.0) same, ap (λ (p : A × B). p.1) same)
 
-cond_some : {A : Type 0} (b : Bool) (x y : A) → cond b (Some x) None ≡ Some y → (b ≡ true) × (x ≡ y)
+pub cond_some : {A : Type 0} (b : Bool) (x y : A) → cond b (Some x) None ≡ Some y → (b ≡ true) × (x ≡ y)
 cond_some true x y e = (refl, cc)
 cond_some false x y e = absurd cc
 
@@ -82,7 +82,7 @@ talk_at-is bytes rest t e =
     from_bind (bytes ≡ talk_text t ++ rest) (behind (codes "). ") (behind_word kind)) _ (t, rest) f4 (λ after e5 f5.
     let p = some-pair _ t after rest f5 in spelt bytes to what kind after rest s t e1 e2 e3 e4 e5 p.0 p.1)))))
 
-cond_cases : {A C : Type 0} (b : Bool) (x y z : A) → cond b x y ≡ z → (b ≡ true → x ≡ z → C) → (b ≡ false → y ≡ z → C) → C
+pub cond_cases : {A C : Type 0} (b : Bool) (x y z : A) → cond b x y ≡ z → (b ≡ true → x ≡ z → C) → (b ≡ false → y ≡ z → C) → C
 cond_cases true x y z e on off = on refl e
 cond_cases false x y z e on off = off refl e
 
@@ -95,7 +95,7 @@ names_at-some (suc n) bytes rest e =
     (λ _ f. from_bind ⊥ (names_at n (drop 2 (behind_word bytes))) _ _ f (λ x _ g. let same = some-pair _ [] _ rest g in cc (same.0)))
     (λ _ f. let same = some-pair _ [] _ rest f in cc (same.0))
 
-starts_with-is : (bytes mark : List ℕ) → starts_with nat_eq bytes mark ≡ true → bytes ≡ mark ++ drop (length mark) bytes
+pub starts_with-is : (bytes mark : List ℕ) → starts_with nat_eq bytes mark ≡ true → bytes ≡ mark ++ drop (length mark) bytes
 starts_with-is bytes mark h = behind-is mark bytes (drop (length mark) bytes) (rw h refl)
 
 regrouped : (a b c d : List ℕ) → a ++ (b ++ (c ++ d)) ≡ (a ++ (b ++ c)) ++ d

@@ -1,3 +1,4 @@
 pub mod Loops
 pub mod Canonical
 pub mod Again
+pub mod Accepted
