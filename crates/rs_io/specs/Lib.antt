@@ -1,0 +1,4 @@
+pub mod Faults
+pub mod Data
+pub mod Prefix
+pub mod Stops

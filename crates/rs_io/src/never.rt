@@ -1,0 +1,67 @@
+ghost use Rattle.std.specs.Prelude.{◌≡◌, None, Some};
+
+use crate::stock::Stock;
+use crate::{Failed, Sink, Source};
+use std::marker::Model;
+
+/// A source over bytes in memory that never fails.
+#[derive(Drop, Debug)]
+pub struct NeverSource {
+    stock: Stock,
+}
+
+// Seen as the bytes that are left.
+impl Model for NeverSource {
+    ghost use Rattle.std.specs.Prelude.{ℕ, List};
+
+    ghost Value = { List ℕ };
+
+    ghost view = { λ s. s.stock };
+}
+
+impl NeverSource {
+    /// A source that gives the bytes.
+    pub fn new(bytes: Vec<u8>) -> NeverSource
+        ensures { result ≡ bytes.items }
+    {
+        NeverSource {
+            stock: Stock::new(bytes),
+        }
+    }
+}
+
+impl Source for NeverSource {
+    ghost left = { λ s. Some s };
+
+    ghost faults = { λ _. 0 };
+
+    ghost last = { λ _. ⊥ };
+
+    /// Gives as many bytes as are left and `into` holds.
+    fn read(&mut self, into: &mut [u8]) -> Result<usize, Failed> {
+        Ok(self.stock.give(into.len(), into))
+    }
+}
+
+/// A sink that forgets the bytes and never fails.
+#[derive(Drop, Debug)]
+pub struct NeverSink;
+
+impl NeverSink {
+    pub fn new() -> NeverSink {
+        NeverSink
+    }
+}
+
+impl Sink for NeverSink {
+    ghost written = { λ _. None };
+
+    ghost faults = { λ _. 0 };
+
+    ghost last = { λ _. ⊥ };
+
+    /// Takes all bytes.
+    fn write(&mut self, bytes: &[u8]) -> Result<usize, Failed> {
+        Ok(bytes.len())
+    }
+}
