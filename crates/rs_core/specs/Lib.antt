@@ -1,0 +1,3 @@
+pub mod Configurations
+pub mod Safety
+pub mod Straight

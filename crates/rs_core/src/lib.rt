@@ -1,0 +1,2 @@
+//! Configurations of machines over queues, their steps, and what it means that machines are safe.
+#![tactic(auto)]
