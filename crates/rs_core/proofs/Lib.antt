@@ -1,4 +1,7 @@
 pub mod Items
+pub mod Moves
 pub mod Stands
 pub mod Going
 pub mod Straights
+pub mod Nexts
+pub mod Examples

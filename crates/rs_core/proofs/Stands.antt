@@ -187,7 +187,7 @@ next_get m g n s q arms (Get k r l so ∷ xs) owed last takes tr lasts =
       lasts = elim lasts [ inl h ↦ inl h | inr h ↦ inr (omega arith) ];
     }
 
-here-is : (o : Option Machine_data) (s : ℕ) (st : State) → state_of o s ≡ Some st → (m : Machine_data) × (o ≡ Some m) × (slice_get m.states s ≡ Some st)
+pub here-is : (o : Option Machine_data) (s : ℕ) (st : State) → state_of o s ≡ Some st → (m : Machine_data) × (o ≡ Some m) × (slice_get m.states s ≡ Some st)
 here-is None s st h = absurd (cc (h))
 here-is (Some m) s st h = (m, refl, h)
 

@@ -1,3 +1,4 @@
 pub mod Configurations
 pub mod Safety
 pub mod Straight
+pub mod Examples

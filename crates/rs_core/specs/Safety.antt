@@ -38,3 +38,7 @@ pub record AllEnded (machines : List Machine_data) (c : Configuration) : Type 0 
 pub record IsSafe (machines : List Machine_data) : Type 0 where
   pub fits : (c : Configuration) → IsReachable machines c → HasMismatch machines c → ⊥
   pub goes_on : (c : Configuration) → IsReachable machines c → CanStep machines c ⊎ AllEnded machines c
+
+-- no state offers a choice among no sends
+abbrev pub HaveArms : List Machine_data → Type 0
+HaveArms machines = (p s : ℕ) (m : Machine_data) (peer : Role) → slice_get machines p ≡ Some m → slice_get m.states s ≡ Some (Puts peer []) → ⊥
