@@ -1,15 +1,14 @@
 -- What the small sessions come to.
-use Rattle.std.proofs.Common.{◌≡◌, ◌≢◌, ◌⊎◌, inl, inr, ℕ, zero, suc, ◌<◌, List, [], ◌∷◌, Some, slice_get, length, refl, ap, subst, arith}
+use Rattle.std.proofs.Common.{◌≡◌, ◌≢◌, inl, inr, ℕ, zero, suc, ◌<◌, List, [], ◌∷◌, Some, slice_get, length, refl, ap, subst, arith}
 use Rattle.rs_model.specs.Data.{Machine_data}
 use Rattle.rs_model.specs.Sorts.{HasSort}
 use Rattle.rs_model.specs.declared.graph.Arm.{Arm}
 use Rattle.rs_model.specs.declared.graph.Label.{Label}
-use Rattle.rs_model.specs.declared.values.Value.{Value}
 use Rattle.rs_model.specs.declared.values.Value.TheVariants as value
 use Rattle.rs_model.specs.declared.values.Sort.{Sort}
 use Rattle.rs_model.specs.declared.values.Sort.TheVariants as sort
-use Rattle.rs_model.specs.declared.machines.State.TheVariants.{Done, Puts, Takes}
-use Rattle.rs_core.specs.Configurations.{Message, Configuration, Event, Send, Receive, StartsAt, state_at, Step, IsReachable}
+use Rattle.rs_model.specs.declared.machines.State.TheVariants.{Done}
+use Rattle.rs_core.specs.Configurations.{Configuration, Event, Send, Receive, StartsAt, state_at, Step, IsReachable}
 use Rattle.rs_core.specs.Safety.{HasMismatch, CanMove, MaySend, MayReceive, CanStep, AllEnded, IsSafe}
 use Rattle.rs_core.specs.Straight.{machines_of_straight}
 use Rattle.rs_core.specs.Examples.{a, b, x, y, only, another_label, another_sort, both_wait, left_behind, one_talk}
@@ -27,7 +26,8 @@ abbrev AllFromZero : List Machine_data → Type 0
 AllFromZero [] = Unit {0}
 AllFromZero (m ∷ ms) = (m.start ≡ 0) × AllFromZero ms
 
-from-zero : (machines : List Machine_data) → AllFromZero machines → (p : ℕ) (m : Machine_data) → slice_get machines p ≡ Some m → 0 ≡ m.start
+from-zero : (machines : List Machine_data) → AllFromZero machines → (p : ℕ) (m : Machine_data)
+    → slice_get machines p ≡ Some m → 0 ≡ m.start
 from-zero [] all p m is = absurd (cc (is))
 from-zero (n ∷ ms) all zero m is = cc (is, all.0)
 from-zero (n ∷ ms) all (suc p) m is = from-zero ms all.1 p m is
@@ -38,7 +38,8 @@ start machines all = record { states = from-zero machines all; queues = λ p q. 
 at-first : (machines : List Machine_data) → AllFromZero machines → IsReachable machines nothing_done
 at-first machines all = record { first = nothing_done; events = []; starts = start machines all; steps = refl }
 
-after-one : (machines : List Machine_data) (e : Event) (d : Configuration) → AllFromZero machines → Step machines nothing_done e d → IsReachable machines d
+after-one : (machines : List Machine_data) (e : Event) (d : Configuration) → AllFromZero machines
+    → Step machines nothing_done e d → IsReachable machines d
 after-one machines e d all step = record { first = nothing_done; events = e ∷ []; starts = start machines all; steps = (d, step, refl) }
 
 -- y has been sent to A
@@ -49,7 +50,8 @@ y-mismatch : HasMismatch another_label y_sent
 unfolding put_at
 y-mismatch = record { role = 0; peer = b; arms = only x sort.Unit; message = message_of (arm_to y sort.Unit) value.Unit; later = []; takes = refl; oldest = refl; no_arm = none }
   where
-    none : (place : ℕ) (arm : Arm) → slice_get (only x sort.Unit) place ≡ Some arm → arm.label ≡ y → HasSort value.Unit arm.sort → ⊥
+    none : (place : ℕ) (arm : Arm) → slice_get (only x sort.Unit) place ≡ Some arm → arm.label ≡ y
+        → HasSort value.Unit arm.sort → ⊥
     none zero arm is same has =
         let l : x ≡ y = cc (is, same) in
         let n : 0 ≡ 1 = ap (λ (z : Label). z.0) l in
@@ -69,7 +71,8 @@ number-mismatch : HasMismatch another_sort number_sent
 unfolding put_at
 number-mismatch = record { role = 0; peer = b; arms = only x sort.Flag; message = message_of (arm_to x sort.Natural) (value.Natural 7); later = []; takes = refl; oldest = refl; no_arm = none }
   where
-    none : (place : ℕ) (arm : Arm) → slice_get (only x sort.Flag) place ≡ Some arm → arm.label ≡ x → HasSort (value.Natural 7) arm.sort → ⊥
+    none : (place : ℕ) (arm : Arm) → slice_get (only x sort.Flag) place ≡ Some arm → arm.label ≡ x
+        → HasSort (value.Natural 7) arm.sort → ⊥
     none zero arm is same has =
         let so : arm.sort ≡ sort.Flag = cc (is) in
         let P : Sort → Type 0 = λ z. HasSort (value.Natural 7) z in

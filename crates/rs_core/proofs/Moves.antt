@@ -1,10 +1,9 @@
 -- The configuration after a send and after a receive.
-use Rattle.std.proofs.Common.{◌≡◌, ◌≢◌, ◌⊎◌, inl, inr, ℕ, true, false, Bool, zero, suc, List, [], ◌∷◌, ◌++◌, Some, slice_get, refl, sym, ap, ◌∙◌, subst, IsTrue}
+use Rattle.std.proofs.Common.{◌≡◌, ◌≢◌, ◌⊎◌, inl, inr, ℕ, List, [], ◌∷◌, ◌++◌, Some, slice_get, refl, sym, ap, ◌∙◌, subst}
 use Rattle.std.proofs.lemmas.Bool.Decides.{eqb_tells}
 use Rattle.rs_model.specs.Data.{Machine_data}
-use Rattle.rs_model.specs.Sorts.{HasSort, fits}
+use Rattle.rs_model.specs.Sorts.{HasSort}
 use Rattle.rs_model.specs.declared.graph.Arm.{Arm}
-use Rattle.rs_model.specs.declared.graph.Label.{Label}
 use Rattle.rs_model.specs.declared.graph.Role.{Role}
 use Rattle.rs_model.specs.declared.machines.State.TheVariants.{Puts, Takes}
 use Rattle.rs_model.specs.declared.values.Value.{Value}
@@ -15,10 +14,12 @@ use Rattle.rs_core.proofs.Items.{put_at, put_at-same, put_at-other}
 abbrev pub with_queue : (ℕ → ℕ → List Message) → ℕ → ℕ → List Message → ℕ → ℕ → List Message
 with_queue queue x y messages = put_at queue x (put_at (queue x) y messages)
 
-pub with_queue-same : (queue : ℕ → ℕ → List Message) (x y : ℕ) (messages : List Message) → with_queue queue x y messages x y ≡ messages
+pub with_queue-same : (queue : ℕ → ℕ → List Message) (x y : ℕ) (messages : List Message)
+    → with_queue queue x y messages x y ≡ messages
 with_queue-same queue x y messages = rw (put_at-same queue x (put_at (queue x) y messages)) (put_at-same (queue x) y messages)
 
-pub with_queue-other : (queue : ℕ → ℕ → List Message) (x y : ℕ) (messages : List Message) (u v : ℕ) → (u ≢ x) ⊎ (v ≢ y) → with_queue queue x y messages u v ≡ queue u v
+pub with_queue-other : (queue : ℕ → ℕ → List Message) (x y : ℕ) (messages : List Message) (u v : ℕ) → (u ≢ x) ⊎ (v ≢ y)
+    → with_queue queue x y messages u v ≡ queue u v
 with_queue-other queue x y messages u v (inl n) = rw (put_at-other queue x (put_at (queue x) y messages) u n) refl
 with_queue-other queue x y messages u v (inr n) = elim (eqb_tells u x) [
   | inl t ↦ (let P : ℕ → Type 0 = λ z. with_queue queue x y messages z v ≡ queue z v in

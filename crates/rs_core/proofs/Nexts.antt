@@ -6,13 +6,12 @@ use Rattle.rs_model.specs.Data.{Machine_data}
 use Rattle.rs_model.specs.Sorts.{fits, HasSort}
 use Rattle.rs_model.specs.declared.graph.Arm.{Arm}
 use Rattle.rs_model.specs.declared.graph.Label.{Label}
-use Rattle.rs_model.specs.declared.graph.Role.{Role}
-use Rattle.rs_model.specs.declared.machines.State.TheVariants.{Puts, Takes}
+use Rattle.rs_model.specs.declared.machines.State.TheVariants.{Puts}
 use Rattle.rs_model.specs.declared.values.Sort.{Sort}
 use Rattle.rs_model.specs.declared.values.Sort.TheVariants as sort
 use Rattle.rs_model.specs.declared.values.Value.{Value}
 use Rattle.rs_model.specs.declared.values.Value.TheVariants as value
-use Rattle.rs_core.specs.Configurations.{Message, Configuration, Event, Send, Receive, state_at, Step, IsReachable}
+use Rattle.rs_core.specs.Configurations.{Message, Configuration, Event, Send, Receive, Step, IsReachable}
 use Rattle.rs_core.specs.Safety.{CanMove, MaySend, MayReceive, CanStep, IsSafe, HaveArms}
 use Rattle.rs_core.proofs.Moves.{after_send, after_receive, send-step, receive-step}
 use Rattle.rs_core.proofs.Stands.{here-is}
@@ -79,7 +78,8 @@ find (x ∷ xs) m = elim (one x m) [
     untaken n none zero arm is same has = (let e : x ≡ arm = cc (is) in let P : Arm → Type 0 = λ z. Fitting z m in n (subst P (sym e) (same, has)))
     untaken n none (suc place) arm is same has = none place arm is same has
 
-next : (machines : List Machine_data) → IsSafe machines → HaveArms machines → (c : Configuration) → IsReachable machines c → (p : ℕ) → CanMove machines c p → (e : Event) × (d : Configuration) × Step machines c e d
+next : (machines : List Machine_data) → IsSafe machines → HaveArms machines → (c : Configuration) → IsReachable machines c
+    → (p : ℕ) → CanMove machines c p → (e : Event) × (d : Configuration) × Step machines c e d
 next machines safe arms' c reachable p (MaySend peer [] puts) =
     let at = here-is (slice_get machines p) (c.at p) (Puts peer []) puts in
     absurd (arms' p (c.at p) at.0 peer at.1 at.2)
@@ -91,5 +91,6 @@ next machines safe arms' c reachable p (MayReceive peer arms message later takes
   | inr none ↦ absurd (safe.fits c reachable record { role = p; peer = peer; arms = arms; message = message; later = later; takes = takes; oldest = oldest; no_arm = none })
 ]
 
-pub can-step : (machines : List Machine_data) → IsSafe machines → HaveArms machines → (c : Configuration) → IsReachable machines c → CanStep machines c → (e : Event) × (d : Configuration) × Step machines c e d
+pub can-step : (machines : List Machine_data) → IsSafe machines → HaveArms machines → (c : Configuration)
+    → IsReachable machines c → CanStep machines c → (e : Event) × (d : Configuration) × Step machines c e d
 can-step machines safe arms' c reachable can = next machines safe arms' c reachable can.0 can.2

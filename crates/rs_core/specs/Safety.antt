@@ -17,12 +17,14 @@ pub record HasMismatch (machines : List Machine_data) (c : Configuration) : Type
   pub later : List Message
   pub takes : state_at machines c role ≡ Some (Takes peer arms)
   pub oldest : c.queue peer.0 role ≡ message ∷ later
-  pub no_arm : (place : ℕ) (arm : Arm) → slice_get arms place ≡ Some arm → arm.label ≡ message.label → HasSort message.value arm.sort → ⊥
+  pub no_arm : (place : ℕ) (arm : Arm) → slice_get arms place ≡ Some arm → arm.label ≡ message.label
+      → HasSort message.value arm.sort → ⊥
 
 -- role p can go on: it stands in a `Puts` state, or in a `Takes` state and a message from the state's peer is there
 pub data CanMove (machines : List Machine_data) (c : Configuration) (p : ℕ) : Type 0 where
   MaySend : (peer : Role) (arms : List Arm) → state_at machines c p ≡ Some (Puts peer arms) → CanMove machines c p
-  MayReceive : (peer : Role) (arms : List Arm) (message : Message) (later : List Message) → state_at machines c p ≡ Some (Takes peer arms) → c.queue peer.0 p ≡ message ∷ later → CanMove machines c p
+  MayReceive : (peer : Role) (arms : List Arm) (message : Message) (later : List Message)
+      → state_at machines c p ≡ Some (Takes peer arms) → c.queue peer.0 p ≡ message ∷ later → CanMove machines c p
 
 -- some role can go on
 abbrev pub CanStep : List Machine_data → Configuration → Type 0
@@ -41,4 +43,5 @@ pub record IsSafe (machines : List Machine_data) : Type 0 where
 
 -- no state offers a choice among no sends
 abbrev pub HaveArms : List Machine_data → Type 0
-HaveArms machines = (p s : ℕ) (m : Machine_data) (peer : Role) → slice_get machines p ≡ Some m → slice_get m.states s ≡ Some (Puts peer []) → ⊥
+HaveArms machines = (p s : ℕ) (m : Machine_data) (peer : Role) → slice_get machines p ≡ Some m
+    → slice_get m.states s ≡ Some (Puts peer []) → ⊥
