@@ -5,4 +5,5 @@ pub mod Going
 pub mod Parts
 pub mod Straights
 pub mod Nexts
+pub mod Results
 pub mod Examples

@@ -12,7 +12,8 @@ use Rattle.rs_model.specs.declared.values.Sort.TheVariants as sort
 use Rattle.rs_model.specs.declared.values.Value.{Value}
 use Rattle.rs_model.specs.declared.values.Value.TheVariants as value
 use Rattle.rs_core.specs.Configurations.{Message, Configuration, Event, Send, Receive, Step, IsReachable}
-use Rattle.rs_core.specs.Safety.{CanMove, MaySend, MayReceive, CanStep, IsSafe, HaveArms}
+use Rattle.rs_core.specs.Safety.{CanMove, MaySend, MayReceive, CanStep, IsSafe}
+use Rattle.rs_core.specs.Choices.{HaveArms}
 use Rattle.rs_core.proofs.Moves.{after_send, after_receive, send-step, receive-step}
 use Rattle.rs_core.proofs.Stands.{here-is}
 

@@ -91,3 +91,8 @@ pub record IsReachable (machines : List Machine_data) (c : Configuration) : Type
   pub events : List Event
   pub starts : StartsAt machines first
   pub steps : Steps machines first events c
+
+-- the same states, and the same messages under way
+pub record IsSame (c d : Configuration) : Type 0 where
+  pub at : (p : ℕ) → c.at p ≡ d.at p
+  pub queue : (p q : ℕ) → c.queue p q ≡ d.queue p q

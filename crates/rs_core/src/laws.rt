@@ -2,14 +2,20 @@
 
 ghost use Rattle.std.specs.Prelude.{ℕ, List};
 ghost use Rattle.rs_model.specs.Data.{Machine_data};
-ghost use Rattle.rs_core.specs.Configurations.{Configuration, Event, Step, IsReachable};
-ghost use Rattle.rs_core.specs.Examples.{another_label, another_sort, both_wait, left_behind, one_talk};
-ghost use Rattle.rs_core.specs.Safety.{CanStep, AllEnded, IsSafe, HaveArms};
+ghost use Rattle.rs_core.specs.Choices.{HaveArms, HaveLabelsOnce};
+ghost use Rattle.rs_core.specs.Configurations.{Configuration, Event, Step, IsReachable, IsSame};
+ghost use Rattle.rs_core.specs.Examples.{another_arm, another_label, another_sort, both_wait, left_behind, one_talk};
+ghost use Rattle.rs_core.specs.Safety.{CanStep, AllEnded, IsSafe};
 ghost use Rattle.rs_core.specs.Straight.{StraightTalk, AllTalks, machines_of_straight};
 
 /// Where each talk of a straight protocol is between two different roles of so many, its projections are safe.
 pub fn straight_sessions_are_safe()
     ensures { (roles : ℕ) (talks : List StraightTalk) → AllTalks roles talks → IsSafe (machines_of_straight roles talks) }
+{}
+
+/// An event leads to one configuration, where no state takes one label at two places.
+pub fn an_event_leads_to_one_configuration()
+    ensures { (machines : List Machine_data) → HaveLabelsOnce machines → (c : Configuration) (event : Event) (d e : Configuration) → Step machines c event d → Step machines c event e → IsSame d e }
 {}
 
 /// `CanStep` promises no more than there is: where safe machines can step, some event can come next.
@@ -25,6 +31,11 @@ pub fn another_label_is_not_safe()
 /// A value of a sort that the other doesn't take is a mismatch.
 pub fn another_sort_is_not_safe()
     ensures { IsSafe another_sort → ⊥ }
+{}
+
+/// Each arm that a sender may pick counts, and not the first alone.
+pub fn another_arm_is_not_safe()
+    ensures { IsSafe another_arm → ⊥ }
 {}
 
 /// Where each waits for the other none can go on, and they haven't ended.
