@@ -1,0 +1,5 @@
+pub mod Configurations
+pub mod Safety
+pub mod Choices
+pub mod Straight
+pub mod Examples
