@@ -8,7 +8,7 @@ use Rattle.std.proofs.lemmas.Bool.{leb-true, le-leb, eqb-true}
 use Rattle.std.proofs.lemmas.Slice.Eq.{bytes_eq-Decides}
 use Rattle.rs_tool.specs.declared.straight.Talk.{Talk}
 use Rattle.rs_tool.specs.Words.{is_word_byte, is_word, is_role_name}
-use Rattle.rs_tool.specs.Straight.{Straight_data, IsStraight, SpellsStraight, protocol_text, machine_text, machines_text, act_text, acts_of, labels_of, are_short, all_differ, is_between_roles, sends, receives}
+use Rattle.rs_tool.specs.Straight.{Straight_data, IsStraight, SpellsStraight, IsSpelt, SpellsNone, protocol_text, machine_text, machines_text, act_text, acts_of, labels_of, are_short, all_differ, is_between_roles, sends, receives}
 use Rattle.rs_tool.specs.StraightReader.{◌>>=◌, word_of, behind_part, behind_parts, has_roles, has_talks, is_small, is_straight, straight_at, straight_of}
 use Rattle.rs_tool.proofs.Canonical.{from_bind, cond_cases, cond_some, starts_with-is, straight_at-is}
 use Rattle.rs_tool.proofs.Again.{both, IsRun, AreRuns, HasWords, HaveWords, bind-again, starts-no, word-run, role-word, word_of-again, straight_at-again}
@@ -172,10 +172,6 @@ found bytes s parts h =
     bind-again (straight_at bytes) (s, rest) _ (ap straight_at h.text ∙ read-again s rest h.straight)
     ∙ rw (tests-hold s h.straight, nothing) refl
 
-pub record IsSpelt (bytes : List ℕ) (s : Straight_data) : Type 0 where
-  pub parts : List Bool
-  pub spells : SpellsStraight bytes s parts
-
 -- what is found is spelt
 pub spelt : (bytes : List ℕ) (s : Straight_data) → length bytes ≤ 1048576 → straight_of bytes ≡ Some s → IsSpelt bytes s
 unfolding straight_of
@@ -191,3 +187,11 @@ spelt bytes s short e =
     empty : (xs : List ℕ) → (length xs == 0) ≡ true → xs ≡ []
     empty [] e = refl
     empty (x ∷ xs) e = absurd (omega (arith, eqb-true (length (x ∷ xs)) 0 e))
+
+-- where nothing is found, nothing is spelt
+pub spelt-none : (bytes : List ℕ) → straight_of bytes ≡ None → SpellsNone bytes
+spelt-none bytes e = λ s parts h. let is = found bytes s parts h in cc
+
+-- a text of which something is spelt isn't too long
+pub spelt-short : (bytes : List ℕ) → 1048576 < length bytes → SpellsNone bytes
+spelt-short bytes long = λ s parts h. omega (arith, h.short)

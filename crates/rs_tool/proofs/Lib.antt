@@ -2,3 +2,4 @@ pub mod Loops
 pub mod Canonical
 pub mod Again
 pub mod Accepted
+pub mod Found

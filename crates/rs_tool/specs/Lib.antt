@@ -1,3 +1,6 @@
 pub mod Words
 pub mod Straight
 pub mod StraightReader
+pub mod Answer
+pub mod Top
+pub mod Codes

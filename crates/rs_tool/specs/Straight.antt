@@ -1,10 +1,13 @@
 -- Straight protocols: one talk after another, with no choice and no recursion; and their canonical texts.
-use Rattle.std.specs.Prelude.{◌≡◌, ℕ, ◌+◌, ◌*◌, ◌≤◌, List, [], ◌∷◌, ◌++◌, length, count_by, Bool, true, false, ◌&&◌, ◌||◌, not, ◌==◌, nat_le, nat_lt, IsTrue, if◌then◌else◌, codes}
+use Rattle.std.specs.Prelude.{◌≡◌, ℕ, ◌+◌, ◌*◌, ◌≤◌, suc, List, [], ◌∷◌, ◌++◌, length, map, count_by, Bool, true, false, ◌&&◌, ◌||◌, not, ◌==◌, nat_le, nat_lt, IsTrue, if◌then◌else◌, codes}
 use Rattle.std.specs.List.{list_any, list_all, flat_map}
 use Rattle.std.specs.Str.{bytes_eq}
 use Rattle.std.specs.Fmt.{decimal}
 use Rattle.rs_model.specs.declared.values.Sort.{Sort}
 use Rattle.rs_model.specs.declared.values.Sort.TheVariants as sort
+use Rattle.rs_model.specs.Data.{Machine_data}
+use Rattle.rs_core.specs.Straight.{StraightTalk, machines_of_straight}
+use Rattle.rs_core.specs.Safety.{IsSafe}
 use Rattle.rs_tool.specs.declared.straight.Talk.{Talk}
 use Rattle.rs_tool.specs.Words.{is_word, is_role_name}
 
@@ -115,6 +118,15 @@ pub record SpellsStraight (bytes : List ℕ) (s : Straight_data) (parts : List B
   pub short_parts : IsTrue (are_short s.talks s.roles parts)
   pub text : bytes ≡ protocol_text s ++ machines_text s.talks s.roles parts
 
+-- the bytes spell the straight protocol, with some machine parts
+pub record IsSpelt (bytes : List ℕ) (s : Straight_data) : Type 0 where
+  pub parts : List Bool
+  pub spells : SpellsStraight bytes s parts
+
+-- the bytes spell no straight protocol
+abbrev pub SpellsNone : List ℕ → Type 0
+SpellsNone bytes = (s : Straight_data) (parts : List Bool) → SpellsStraight bytes s parts → ⊥
+
 -- A role with a sends and b receives has a derivation of a + 2b + 1 nodes, at most one act pending, and rank 0.
 unfoldable pub figures_text : List Talk → List ℕ → List ℕ
 figures_text talks role =
@@ -125,3 +137,28 @@ figures_text talks role =
 -- the report of an accepted straight protocol
 abbrev pub report_text : Straight_data → List ℕ
 report_text s = codes "accepted\n" ++ flat_map (figures_text s.talks) s.roles ++ codes "room " ++ decimal (if length s.talks == 0 then 1 else 3) ++ codes "\n"
+
+-- a name's place in a list that has it
+abbrev pub place_of : List (List ℕ) → List ℕ → ℕ
+place_of [] name = 0
+place_of (other ∷ names) name = if bytes_eq other name then 0 else suc (place_of names name)
+
+-- the talk with numbers for names: a role's is its place in the roles line, a label's its place among the labels
+abbrev pub numbered : Straight_data → Talk → StraightTalk
+numbered s t = record {
+  sender = record { 0 = place_of s.roles t.sender };
+  receiver = record { 0 = place_of s.roles t.receiver };
+  label = record { 0 = place_of (labels_of s.talks) t.label };
+  sort = t.sort;
+}
+
+-- The machines of the protocol's roles. A machine part says what its role's projection is, so these are the machines of
+-- each text that spells the protocol.
+abbrev pub machines_of : Straight_data → List Machine_data
+machines_of s = machines_of_straight (length s.roles) (map (numbered s) s.talks)
+
+-- the bytes spell a straight protocol, and its machines are safe
+pub record SpellsSafeMachines (bytes : List ℕ) : Type 0 where
+  pub straight : Straight_data
+  pub spelt : IsSpelt bytes straight
+  pub safe : IsSafe (machines_of straight)

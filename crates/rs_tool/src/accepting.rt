@@ -1,6 +1,7 @@
 //! Which texts are straight protocols.
 
-ghost use Rattle.std.specs.Prelude.{◌≡◌, IfOk};
+ghost use Rattle.std.specs.Prelude.{◌≡◌, IfOk, IfSome, IfNone};
+ghost use Rattle.rs_tool.specs.Straight.{IsSpelt, SpellsNone};
 ghost use Rattle.rs_tool.specs.StraightReader.{behind_part, behind_parts, straight_of};
 
 use crate::limits::{acts_of, is_straight};
@@ -9,6 +10,9 @@ use crate::reading::straight_at;
 use crate::straight::{Straight, Talk, Word};
 use rs_model::NoMemory;
 use std::alloc::Global;
+
+/// The most bytes of a text.
+pub const MOST_BYTES: usize = 1_048_576;
 
 /// The most acts of a machine part.
 const MOST_ACTS: usize = 256;
@@ -50,7 +54,7 @@ fn behind_parts<'a>(
 
 /// The straight protocol that the bytes spell.
 #[tactic(auto, unfolding(crate::specs::StraightReader::straight_of))]
-pub fn straight_of(alloc: Global, bytes: &[u8]) -> Result<Option<Straight<'_>>, NoMemory>
+fn straight_of(alloc: Global, bytes: &[u8]) -> Result<Option<Straight<'_>>, NoMemory>
     ensures { IfOk result (λ straight. straight ≡ straight_of bytes.now) }
 {
     let Some((straight, rest)) = straight_at(alloc, bytes)? else {
@@ -65,4 +69,15 @@ pub fn straight_of(alloc: Global, bytes: &[u8]) -> Result<Option<Straight<'_>>, 
         )?
         .is_empty();
     Ok(if accepted { Some(straight) } else { None })
+}
+
+/// The straight protocol that the bytes spell, or none where they are longer than a text may be or spell none.
+pub fn read_straight(alloc: Global, bytes: &[u8]) -> Result<Option<Straight<'_>>, NoMemory>
+    ensures some { IfOk result (λ read. IfSome read (IsSpelt bytes.now)) }
+    ensures none { IfOk result (λ read. IfNone read (SpellsNone bytes.now)) }
+{
+    if bytes.len() > MOST_BYTES {
+        return Ok(None);
+    }
+    straight_of(alloc, bytes)
 }

@@ -2,8 +2,13 @@
 #![tactic(auto)]
 
 mod accepting;
+mod answering;
 mod limits;
 mod printing;
 mod reading;
+mod running;
+mod status;
 mod straight;
 mod text;
+
+pub use status::{Reply, Serial, Status};

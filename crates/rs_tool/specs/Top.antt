@@ -1,0 +1,52 @@
+-- What a call of the program does with its source and its sink, by the status that it answers.
+use Rattle.std.specs.Prelude.{◌≡◌, ◌⊎◌, ℕ, List, Option, Bool, true, false}
+use Rattle.std.specs.Io.KnownBytes.{Appends, Keeps}
+use Rattle.rs_io.specs.Prefix.{AppendsPrefix}
+use Rattle.rs_tool.specs.declared.status.Reply.{Reply}
+use Rattle.rs_tool.specs.declared.status.Serial.{Serial}
+use Rattle.rs_tool.specs.declared.status.Serial.TheVariants.{Answered, NeedsWorkers}
+use Rattle.rs_tool.specs.declared.status.Status.{Status}
+use Rattle.rs_tool.specs.declared.status.Status.TheVariants.{Fine, Usage, ReadFault, WriteFault, NoMemory, NotBuilt}
+use Rattle.rs_tool.specs.Answer.{Answer, Answers}
+
+-- the status is the answer's, and the sink got the answer's text
+pub record WritesAll (old new : Option (List ℕ)) (answer : Answer) (status : Status) : Type 0 where
+  pub status_is : answer.status ≡ status
+  pub text : Appends old new answer.text
+
+-- what the sink got, by the status: with a read fault or for want of memory nothing, with a write fault a first part of
+-- the text, else all of it
+abbrev pub Writes : Option (List ℕ) → Option (List ℕ) → Answer → Status → Type 0
+Writes old new answer ReadFault = Keeps old new
+Writes old new answer NoMemory = Keeps old new
+Writes old new answer WriteFault = AppendsPrefix old new answer.text
+Writes old new answer Fine = WritesAll old new answer Fine
+Writes old new answer Usage = WritesAll old new answer Usage
+Writes old new answer NotBuilt = WritesAll old new answer NotBuilt
+
+-- there is an answer to the words and the bytes, and the sink got of it what the status says
+pub record Tells (words : List (List ℕ)) (bytes : List ℕ) (old new : Option (List ℕ)) (status : Status) : Type 0 where
+  pub answer : Answer
+  pub answers : Answers words bytes answer
+  pub writes : Writes old new answer status
+
+-- a status that an answer may have
+abbrev pub IsVerdict : Status → Type 0
+IsVerdict Fine = Unit {0}
+IsVerdict Usage = Unit {0}
+IsVerdict NotBuilt = Unit {0}
+IsVerdict status = ⊥
+
+-- the call stopped before its text was made
+abbrev pub IsStopped : Status → Type 0
+IsStopped status = (status ≡ ReadFault) ⊎ (status ≡ NoMemory)
+
+-- the call carried its words out, and no worker was needed
+abbrev pub IsAnswered : Serial → Type 0
+IsAnswered (Answered reply) = Unit {0}
+IsAnswered NeedsWorkers = ⊥
+
+-- the fact of the status that was answered
+abbrev pub IfAnswered : Serial → (Status → Type 0) → Type 0
+IfAnswered (Answered reply) fact = fact reply.status
+IfAnswered NeedsWorkers fact = Unit {0}

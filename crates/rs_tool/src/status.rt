@@ -1,0 +1,49 @@
+ghost use Rattle.std.specs.Prelude.{◌≡◌};
+ghost use Rattle.rs_tool.specs.Codes.{code_of};
+
+/// How a call ended.
+#[derive(Clone, Copy, Debug, PartialEq, Eq)]
+pub enum Status {
+    /// The words were carried out.
+    Fine,
+    /// The words are none of the program's.
+    Usage,
+    /// The input couldn't be read.
+    ReadFault,
+    /// The output couldn't be written.
+    WriteFault,
+    /// Memory was refused.
+    NoMemory,
+    /// The words or the text ask for what isn't built yet.
+    NotBuilt,
+}
+
+impl Status {
+    /// The exit status of the program.
+    pub fn code(self) -> u8
+        ensures { result ≡ code_of self }
+    {
+        match self {
+            Status::Fine => 0,
+            Status::Usage => 2,
+            Status::ReadFault => 6,
+            Status::WriteFault => 7,
+            Status::NoMemory => 8,
+            Status::NotBuilt => 12,
+        }
+    }
+}
+
+/// What a call answers beside its text.
+#[derive(Clone, Copy, Debug, PartialEq, Eq)]
+pub struct Reply {
+    pub status: Status,
+}
+
+/// What a call without workers answers.
+#[derive(Clone, Copy, Debug, PartialEq, Eq)]
+pub enum Serial {
+    Answered(Reply),
+    /// The words ask for several workers; nothing was read or written.
+    NeedsWorkers,
+}
