@@ -3,3 +3,4 @@ pub mod Canonical
 pub mod Again
 pub mod Accepted
 pub mod Found
+pub mod Told

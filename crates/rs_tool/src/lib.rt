@@ -11,4 +11,5 @@ mod status;
 mod straight;
 mod text;
 
+pub use running::{command, command_serial};
 pub use status::{Reply, Serial, Status};

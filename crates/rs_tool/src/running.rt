@@ -5,7 +5,7 @@ ghost use Rattle.std.specs.Io.KnownBytes.{Keeps, IsAtEnd};
 ghost use Rattle.std.specs.String.{string_bytes};
 ghost use Rattle.rs_io.specs.Faults.{Rose, Counts};
 ghost use Rattle.rs_tool.specs.Answer.{Answers, AnswersCheck, is_check};
-ghost use Rattle.rs_tool.specs.Top.{Tells, IsVerdict, IsStopped, IsAnswered, IfAnswered};
+ghost use Rattle.rs_tool.specs.Top.{Tells, Writes, IsVerdict, IsStopped, IsAnswered, IfAnswered};
 
 use crate::accepting::MOST_BYTES;
 use crate::answering::{Made, answer_to_check, answer_to_long_text, answer_to_words, is_check};
@@ -13,6 +13,8 @@ use crate::status::{Reply, Serial, Status};
 use rs_io::{ReadStop, Sink, Source, read_all, write_all};
 use rs_model::NoMemory;
 use std::alloc::Global;
+use std::sync::Wait;
+use std::thread::Threads;
 
 /// Why no text was made.
 #[derive(Drop)]
@@ -45,5 +47,88 @@ fn answer_to_source<S: Source>(alloc: Global, source: &mut S) -> Result<Made, St
         Err(ReadStop::TooLong) => Ok(answer_to_long_text(alloc)?),
         Err(ReadStop::ReadFault) => Err(Stop::ReadFault),
         Err(ReadStop::NoMemory) => Err(Stop::NoMemory),
+    }
+}
+
+/// The answer to the words, where `check` reads all that the source has left and other words read nothing.
+fn answer_to<S: Source>(alloc: Global, words: &[String], source: &mut S) -> Result<Made, Stop>
+    ensures answer { IfSome (S.left source.old) (λ bytes. IfOk result (Answers (map (λ w. string_bytes w) words.now) bytes)) }
+    ensures verdict { IfOk result (λ m. IsVerdict m.status) }
+    ensures end { is_check (map (λ w. string_bytes w) words.now) ≡ true
+        → IfSome (S.left source.old) (λ bytes. length bytes ≤ MOST_BYTES → OnOk result (IsAtEnd (S.left source.new))) }
+    ensures unread { is_check (map (λ w. string_bytes w) words.now) ≡ false → source.new ≡ source.old }
+    ensures read_fault { result ≡ Err Stop.ReadFault → Rose (S.faults source.old) (S.faults source.new) (S.last source.new) }
+    ensures count { Counts (S.faults source.old) (S.faults source.new) (S.last source.old) (S.last source.new) }
+{
+    if is_check(words) {
+        answer_to_source(alloc, source)
+    } else {
+        Ok(answer_to_words(alloc, words)?)
+    }
+}
+
+/// Writes the answer's text, and tells the status.
+fn write_answer<K: Sink>(sink: &mut K, made: &Made) -> Status
+    requires { IsVerdict made.now.status }
+    ensures writes { Writes (K.written sink.old) (K.written sink.new) made.now result }
+    ensures unstopped { IsStopped result → ⊥ }
+    ensures write_fault { result ≡ Status.WriteFault → Rose (K.faults sink.old) (K.faults sink.new) (K.last sink.new) }
+    ensures count { Counts (K.faults sink.old) (K.faults sink.new) (K.last sink.old) (K.last sink.new) }
+{
+    match write_all(sink, made.text.as_slice()) {
+        Ok(()) => made.status,
+        Err(_) => Status::WriteFault,
+    }
+}
+
+/// Carries out the words, as the program does, without threads.
+///
+/// `check` reads the source to its end and writes a report. The text of an answer is made whole before its first byte
+/// is written. With `ReadFault` and `NoMemory` nothing is written, with `WriteFault` a first part of the text.
+/// Words that aren't carried out read nothing.
+pub fn command_serial<S: Source, K: Sink>(
+    alloc: Global,
+    words: &[String],
+    source: &mut S,
+    sink: &mut K,
+) -> Serial
+    ensures answered { IsAnswered result }
+    ensures answer { IfSome (S.left source.old) (λ bytes.
+        IfAnswered result (Tells (map (λ w. string_bytes w) words.now) bytes (K.written sink.old) (K.written sink.new))) }
+    ensures stopped { IfAnswered result (λ status. IsStopped status → Keeps (K.written sink.old) (K.written sink.new)) }
+    ensures read_fault { IfAnswered result (λ status. status ≡ Status.ReadFault → Rose (S.faults source.old) (S.faults source.new) (S.last source.new)) }
+    ensures write_fault { IfAnswered result (λ status. status ≡ Status.WriteFault → Rose (K.faults sink.old) (K.faults sink.new) (K.last sink.new)) }
+    ensures unread { is_check (map (λ w. string_bytes w) words.now) ≡ false → source.new ≡ source.old }
+    ensures end { is_check (map (λ w. string_bytes w) words.now) ≡ true → IfSome (S.left source.old) (λ bytes.
+        length bytes ≤ MOST_BYTES → IfAnswered result (λ status. (IsStopped status → ⊥) → IsAtEnd (S.left source.new))) }
+{
+    let status = match answer_to(alloc, words, source) {
+        Ok(made) => write_answer(sink, &made),
+        Err(Stop::ReadFault) => Status::ReadFault,
+        Err(Stop::NoMemory) => Status::NoMemory,
+    };
+    Serial::Answered(Reply { status })
+}
+
+/// Carries out the words, as the program does: what `command_serial` answers, with threads where it needs workers.
+pub fn command<R: Threads + Wait + Sync, S: Source, K: Sink>(
+    _rt: &R,
+    alloc: Global,
+    words: &[String],
+    source: &mut S,
+    sink: &mut K,
+) -> Reply
+    ensures answer { IfSome (S.left source.old) (λ bytes.
+        Tells (map (λ w. string_bytes w) words.now) bytes (K.written sink.old) (K.written sink.new) result.status) }
+    ensures stopped { IsStopped result.status → Keeps (K.written sink.old) (K.written sink.new) }
+    ensures read_fault { result.status ≡ Status.ReadFault → Rose (S.faults source.old) (S.faults source.new) (S.last source.new) }
+    ensures write_fault { result.status ≡ Status.WriteFault → Rose (K.faults sink.old) (K.faults sink.new) (K.last sink.new) }
+    ensures unread { is_check (map (λ w. string_bytes w) words.now) ≡ false → source.new ≡ source.old }
+    ensures end { is_check (map (λ w. string_bytes w) words.now) ≡ true → IfSome (S.left source.old) (λ bytes.
+        length bytes ≤ MOST_BYTES → (IsStopped result.status → ⊥) → IsAtEnd (S.left source.new)) }
+{
+    match command_serial(alloc, words, source, sink) {
+        Serial::Answered(reply) => reply,
+        Serial::NeedsWorkers => unreachable!(),
     }
 }
