@@ -4,3 +4,4 @@ pub mod Again
 pub mod Accepted
 pub mod Found
 pub mod Told
+pub mod Headline

@@ -141,7 +141,7 @@ report_text s = codes "accepted\n" ++ flat_map (figures_text s.talks) s.roles ++
 -- a name's place in a list that has it
 abbrev pub place_of : List (List ℕ) → List ℕ → ℕ
 place_of [] name = 0
-place_of (other ∷ names) name = if bytes_eq other name then 0 else suc (place_of names name)
+place_of (other ∷ names) name = if bytes_eq name other then 0 else suc (place_of names name)
 
 -- the talk with numbers for names: a role's is its place in the roles line, a label's its place among the labels
 abbrev pub numbered : Straight_data → Talk → StraightTalk

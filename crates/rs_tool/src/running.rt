@@ -5,6 +5,7 @@ ghost use Rattle.std.specs.Io.KnownBytes.{Keeps, IsAtEnd};
 ghost use Rattle.std.specs.String.{string_bytes};
 ghost use Rattle.rs_io.specs.Faults.{Rose, Counts};
 ghost use Rattle.rs_tool.specs.Answer.{Answers, AnswersCheck, is_check};
+ghost use Rattle.rs_tool.specs.Straight.{SpellsSafeMachines};
 ghost use Rattle.rs_tool.specs.Top.{Tells, Writes, IsVerdict, IsStopped, IsAnswered, IfAnswered};
 
 use crate::accepting::MOST_BYTES;
@@ -81,11 +82,33 @@ fn write_answer<K: Sink>(sink: &mut K, made: &Made) -> Status
     }
 }
 
+/// Carries out the words, and tells the status.
+fn carry_out<S: Source, K: Sink>(
+    alloc: Global,
+    words: &[String],
+    source: &mut S,
+    sink: &mut K,
+) -> Status
+    ensures answer { IfSome (S.left source.old) (λ bytes. Tells (map (λ w. string_bytes w) words.now) bytes (K.written sink.old) (K.written sink.new) result) }
+    ensures stopped { IsStopped result → Keeps (K.written sink.old) (K.written sink.new) }
+    ensures read_fault { result ≡ Status.ReadFault → Rose (S.faults source.old) (S.faults source.new) (S.last source.new) }
+    ensures write_fault { result ≡ Status.WriteFault → Rose (K.faults sink.old) (K.faults sink.new) (K.last sink.new) }
+    ensures unread { is_check (map (λ w. string_bytes w) words.now) ≡ false → source.new ≡ source.old }
+    ensures end { is_check (map (λ w. string_bytes w) words.now) ≡ true → IfSome (S.left source.old) (λ bytes.
+        length bytes ≤ MOST_BYTES → (IsStopped result → ⊥) → IsAtEnd (S.left source.new)) }
+{
+    match answer_to(alloc, words, source) {
+        Ok(made) => write_answer(sink, &made),
+        Err(Stop::ReadFault) => Status::ReadFault,
+        Err(Stop::NoMemory) => Status::NoMemory,
+    }
+}
+
 /// Carries out the words, as the program does, without threads.
 ///
 /// `check` reads the source to its end and writes a report. The text of an answer is made whole before its first byte
-/// is written. With `ReadFault` and `NoMemory` nothing is written, with `WriteFault` a first part of the text.
-/// Words that aren't carried out read nothing.
+/// is written: with the statuses `ReadFault` and `NoMemory` nothing is written, with `WriteFault` a first part of the
+/// text. Words that aren't carried out read nothing.
 pub fn command_serial<S: Source, K: Sink>(
     alloc: Global,
     words: &[String],
@@ -93,23 +116,21 @@ pub fn command_serial<S: Source, K: Sink>(
     sink: &mut K,
 ) -> Serial
     ensures answered { IsAnswered result }
-    ensures answer { IfSome (S.left source.old) (λ bytes.
-        IfAnswered result (Tells (map (λ w. string_bytes w) words.now) bytes (K.written sink.old) (K.written sink.new))) }
+    ensures answer { IfAnswered result (λ status. IfSome (S.left source.old) (λ bytes.
+        Tells (map (λ w. string_bytes w) words.now) bytes (K.written sink.old) (K.written sink.new) status)) }
+    ensures headline { IfAnswered result (λ status. is_check (map (λ w. string_bytes w) words.now) ≡ true
+        → IfSome (S.left source.old) (λ bytes. status ≡ Status.Fine → SpellsSafeMachines bytes)) }
     ensures stopped { IfAnswered result (λ status. IsStopped status → Keeps (K.written sink.old) (K.written sink.new)) }
     ensures read_fault { IfAnswered result (λ status. status ≡ Status.ReadFault → Rose (S.faults source.old) (S.faults source.new) (S.last source.new)) }
     ensures write_fault { IfAnswered result (λ status. status ≡ Status.WriteFault → Rose (K.faults sink.old) (K.faults sink.new) (K.last sink.new)) }
     ensures unread { is_check (map (λ w. string_bytes w) words.now) ≡ false → source.new ≡ source.old }
-    ensures end { is_check (map (λ w. string_bytes w) words.now) ≡ true → IfSome (S.left source.old) (λ bytes.
-        length bytes ≤ MOST_BYTES → IfAnswered result (λ status. (IsStopped status → ⊥) → IsAtEnd (S.left source.new))) }
+    ensures end { IfAnswered result (λ status. is_check (map (λ w. string_bytes w) words.now) ≡ true → IfSome (S.left source.old) (λ bytes.
+        length bytes ≤ MOST_BYTES → (IsStopped status → ⊥) → IsAtEnd (S.left source.new))) }
 {
-    let status = match answer_to(alloc, words, source) {
-        Ok(made) => write_answer(sink, &made),
-        Err(Stop::ReadFault) => Status::ReadFault,
-        Err(Stop::NoMemory) => Status::NoMemory,
-    };
-    Serial::Answered(Reply { status })
+    Serial::Answered(Reply {
+        status: carry_out(alloc, words, source, sink),
+    })
 }
-
 /// Carries out the words, as the program does: what `command_serial` answers, with threads where it needs workers.
 pub fn command<R: Threads + Wait + Sync, S: Source, K: Sink>(
     _rt: &R,
@@ -120,6 +141,8 @@ pub fn command<R: Threads + Wait + Sync, S: Source, K: Sink>(
 ) -> Reply
     ensures answer { IfSome (S.left source.old) (λ bytes.
         Tells (map (λ w. string_bytes w) words.now) bytes (K.written sink.old) (K.written sink.new) result.status) }
+    ensures headline { is_check (map (λ w. string_bytes w) words.now) ≡ true
+        → IfSome (S.left source.old) (λ bytes. result.status ≡ Status.Fine → SpellsSafeMachines bytes) }
     ensures stopped { IsStopped result.status → Keeps (K.written sink.old) (K.written sink.new) }
     ensures read_fault { result.status ≡ Status.ReadFault → Rose (S.faults source.old) (S.faults source.new) (S.last source.new) }
     ensures write_fault { result.status ≡ Status.WriteFault → Rose (K.faults sink.old) (K.faults sink.new) (K.last sink.new) }
