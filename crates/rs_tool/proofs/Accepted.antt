@@ -94,7 +94,7 @@ unfolding machine_text
 machine_text-some talks role rest e = cc
 
 -- no machine part of other roles is the role's
-no-part : (talks : List Talk) (role rest : List ℕ) (roles : List (List ℕ)) (parts : List Bool) → IsRun role → AreRuns roles → list_any (λ other. bytes_eq other role) roles ≡ false
+pub no-part : (talks : List Talk) (role rest : List ℕ) (roles : List (List ℕ)) (parts : List Bool) → IsRun role → AreRuns roles → list_any (λ other. bytes_eq other role) roles ≡ false
     → machines_text talks roles parts ≡ machine_text talks role ++ rest → ⊥
 no-part talks role rest [] parts run runs other e = machine_text-some talks role rest (sym e)
 no-part talks role rest (r ∷ roles) [] run runs other e = machine_text-some talks role rest (sym e)
@@ -133,7 +133,7 @@ parts-again talks (role ∷ roles) (false ∷ parts) runs differ many short =
 
 -- ---- the whole text
 
-role-runs : (roles : List (List ℕ)) → list_all is_role_name roles ≡ true → AreRuns roles
+pub role-runs : (roles : List (List ℕ)) → list_all is_role_name roles ≡ true → AreRuns roles
 role-runs [] h = tt
 role-runs (r ∷ rs) h = let t = both (is_role_name r) _ h in (word-run r (role-word r t.0), role-runs rs t.1)
 

@@ -5,3 +5,4 @@ pub mod Accepted
 pub mod Found
 pub mod Told
 pub mod Headline
+pub mod Unique

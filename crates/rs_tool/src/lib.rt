@@ -3,6 +3,7 @@
 
 mod accepting;
 mod answering;
+pub mod laws;
 mod limits;
 mod printing;
 mod reading;
