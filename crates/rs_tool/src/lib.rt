@@ -14,3 +14,6 @@ mod text;
 
 pub use running::{command, command_serial};
 pub use status::{Reply, Serial, Status};
+
+#[cfg(test)]
+mod tests;
