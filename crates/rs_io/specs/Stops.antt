@@ -1,7 +1,5 @@
 -- How far reading came before it stopped.
-use Rattle.std.specs.Prelude.{◌≡◌, ℕ, ◌+◌, ◌≤◌, length, List, Result, MatchResult, Option}
-use Rattle.std.specs.Io.KnownBytes.{Consumes}
-use Rattle.std.specs.declared.vec.Vec.{Vec}
+use Rattle.std.specs.Prelude.{◌≡◌, ℕ, ◌+◌, ◌≤◌}
 use Rattle.rs_io.specs.declared.reading.ReadStop.{ReadStop}
 use Rattle.rs_io.specs.declared.reading.ReadStop.TheVariants.{ReadFault, TooLong, NoMemory}
 

@@ -1,4 +1,4 @@
-ghost use Rattle.std.specs.Prelude.{ℕ, OnOk, OnErr};
+ghost use Rattle.std.specs.Prelude.{OnOk, OnErr};
 ghost use Rattle.std.specs.Io.KnownBytes.{Appends};
 ghost use Rattle.rs_io.specs.Faults.{Rose, Counts};
 ghost use Rattle.rs_io.specs.Prefix.{AppendsPrefix};

@@ -1,5 +1,4 @@
-use Rattle.std.proofs.Common.{rules, arith, ◌+◌, ◌≤◌, length}
-use Rattle.rs_io.specs.Faults.{Counts}
+use Rattle.std.proofs.Common.{rules, arith}
 use Rattle.rs_io.proofs.Pieces.{Appends_next}
 use Rattle.rs_io.proofs.writing.write_all.Goals as goal
 

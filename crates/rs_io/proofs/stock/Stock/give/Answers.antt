@@ -1,4 +1,4 @@
-use Rattle.std.proofs.Common.{rules, arith, ◌≡◌, ◌≤◌, length, drop, take}
+use Rattle.std.proofs.Common.{rules, ◌≡◌, ◌≤◌, length, drop, take}
 use Rattle.rs_io.proofs.Pieces.{moved_front}
 use Rattle.rs_io.proofs.stock.Stock.give.Goals as goal
 
