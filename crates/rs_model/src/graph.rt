@@ -1,4 +1,4 @@
-ghost use Rattle.std.specs.Prelude.{◌≡◌, [], ◌∷◌, ◌++◌, OnOk, OnErr};
+ghost use Rattle.std.specs.Prelude.{◌≡◌, ◌↔◌, [], ◌∷◌, ◌++◌, IfOk, IsTrue, OnOk, OnErr};
 
 use crate::{NoMemory, Sort};
 use std::alloc::Global;
@@ -60,6 +60,36 @@ impl Arms {
     {
         self.items.as_slice()
     }
+
+    /// The same arms in memory of their own.
+    pub fn copy(&self, alloc: Global) -> Result<Arms, NoMemory>
+        ensures { IfOk result (λ a. a ≡ self.now) }
+    {
+        Ok(Arms {
+            items: Vec::from_slice(alloc, self.as_slice())?,
+        })
+    }
+
+    /// Whether the arms are equal, one by one and in order.
+    pub fn same(&self, other: &Arms) -> bool
+        ensures { IsTrue result ↔ (self.now ≡ other.now) }
+    {
+        same_arms(self.as_slice(), other.as_slice())
+    }
+}
+
+fn same_arms(ours: &[Arm], theirs: &[Arm]) -> bool
+    ensures { IsTrue result ↔ (ours.now ≡ theirs.now) }
+{
+    if ours.len() != theirs.len() {
+        return false;
+    }
+    for i in 0..ours.len() {
+        if ours[i] != theirs[i] {
+            return false;
+        }
+    }
+    true
 }
 
 /// A node of a protocol: its end, or one talk with its alternatives.
