@@ -1,4 +1,4 @@
--- The tests of a machine, one after another as they are made.
+-- The first fault of a machine, as the code finds it.
 use Rattle.std.specs.Prelude.{◌≡◌, ℕ, ◌+◌, List, [], ◌∷◌, ◌++◌, length, Bool, true, false, ◌==◌, ◌&&◌, nat_lt, nat_le, if◌then◌else◌, Option, Some, None}
 use Rattle.std.specs.List.{list_any}
 use Rattle.rs_model.specs.Data.{Machine_data}
@@ -54,5 +54,5 @@ abbrev pub start_fault : Machine_data → ℕ → Option MachineFault
 start_fault m roles =
     if nat_lt m.start (length m.states) && nat_lt m.role.0 roles then None else Some (BadNext m.start)
 
-abbrev pub first_fault : Machine_data → ℕ → Option MachineFault
-first_fault m roles = or_later (start_fault m roles) (states_fault m roles m.states 0)
+abbrev pub machine_fault : Machine_data → ℕ → Option MachineFault
+machine_fault m roles = or_later (start_fault m roles) (states_fault m roles m.states 0)

@@ -1,3 +1,4 @@
 pub mod Checks
 pub mod Data
 pub mod Sorts
+pub mod WellFormed

@@ -1,6 +1,7 @@
 ghost use Rattle.std.specs.Prelude.{◌≡◌, ◌==◌, ◌<◌, ◌^◌, [], length, nat_le, IfErr, OnOk, None, Some};
 ghost use Rattle.std.specs.List.{list_any};
-ghost use Rattle.rs_model.specs.Checks.{choice_fault, first_fault, first_repeat, state_fault};
+ghost use Rattle.rs_model.specs.Checks.{choice_fault, first_repeat, machine_fault, state_fault};
+ghost use Rattle.rs_model.specs.WellFormed.{IsWellFormedMachine, first_fault};
 
 use crate::{Arm, Label, Machine, Role, State};
 
@@ -25,18 +26,29 @@ impl Machine {
     /// states in order, and in a state of its arms being none, of its peer, of all labels, and of all nexts.
     pub fn check(&self, roles: u8) -> Result<(), MachineFault>
         requires { length self.now.states < 2 ^ 32 }
-        ensures ok { OnOk result (first_fault self.now roles ≡ None) }
+        ensures ok { OnOk result (IsWellFormedMachine self.now roles) }
+        ensures none { OnOk result (first_fault self.now roles ≡ None) }
         ensures err { IfErr result (λ e. first_fault self.now roles ≡ Some e) }
     {
+        match self.fault(roles) {
+            Some(fault) => Err(fault),
+            None => Ok(()),
+        }
+    }
+
+    fn fault(&self, roles: u8) -> Option<MachineFault>
+        requires { length self.now.states < 2 ^ 32 }
+        ensures { result ≡ machine_fault self.now roles }
+    {
         if self.start as usize >= self.states.len() || self.role.0 >= roles {
-            return Err(MachineFault::BadNext { state: self.start });
+            return Some(MachineFault::BadNext { state: self.start });
         }
         for (number, state) in self.states.iter().enumerate() {
             if let Some(fault) = self.state_fault(roles, number as u32, state) {
-                return Err(fault);
+                return Some(fault);
             }
         }
-        Ok(())
+        None
     }
 
     fn state_fault(&self, roles: u8, number: u32, state: &State) -> Option<MachineFault>

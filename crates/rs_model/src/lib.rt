@@ -3,6 +3,7 @@
 
 mod checks;
 mod graph;
+pub mod laws;
 mod machines;
 mod memory;
 mod values;

@@ -1,6 +1,6 @@
 use Rattle.std.proofs.Common.{◌≡◌, drop}
 use Rattle.rs_model.specs.Checks.{states_fault}
-use Rattle.rs_model.proofs.machines.Machine.check.Given as goal
+use Rattle.rs_model.proofs.machines.Machine.fault.Given as goal
 
 abbrev pub invariant-loop-number : goal.invariant-loop-number
 invariant-loop-number l =
