@@ -74,22 +74,8 @@ impl Arms {
     pub fn same(&self, other: &Arms) -> bool
         ensures { IsTrue result ↔ (self.now ≡ other.now) }
     {
-        same_arms(self.as_slice(), other.as_slice())
+        self.as_slice() == other.as_slice()
     }
-}
-
-fn same_arms(ours: &[Arm], theirs: &[Arm]) -> bool
-    ensures { IsTrue result ↔ (ours.now ≡ theirs.now) }
-{
-    if ours.len() != theirs.len() {
-        return false;
-    }
-    for i in 0..ours.len() {
-        if ours[i] != theirs[i] {
-            return false;
-        }
-    }
-    true
 }
 
 /// A node of a protocol: its end, or one talk with its alternatives.
