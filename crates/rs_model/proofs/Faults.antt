@@ -6,7 +6,8 @@ use Rattle.std.specs.List.{list_any}
 use Rattle.rs_model.proofs.Order.{in_order}
 use Rattle.rs_model.specs.Data.{Machine_data}
 use Rattle.rs_model.specs.Checks.{or_later, first_repeat, twice, nexts_fault, peer_fault, arms_fault, choice_fault, state_fault, states_fault, start_fault, machine_fault}
-use Rattle.rs_model.specs.WellFormed.{StateFits, IsWellFormedMachine, Chooses, StandsTwice, LeadsOut, Blames, first_fault}
+use Rattle.rs_model.specs.Faults.{Chooses, StandsTwice, LeadsOut, Blames, first_fault}
+use Rattle.rs_model.specs.WellFormed.{StateFits, IsWellFormedMachine}
 use Rattle.rs_model.specs.declared.checks.MachineFault.{MachineFault}
 use Rattle.rs_model.specs.declared.checks.MachineFault.TheVariants.{BadNext, NoArms, TwiceLabel, SelfPeer, UnknownPeer}
 use Rattle.rs_model.specs.declared.graph.Arm.{Arm}

@@ -4,7 +4,7 @@ use Rattle.std.proofs.lemmas.Bool.{cases_lt, lt-ltb, le-ltb, le-leb, lt-leb, ltb
 use Rattle.std.specs.List.{list_any}
 use Rattle.rs_model.specs.Data.{Machine_data}
 use Rattle.rs_model.specs.Checks.{or_later, first_repeat, twice, nexts_fault, peer_fault, arms_fault, choice_fault, state_fault, states_fault, start_fault, machine_fault}
-use Rattle.rs_model.specs.WellFormed.{Test, first_failed, label_tests, next_tests, choice_tests, state_tests, states_tests, tests_of, first_fault}
+use Rattle.rs_model.specs.Faults.{Test, first_failed, label_tests, next_tests, choice_tests, state_tests, states_tests, tests_of, first_fault}
 use Rattle.rs_model.specs.declared.checks.MachineFault.{MachineFault}
 use Rattle.rs_model.specs.declared.checks.MachineFault.TheVariants.{BadNext, NoArms, TwiceLabel, SelfPeer, UnknownPeer}
 use Rattle.rs_model.specs.declared.graph.Arm.{Arm}

@@ -1,11 +1,12 @@
 ghost use Rattle.std.specs.Prelude.{◌≡◌, ◌==◌, ◌<◌, ◌^◌, [], length, nat_le, IfErr, OnOk, None, Some};
 ghost use Rattle.std.specs.List.{list_any};
 ghost use Rattle.rs_model.specs.Checks.{choice_fault, first_repeat, machine_fault, state_fault};
-ghost use Rattle.rs_model.specs.WellFormed.{IsWellFormedMachine, first_fault};
+ghost use Rattle.rs_model.specs.Faults.{first_fault};
+ghost use Rattle.rs_model.specs.WellFormed.{IsWellFormedMachine};
 
 use crate::{Arm, Label, Machine, Role, State};
 
-/// The first thing that isn't right in a machine; each names the number of the state.
+/// Why a machine isn't well formed. `state` is the number of the state that is at fault.
 #[derive(Clone, Copy, Debug, PartialEq, Eq)]
 pub enum MachineFault {
     /// An arm of the state leads to no state. At the number of the start also: the start is no state, or the
@@ -22,8 +23,12 @@ pub enum MachineFault {
 }
 
 impl Machine {
-    /// Whether this is a machine of one of so many roles. If not, the first fault is told: of the start, then of the
-    /// states in order, and in a state of its arms being none, of its peer, of all labels, and of all nexts.
+    /// Tests that the machine is well formed among `roles` roles: its role is one of them, it starts at a state, and
+    /// each state that puts or takes has arms, another of the roles as its peer, no label twice, and a state behind
+    /// each arm.
+    ///
+    /// The error is the first fault in this order: the start and the role; then state by state that there are arms,
+    /// the peer, all labels, and all nexts. Takes no memory.
     pub fn check(&self, roles: u8) -> Result<(), MachineFault>
         requires { length self.now.states < 2 ^ 32 }
         ensures ok { OnOk result (IsWellFormedMachine self.now roles) }
@@ -81,7 +86,7 @@ impl Machine {
     }
 }
 
-// The first label that repeats an earlier one.
+// The first label that repeats an earlier one. It reads at most one arm more than there are labels.
 fn first_repeat(arms: &[Arm]) -> Option<Label>
     ensures { result ≡ first_repeat arms.now [] }
 {

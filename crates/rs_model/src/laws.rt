@@ -1,7 +1,8 @@
 //! Laws over the definitions that the contracts cite. The functions do nothing: the contract is the law.
 ghost use Rattle.std.specs.Prelude.{◌≡◌, ◌↔◌, ℕ, Some, None};
 ghost use Rattle.rs_model.specs.Data.{Machine_data};
-ghost use Rattle.rs_model.specs.WellFormed.{Blames, IsWellFormedMachine, first_fault};
+ghost use Rattle.rs_model.specs.Faults.{Blames, first_fault};
+ghost use Rattle.rs_model.specs.WellFormed.{IsWellFormedMachine};
 ghost use Rattle.rs_model.specs.declared.checks.MachineFault.{MachineFault};
 
 /// A machine passes all its tests exactly where it is well formed, and the fault of the first test that it doesn't

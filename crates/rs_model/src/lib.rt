@@ -6,6 +6,8 @@ mod graph;
 pub mod laws;
 mod machines;
 mod memory;
+#[cfg(test)]
+mod tests;
 mod values;
 mod words;
 

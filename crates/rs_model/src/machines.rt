@@ -41,17 +41,17 @@ impl State {
             (
                 State::Puts { peer, arms },
                 State::Puts {
-                    peer: q,
-                    arms: others,
+                    peer: their_peer,
+                    arms: their_arms,
                 },
             )
             | (
                 State::Takes { peer, arms },
                 State::Takes {
-                    peer: q,
-                    arms: others,
+                    peer: their_peer,
+                    arms: their_arms,
                 },
-            ) => *peer == *q && arms.same(others),
+            ) => *peer == *their_peer && arms.same(their_arms),
             _ => false,
         }
     }
