@@ -1,6 +1,6 @@
 -- What the first fault of a machine says, and that a machine has none exactly where it is well formed.
-use Rattle.std.proofs.Common.{◌≡◌, ◌≢◌, ◌⊎◌, ℕ, zero, suc, ◌+◌, ◌<◌, ◌≤◌, List, [], ◌∷◌, ◌++◌, length, Bool, true, false, not, cond, eqb, ltb, leb, ◌==◌, ◌&&◌, ◌||◌, Option, Some, None, slice_get, inl, inr, ⊎_elim, sym, refl, ap, subst, ◌∙◌, arith, append_assoc, length-append, add-zero, zero-add}
-use Rattle.std.proofs.lemmas.Bool.{cases_order, ltb-true, ltb-false, leb-true, leb-false, le-ltb, le-leb, eqb-true, eqb-false, eq-eqb, ne_eqb, or_cases, or_parts, and_cases, and_parts, false≢true}
+use Rattle.std.proofs.Common.{◌≡◌, ◌≢◌, ◌⊎◌, ℕ, zero, suc, ◌+◌, ◌<◌, ◌≤◌, List, [], ◌∷◌, ◌++◌, length, Bool, true, false, cond, eqb, ltb, leb, ◌==◌, ◌&&◌, Option, Some, None, slice_get, inl, inr, ⊎_elim, sym, refl, ap, subst, ◌∙◌, arith, append_assoc, length-append, zero-add}
+use Rattle.std.proofs.lemmas.Bool.{cases_order, ltb-true, ltb-false, leb-true, leb-false, eqb-true, eqb-false, or_cases, or_parts, and_cases, and_parts, false≢true}
 use Rattle.std.proofs.lemmas.Option.{none-some, same_Some, slice_get_within}
 use Rattle.std.specs.List.{list_any}
 use Rattle.rs_model.proofs.Order.{in_order}

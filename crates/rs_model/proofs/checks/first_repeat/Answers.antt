@@ -1,4 +1,4 @@
-use Rattle.std.proofs.Common.{◌≡◌, ◌<◌, length, sym, ◌∙◌, true}
+use Rattle.std.proofs.Common.{sym, ◌∙◌}
 use Rattle.rs_model.proofs.Repeats.{repeat_here, repeat_on}
 use Rattle.rs_model.proofs.checks.first_repeat.Goals as goal
 

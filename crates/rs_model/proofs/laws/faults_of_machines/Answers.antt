@@ -1,4 +1,3 @@
-use Rattle.std.proofs.Common.{sym, ◌∙◌}
 use Rattle.rs_model.proofs.Faults.{no_fault, right, blamed}
 use Rattle.rs_model.proofs.laws.faults_of_machines.Goals as goal
 
