@@ -1,6 +1,5 @@
 -- What contracts see of the types that hold vectors: the same fields, each vector as its list.
 use Rattle.std.specs.Prelude.{ℕ, List}
-use Rattle.rs_model.specs.declared.graph.Arm.{Arm}
 use Rattle.rs_model.specs.declared.graph.Node.{Node}
 use Rattle.rs_model.specs.declared.graph.Role.{Role}
 use Rattle.rs_model.specs.declared.machines.State.{State}

@@ -1,2 +1,5 @@
+pub mod Checks
 pub mod Data
+pub mod Faults
 pub mod Sorts
+pub mod WellFormed

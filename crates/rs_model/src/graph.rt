@@ -1,4 +1,4 @@
-ghost use Rattle.std.specs.Prelude.{◌≡◌, [], ◌∷◌, ◌++◌, OnOk, OnErr};
+ghost use Rattle.std.specs.Prelude.{◌≡◌, ◌↔◌, [], ◌∷◌, ◌++◌, IfOk, IsTrue, OnOk, OnErr};
 
 use crate::{NoMemory, Sort};
 use std::alloc::Global;
@@ -59,6 +59,22 @@ impl Arms {
         ensures { result.now ≡ self.now }
     {
         self.items.as_slice()
+    }
+
+    /// The same arms in memory of their own.
+    pub fn copy(&self, alloc: Global) -> Result<Arms, NoMemory>
+        ensures { IfOk result (λ a. a ≡ self.now) }
+    {
+        Ok(Arms {
+            items: Vec::from_slice(alloc, self.as_slice())?,
+        })
+    }
+
+    /// Whether the arms are equal, one by one and in order.
+    pub fn same(&self, other: &Arms) -> bool
+        ensures { IsTrue result ↔ (self.now ≡ other.now) }
+    {
+        self.as_slice() == other.as_slice()
     }
 }
 

@@ -1,12 +1,17 @@
 //! The types of Rumpsteak: protocols, machines, sorts and values, and the test of a machine.
 #![tactic(auto)]
 
+mod checks;
 mod graph;
+pub mod laws;
 mod machines;
 mod memory;
+#[cfg(test)]
+mod tests;
 mod values;
 mod words;
 
+pub use checks::MachineFault;
 pub use graph::{Arm, Arms, Label, Node, Protocol, Role};
 pub use machines::{Act, Machine, State};
 pub use memory::NoMemory;

@@ -30,6 +30,13 @@ impl Model for Octets {
 }
 
 impl Octets {
+    /// Equal bytes in memory of their own.
+    pub fn copy(&self, alloc: Global) -> Result<Octets, NoMemory>
+        ensures { IfOk result (λ o. o ≡ self.now) }
+    {
+        Octets::of(alloc, self.as_slice())
+    }
+
     /// A copy of the bytes.
     pub fn of(alloc: Global, bytes: &[u8]) -> Result<Octets, NoMemory>
         ensures { IfOk result (λ o. o ≡ bytes.now) }
@@ -61,6 +68,13 @@ impl Model for Numbers {
 }
 
 impl Numbers {
+    /// Equal numbers in memory of their own.
+    pub fn copy(&self, alloc: Global) -> Result<Numbers, NoMemory>
+        ensures { IfOk result (λ n. n ≡ self.now) }
+    {
+        Numbers::of(alloc, self.as_slice())
+    }
+
     /// A copy of the numbers.
     pub fn of(alloc: Global, items: &[i64]) -> Result<Numbers, NoMemory>
         ensures { IfOk result (λ n. n ≡ items.now) }
@@ -89,7 +103,7 @@ pub enum Value {
 }
 
 impl Value {
-    ghost use Rattle.std.specs.Prelude.{◌≡◌};
+    ghost use Rattle.std.specs.Prelude.{◌≡◌, IfOk};
     ghost use Rattle.rs_model.specs.Sorts.{fits};
 
     /// Whether the value has the sort: it is of the sort's own kind, and a `Natural` is at most
@@ -106,5 +120,19 @@ impl Value {
             | (Value::Numbers(_), Sort::Numbers) => true,
             _ => false,
         }
+    }
+
+    /// An equal value in memory of its own.
+    pub fn copy(&self, alloc: Global) -> Result<Value, NoMemory>
+        ensures { IfOk result (λ v. v ≡ self.now) }
+    {
+        Ok(match self {
+            Value::Unit => Value::Unit,
+            Value::Flag(b) => Value::Flag(*b),
+            Value::Natural(n) => Value::Natural(*n),
+            Value::Whole(n) => Value::Whole(*n),
+            Value::Octets(bytes) => Value::Octets(bytes.copy(alloc)?),
+            Value::Numbers(items) => Value::Numbers(items.copy(alloc)?),
+        })
     }
 }
