@@ -1,0 +1,5 @@
+pub mod Bytes
+pub mod Signs
+pub mod Lexemes
+pub mod Faults
+pub mod Names
