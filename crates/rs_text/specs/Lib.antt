@@ -1,3 +1,4 @@
+pub mod Data
 pub mod Bytes
 pub mod Signs
 pub mod Lexemes

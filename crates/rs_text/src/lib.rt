@@ -2,7 +2,9 @@
 #![tactic(auto)]
 
 mod faults;
+mod lexing;
 mod tokens;
 
 pub use faults::{TextFault, TextKind, Wanted};
+pub use lexing::{Lexer, number};
 pub use tokens::{Fault, FaultKind, Kind, Token};
