@@ -1,5 +1,6 @@
 -- The tokens of a text, cut off from its front one by one.
 use Rattle.std.specs.Prelude.{◌≡◌, ℕ, suc, ◌+◌, ◌-◌, ◌*◌, List, [], ◌∷◌, drop, take, map, nat_lt, if◌then◌else◌, ◌==◌, Bool, true, false}
+use Rattle.std.specs.List.{prefix_len}
 use Rattle.rs_text.specs.declared.tokens.Fault.{Fault}
 use Rattle.rs_text.specs.declared.tokens.FaultKind.TheVariants as fault
 use Rattle.rs_text.specs.declared.tokens.Kind.{Kind}
@@ -16,13 +17,11 @@ skipped true (b ∷ bs) = suc (skipped (if b == 10 then false else true) bs)
 
 -- how many bytes in front are of a word
 abbrev pub word_length : List ℕ → ℕ
-word_length [] = 0
-word_length (b ∷ bs) = if is_word_byte b then suc (word_length bs) else 0
+word_length bytes = prefix_len is_word_byte bytes
 
 -- how many bytes in front are digits
 abbrev pub number_length : List ℕ → ℕ
-number_length [] = 0
-number_length (b ∷ bs) = if is_digit b then suc (number_length bs) else 0
+number_length bytes = prefix_len is_digit bytes
 
 -- the value of a number with further digits behind it
 abbrev pub value_behind : ℕ → List ℕ → ℕ

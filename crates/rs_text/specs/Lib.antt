@@ -4,3 +4,5 @@ pub mod Signs
 pub mod Lexemes
 pub mod Faults
 pub mod Names
+pub mod Places
+pub mod Sound

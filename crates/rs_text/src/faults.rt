@@ -1,3 +1,8 @@
+ghost use Rattle.std.specs.Prelude.{◌≡◌};
+ghost use Rattle.rs_text.specs.Faults.{wanted_text, kind_of};
+
+use crate::{Fault, FaultKind};
+
 /// What a reader wanted at a place of the grammar.
 #[derive(Clone, Copy, Debug, PartialEq, Eq)]
 pub enum Wanted {
@@ -63,6 +68,46 @@ pub enum Wanted {
     Mark,
 }
 
+impl Wanted {
+    /// The words of the fault's line, as in `malformed 1:1 expected roles`.
+    pub fn text(self) -> &'static str
+        ensures { result.now ≡ wanted_text self }
+    {
+        match self {
+            Wanted::Roles => "roles",
+            Wanted::Role => "role",
+            Wanted::Comma => ",",
+            Wanted::CommaOrProtocol => ", or protocol",
+            Wanted::Body => "body",
+            Wanted::Name => "name",
+            Wanted::Dot => ".",
+            Wanted::ColonOrBrace => ": or {",
+            Wanted::LabelOrBrace => "label or {",
+            Wanted::Label => "label",
+            Wanted::OpenParen => "(",
+            Wanted::SortOrCloseParen => "sort or )",
+            Wanted::CloseParen => ")",
+            Wanted::CommaOrCloseBrace => ", or }",
+            Wanted::Colon => ":",
+            Wanted::PartOrEnd => "machine, derivation or the end",
+            Wanted::DerivationOrEnd => "derivation or the end",
+            Wanted::Bound => "bound",
+            Wanted::BoundNumber => "number from 1 to 64",
+            Wanted::OpenBrace => "{",
+            Wanted::Node => "node",
+            Wanted::NodeOrCloseBrace => "node or }",
+            Wanted::Number => "number",
+            Wanted::OpenBracket => "[",
+            Wanted::ActOrCloseBracket => "act or ]",
+            Wanted::CommaOrCloseBracket => ", or ]",
+            Wanted::Rank => "rank",
+            Wanted::Next => "next",
+            Wanted::NumberOrCloseBracket => "number or ]",
+            Wanted::Mark => "! or ?",
+        }
+    }
+}
+
 /// The kinds of faults of all readers.
 #[derive(Clone, Copy, Debug, PartialEq, Eq)]
 pub enum TextKind {
@@ -99,4 +144,31 @@ pub enum TextKind {
 pub struct TextFault {
     pub kind: TextKind,
     pub at: usize,
+}
+
+impl From<FaultKind> for TextKind {
+    ghost use Rattle.rs_text.specs.Faults.{kind_of};
+
+    ghost from_gives = { λ kind result. result ≡ kind_of kind };
+
+    fn from(kind: FaultKind) -> Self {
+        match kind {
+            FaultKind::BadByte => TextKind::BadByte,
+            FaultKind::NumberTooLarge => TextKind::NumberTooLarge,
+            FaultKind::NameTooLong => TextKind::NameTooLong,
+        }
+    }
+}
+
+impl From<Fault> for TextFault {
+    ghost use Rattle.rs_text.specs.Faults.{kind_of};
+
+    ghost from_gives = { λ fault result. result ≡ record { kind = kind_of fault.kind; at = fault.at } };
+
+    fn from(fault: Fault) -> Self {
+        TextFault {
+            kind: TextKind::from(fault.kind),
+            at: fault.at,
+        }
+    }
 }

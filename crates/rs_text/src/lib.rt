@@ -3,8 +3,14 @@
 
 mod faults;
 mod lexing;
+mod names;
+mod output;
+mod places;
 mod tokens;
 
 pub use faults::{TextFault, TextKind, Wanted};
 pub use lexing::{Lexer, number};
+pub use names::{add, find, sound};
+pub use output::Text;
+pub use places::place;
 pub use tokens::{Fault, FaultKind, Kind, Token};
