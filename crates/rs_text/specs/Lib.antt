@@ -6,3 +6,5 @@ pub mod Faults
 pub mod Names
 pub mod Places
 pub mod Sound
+pub mod Tokens
+pub mod Words

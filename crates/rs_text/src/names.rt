@@ -1,7 +1,9 @@
 ghost use Rattle.std.specs.Prelude.{◌≡◌, ◌≤◌, ◌++◌, ◌∷◌, [], length, OnOk, OnErr, IfOk};
 ghost use Rattle.std.specs.List.{list_all};
 ghost use Rattle.rs_text.specs.Names.{place_of, is_among};
-ghost use Rattle.rs_text.specs.Bytes.{is_word_byte};
+ghost use Rattle.rs_text.specs.Bytes as bytes;
+ghost use Rattle.rs_text.specs.Words as words;
+ghost use Rattle.rs_text.specs.Words.{begins};
 ghost use Rattle.rs_text.specs.Sound as spec;
 
 use crate::lexing::{is_digit, is_letter};
@@ -65,31 +67,31 @@ fn has(names: &[Name], word: &[u8]) -> bool
 }
 
 fn are_role_words(names: &[Name]) -> bool
-    ensures { result ≡ list_all spec.is_role_word names.now }
+    ensures { result ≡ list_all words.is_role_word names.now }
 {
     names.iter().all(|name| is_role_word(name.as_slice()))
 }
 
 fn are_words(names: &[Name]) -> bool
-    ensures { result ≡ list_all spec.is_word names.now }
+    ensures { result ≡ list_all words.is_word names.now }
 {
     names.iter().all(|name| is_word(name.as_slice()))
 }
 
 fn is_role_word(text: &[u8]) -> bool
-    ensures { result ≡ spec.is_role_word text.now }
+    ensures { result ≡ words.is_role_word text.now }
 {
     is_word(text) && text != b"rec".as_slice() && text != b"end".as_slice()
 }
 
 fn is_word(text: &[u8]) -> bool
-    ensures { result ≡ spec.is_word text.now }
+    ensures { result ≡ words.is_word text.now }
 {
     starts_as_word(text) && are_word_bytes(text) && text.len() <= 64
 }
 
 fn starts_as_word(text: &[u8]) -> bool
-    ensures { result ≡ spec.starts_as_word text.now }
+    ensures { result ≡ begins bytes.is_letter text.now }
 {
     match text {
         [first, ..] => is_letter(*first),
@@ -98,7 +100,7 @@ fn starts_as_word(text: &[u8]) -> bool
 }
 
 fn are_word_bytes(text: &[u8]) -> bool
-    ensures { result ≡ list_all is_word_byte text.now }
+    ensures { result ≡ list_all bytes.is_word_byte text.now }
 {
     text.iter().all(|byte| is_letter(*byte) || is_digit(*byte))
 }
