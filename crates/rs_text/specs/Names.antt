@@ -1,5 +1,5 @@
 -- Names by their places, and names that recursions bind.
-use Rattle.std.specs.Prelude.{ℕ, Bool, suc, List, [], ◌∷◌, ◌++◌, Option, Some, None, if◌then◌else◌}
+use Rattle.std.specs.Prelude.{◌≡◌, ◌≢◌, ◌<◌, slice_get, ℕ, Bool, suc, List, [], ◌∷◌, ◌++◌, Option, Some, None, if◌then◌else◌}
 use Rattle.std.specs.List.{list_any}
 use Rattle.std.specs.Str.{bytes_eq}
 
@@ -11,6 +11,11 @@ place_from n name (x ∷ xs) = if bytes_eq x name then Some n else place_from (s
 -- the first place of a name among names, from 0
 abbrev pub place_of : List ℕ → List (List ℕ) → Option ℕ
 place_of name names = place_from 0 name names
+
+-- the name stands at the place and at none before it
+pub record StandsFirst (name : List ℕ) (names : List (List ℕ)) (place : ℕ) : Type 0 where
+  pub there : slice_get names place ≡ Some name
+  pub first : (k : ℕ) → k < place → slice_get names k ≢ Some name
 
 abbrev pub is_among : List ℕ → List (List ℕ) → Bool
 is_among name names = list_any (λ x. bytes_eq x name) names

@@ -89,6 +89,12 @@ pub record IsNext (bytes : List ℕ) (at : ℕ) (l : Lexeme) : Type 0 where
   pub from : l.from ≡ at + length (gap_bytes gap)
   pub until : l.until ≡ l.from + length text
 
+-- the token doesn't begin before `at`, nor end before it begins, nor behind the bytes
+pub record IsWithin (bytes : List ℕ) (at : ℕ) (l : Lexeme) : Type 0 where
+  pub ahead : at ≤ l.from
+  pub order : l.from ≤ l.until
+  pub inside : l.until ≤ length bytes
+
 -- the tokens of the bytes from `at` on, as far as the end or the first faulty one
 abbrev pub AreTokens : (bytes : List ℕ) → (at : ℕ) → List Lexeme → Type 0
 AreTokens bytes at [] = ⊥
