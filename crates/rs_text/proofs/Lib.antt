@@ -3,4 +3,4 @@ pub mod Fronts
 pub mod Gaps
 pub mod Starts
 pub mod Nexts
-pub mod Names
+pub mod Naming
