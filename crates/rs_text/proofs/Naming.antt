@@ -3,7 +3,7 @@ use Rattle.std.proofs.lemmas.Bool.Decides.{Decides-by_and, Decides-and}
 use Rattle.std.proofs.lemmas.List.Folds.{list_any-append, list_all-append}
 use Rattle.std.proofs.lemmas.Slice.Eq.{bytes_eq-Decides}
 use Rattle.std.proofs.lemmas.Map.Made.{AllPairs-from_IsDistinct, IsDistinct-from_AllPairs}
-use Rattle.std.specs.Bool.{Decides}
+use Rattle.std.specs.Bool.{Decides, IsTrue}
 use Rattle.std.specs.List.{list_any, list_all, All, AllPairs, AllByRecursion, IsDistinct}
 use Rattle.std.specs.Prelude.{slice_get}
 use Rattle.std.specs.Str.{bytes_eq}
@@ -86,6 +86,33 @@ stands_place (x ∷ names) name n (suc i) s = elim (true_or_false (bytes_eq x na
     inl e ↦ absurd (s.first 0 (omega arith) (ap Some ((bytes_eq-Decides x name).0 e)))
   | inr e ↦ rw e (stands_place names name (suc n) i (record { there = s.there; first = λ k below. s.first (suc k) (omega arith) }) ∙ ap Some (omega arith)) ]
 
+or_left : (a b : Bool) → (a || b) ≡ false → a ≡ false
+or_left true b h = absurd (cc h)
+or_left false b h = refl
+
+or_right : (a b : Bool) → (a || b) ≡ false → b ≡ false
+or_right true b h = absurd (cc h)
+or_right false b h = h
+
+pub place_law : (name : List ℕ) (names : List (List ℕ)) (place : ℕ) → (place_of name names ≡ Some place) ↔ StandsFirst name names place
+place_law name names place = (place_stands names name place, λ s. stands_place names name 0 place s ∙ ap Some (omega arith))
+
+absent_at : (names : List (List ℕ)) (name : List ℕ) (k : ℕ) → is_among name names ≡ false → slice_get names k ≢ Some name
+absent_at [] name k h e = cc
+absent_at (x ∷ names) name zero h e = cc ((bytes_eq-Decides x name).1 (some_is x name e), or_left (bytes_eq x name) (is_among name names) h)
+absent_at (x ∷ names) name (suc k) h e = absent_at names name k (or_right (bytes_eq x name) (is_among name names) h) e
+
+none_or_some : (o : Option ℕ) → (o ≡ None) ⊎ ((k : ℕ) × (o ≡ Some k))
+none_or_some None = inl refl
+none_or_some (Some k) = inr (k, refl)
+
+pub absent_law : (name : List ℕ) (names : List (List ℕ)) → (place_of name names ≡ None) ↔ ((k : ℕ) → slice_get names k ≢ Some name)
+absent_law name names = (
+    (λ h k. absent_at names name k (not_among names name 0 h)),
+    (λ none. elim (none_or_some (place_of name names)) [
+        inl h ↦ h
+      | inr found ↦ absurd (none found.0 (place_stands names name found.0 found.1).there) ]))
+
 -- ---- growing
 
 and_left : (a b : Bool) → (a && b) ≡ true → a ≡ true
@@ -99,14 +126,6 @@ and_right false b h = absurd (cc h)
 pub grown_append : (xs ys names : List (List ℕ)) → grown names (xs ++ ys) ≡ grown (grown names xs) ys
 grown_append [] ys names = refl
 grown_append (x ∷ xs) ys names = grown_append xs ys (if is_among x names then names else names ++ x ∷ [])
-
-or_left : (a b : Bool) → (a || b) ≡ false → a ≡ false
-or_left true b h = absurd (cc h)
-or_left false b h = refl
-
-or_right : (a b : Bool) → (a || b) ≡ false → b ≡ false
-or_right true b h = absurd (cc h)
-or_right false b h = h
 
 other_way : (x y : List ℕ) → bytes_eq x y ≡ false → bytes_eq y x ≡ false
 other_way x y h = elim (true_or_false (bytes_eq y x)) [
@@ -162,7 +181,7 @@ decides_all : (test : List ℕ → Bool) (xs : List (List ℕ)) → Decides (lis
 decides_all test xs = Decides-by_and test (λ x. test x ≡ true) (list_all test) (λ x. (λ h. h, λ h. h)) refl (λ _ _. refl) xs
 
 -- the test of sound names is right
-pub decides_sound : (names : Names_data) → (are_sound names ≡ true) ↔ IsSound names
+pub decides_sound : (names : Names_data) → IsTrue (are_sound names) ↔ IsSound names
 decides_sound names = (
     (λ h.
         let roles = and_left (differ names.roles && list_all is_role_word names.roles) (differ names.labels && list_all is_word names.labels) h in

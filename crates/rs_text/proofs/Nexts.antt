@@ -1,6 +1,6 @@
-use Rattle.std.proofs.Common.{◌≡◌, ℕ, zero, suc, ◌+◌, ◌≤◌, ◌<◌, ◌⊎◌, inl, inr, List, [], ◌∷◌, ◌++◌, length, drop, take, Bool, true, false, refl, sym, ap, ◌∙◌, subst, append_assoc, length-append, length-drop, arith}
+use Rattle.std.proofs.Common.{◌≡◌, ℕ, zero, suc, ◌+◌, ◌≤◌, ◌<◌, ◌⊎◌, ◌↔◌, inl, inr, List, [], ◌∷◌, ◌++◌, length, drop, take, Bool, true, false, refl, sym, ap, ◌∙◌, subst, append_assoc, length-append, length-drop, add-zero, arith}
 use Rattle.std.proofs.lemmas.List.{drop-drop}
-use Rattle.std.proofs.Math.Seq.{drop-append_seam}
+use Rattle.std.proofs.Math.Seq.{drop-append_seam, drop-length}
 use Rattle.rs_text.specs.Lexemes.{skipped, Front, front, front_of, Lexeme, placed, next_lexeme, is_last, Lexed}
 use Rattle.rs_text.specs.Bytes.{is_letter, is_digit}
 use Rattle.rs_text.specs.Words.{begins}
@@ -103,3 +103,17 @@ exists_by bytes (suc fuel) at h k =
 
 pub exists : (bytes : List ℕ) (at : ℕ) → at ≤ length bytes → (ls : List Lexeme) × AreTokens bytes at ls
 exists bytes at h = exists_by bytes (length bytes + 1) at h (omega arith)
+
+-- ---- as the laws say it
+
+pub next_token_law : (bytes : List ℕ) (at : ℕ) (l : Lexeme) → (l ≡ next_lexeme bytes at) ↔ IsNext bytes at l
+next_token_law bytes at l = (λ e. rw e (next_is_next bytes at), one_next bytes at l)
+
+pub tokens_law : (bytes : List ℕ) (at : ℕ) (ls : List Lexeme) → Lexed bytes at ls ↔ AreTokens bytes at ls
+tokens_law bytes at ls = (lexed_are bytes ls at, are_lexed bytes ls at)
+
+pub one_list_law : (bytes : List ℕ) (at : ℕ) (xs ys : List Lexeme) → AreTokens bytes at xs → AreTokens bytes at ys → xs ≡ ys
+one_list_law bytes at xs ys h k = one_list bytes xs ys at (are_lexed bytes xs at h) (are_lexed bytes ys at k)
+
+pub end_again : (bytes : List ℕ) → next_lexeme bytes (length bytes) ≡ record { sign = finish; from = length bytes; until = length bytes }
+end_again bytes = let none = add-zero (length bytes) in rw (drop-length bytes, none, drop-length bytes, none) refl

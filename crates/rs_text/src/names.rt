@@ -1,4 +1,4 @@
-ghost use Rattle.std.specs.Prelude.{◌≡◌, ◌≤◌, ◌++◌, ◌∷◌, [], length, OnOk, OnErr, IfOk};
+ghost use Rattle.std.specs.Prelude.{◌≡◌, ◌↔◌, IsTrue, ◌≤◌, ◌++◌, ◌∷◌, [], length, OnOk, OnErr, IfOk};
 ghost use Rattle.std.specs.List.{list_all};
 ghost use Rattle.rs_text.specs.Names.{place_of, is_among};
 ghost use Rattle.rs_text.specs.Bytes as bytes;
@@ -41,6 +41,13 @@ pub fn add(alloc: Global, names: &mut Vec<Name>, word: &[u8]) -> Result<u32, NoM
 /// Whether texts can have these names: the names of roles differ and are words other than `rec` and `end`, and the
 /// names of labels differ and are words.
 pub fn sound(names: &Names) -> bool
+    ensures means { IsTrue result ↔ spec.IsSound names.now }
+    ensures test { result ≡ spec.are_sound names.now }
+{
+    passes(names)
+}
+
+fn passes(names: &Names) -> bool
     ensures { result ≡ spec.are_sound names.now }
 {
     let roles = names.roles.as_slice();
