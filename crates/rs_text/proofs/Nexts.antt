@@ -29,7 +29,7 @@ pub next_is_next : (bytes : List ℕ) (at : ℕ) → IsNext bytes at (next_lexem
 next_is_next bytes at =
     let p = passed (drop at bytes) in
     rw (behind_gap bytes at (skipped false (drop at bytes)) (gap_bytes p.gap) p.behind p.parts p.size)
-        (next_at bytes at (skipped false (drop at bytes)) p (front_fits p.behind p.stops))
+    (next_at bytes at (skipped false (drop at bytes)) p (front_fits p.behind p.stops))
 
 same_lexeme : (l : Lexeme) (from until : ℕ) → l.from ≡ from → l.until ≡ until → l ≡ record { sign = l.sign; from = from; until = until }
 same_lexeme l from until p q = rw (← p, ← q) refl
@@ -58,8 +58,9 @@ one_list bytes (x ∷ xs) [] at h k = absurd k
 one_list bytes (x ∷ xs) (y ∷ ys) at h k =
     let e : y ≡ x = k.0 ∙ sym h.0 in
     elim (true_or_false (is_last x.sign)) [
-        inl last ↦ rw (e, h.1 last, k.1 (rw e last)) refl
-      | inr more ↦ rw e (ap (λ zs. x ∷ zs) (one_list bytes xs ys x.until (h.2 more) (rw e at (k.2 (rw e more))))) ]
+      | inl last ↦ rw (e, h.1 last, k.1 (rw e last)) refl
+      | inr more ↦ rw e (ap (λ zs. x ∷ zs) (one_list bytes xs ys x.until (h.2 more) (rw e at (k.2 (rw e more)))))
+    ]
 
 -- ---- in order and inside the bytes
 
@@ -92,14 +93,15 @@ exists_by bytes (suc fuel) at h k =
     let x = next_is_next bytes at in
     let w = within bytes at l h x in
     elim (true_or_false (is_last l.sign)) [
-        inl last ↦ (l ∷ [], (x, (λ _. refl), λ e. absurd (cc (e, last))))
+      | inl last ↦ (l ∷ [], (x, (λ _. refl), λ e. absurd (cc (e, last))))
       | inr more ↦
           let grows = takes_up l.sign x.text x.behind x.token more in
           let ahead = w.ahead in
           let inside = w.inside in
           let until = x.until in
           let rest = exists_by bytes fuel l.until inside (omega arith) in
-          (l ∷ rest.0, (x, (λ e. absurd (cc (e, more))), λ _. rest.1)) ]
+          (l ∷ rest.0, (x, (λ e. absurd (cc (e, more))), λ _. rest.1))
+    ]
 
 pub exists : (bytes : List ℕ) (at : ℕ) → at ≤ length bytes → (ls : List Lexeme) × AreTokens bytes at ls
 exists bytes at h = exists_by bytes (length bytes + 1) at h (omega arith)

@@ -49,7 +49,8 @@ reads_push n digits h r =
     let d = plus_is_digit (n % 10) (omega arith) in (
       (rw (value_push digits (48 + n % 10), r.0) (omega arith)),
       (rw (list_all-append is_digit digits ((48 + n % 10) ∷ []), r.1, d) refl),
-      (begins_more is_digit digits ((48 + n % 10) ∷ []) r.2))
+      (begins_more is_digit digits ((48 + n % 10) ∷ []) r.2),
+    )
 
 pub decimal_reads : (n : ℕ) → n < 2 ^ 64 → Reads n (decimal n)
 decimal_reads n h = decimal_by_steps Reads reads_digit reads_push n h

@@ -7,6 +7,8 @@ mod lexing;
 mod names;
 mod output;
 mod places;
+#[cfg(test)]
+mod tests;
 mod tokens;
 
 pub use faults::{TextFault, TextKind, Wanted};
