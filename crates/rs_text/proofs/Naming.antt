@@ -163,6 +163,36 @@ grown_all test (x ∷ xs) names h k = elim (true_or_false (is_among x names)) [
   | inr e ↦ rw e (grown_all test xs (names ++ x ∷ []) (rw (list_all-append test names (x ∷ []), h, and_left (test x) (list_all test xs) k) refl) (and_right (test x) (list_all test xs) k))
 ]
 
+pub grown_stays : (more names : List (List ℕ)) (name : List ℕ) (k : ℕ) → place_of name names ≡ Some k → place_of name (grown names more) ≡ Some k
+grown_stays [] names name k h = h
+grown_stays (x ∷ more) names name k h = elim (true_or_false (is_among x names)) [
+    inl e ↦ rw e (grown_stays more names name k h)
+  | inr e ↦ rw e (grown_stays more (names ++ x ∷ []) name k (place_stays names (x ∷ []) name k h)) ]
+
+or_nothing : (a : Bool) → a ≡ (a || false)
+or_nothing true = refl
+or_nothing false = refl
+
+regroup : (a b c : Bool) → ((a || (b || false)) || c) ≡ (a || (b || c))
+regroup true b c = refl
+regroup false true c = refl
+regroup false false c = refl
+
+-- a name that is among them needs no second place
+once : (x : List ℕ) (more names : List (List ℕ)) (name : List ℕ) → is_among x names ≡ true → (is_among name names || is_among name more) ≡ (is_among name names || is_among name (x ∷ more))
+once x more names name h = elim (true_or_false (bytes_eq x name)) [
+    inl e ↦ let has : is_among name names ≡ true = rw ((bytes_eq-Decides x name).0 e) at h in rw has refl
+  | inr e ↦ rw e refl ]
+
+pushed : (x : List ℕ) (more names : List (List ℕ)) (name : List ℕ) → (is_among name (names ++ x ∷ []) || is_among name more) ≡ (is_among name names || is_among name (x ∷ more))
+pushed x more names name = rw (list_any-append (λ z. bytes_eq z name) names (x ∷ [])) (regroup (is_among name names) (bytes_eq x name) (is_among name more))
+
+pub grown_among : (more names : List (List ℕ)) (name : List ℕ) → is_among name (grown names more) ≡ (is_among name names || is_among name more)
+grown_among [] names name = or_nothing (is_among name names)
+grown_among (x ∷ more) names name = elim (true_or_false (is_among x names)) [
+    inl e ↦ rw e (grown_among more names name ∙ once x more names name e)
+  | inr e ↦ rw e (grown_among more (names ++ x ∷ []) name ∙ pushed x more names name) ]
+
 -- ---- sound names
 
 distinct_others : (xs : List (List ℕ)) (x : List ℕ) → is_among x xs ≡ false → AllByRecursion (λ y. bytes_eq x y ≡ false) xs

@@ -1,10 +1,10 @@
 // What the definitions of tokens, names and numbers say together. The functions do nothing: each states a law.
-ghost use Rattle.std.specs.Prelude.{◌≡◌, ◌≢◌, ◌≤◌, ◌<◌, ◌↔◌, ◌++◌, ◌∷◌, ℕ, List, [], Bool, Some, None, length, slice_get, true, false};
+ghost use Rattle.std.specs.Prelude.{◌≡◌, ◌≢◌, ◌≤◌, ◌<◌, ◌↔◌, ◌||◌, ◌++◌, ◌∷◌, ℕ, List, [], Bool, Some, None, length, slice_get, true, false};
 ghost use Rattle.std.specs.Fmt.{decimal};
 ghost use Rattle.std.specs.List.{list_all};
 ghost use Rattle.rs_text.specs.Bytes.{is_digit};
 ghost use Rattle.rs_text.specs.Lexemes.{Lexeme, Lexed, next_lexeme};
-ghost use Rattle.rs_text.specs.Names.{place_of, grown, StandsFirst};
+ghost use Rattle.rs_text.specs.Names.{place_of, is_among, grown, StandsFirst};
 ghost use Rattle.rs_text.specs.Signs.{number, finish};
 ghost use Rattle.rs_text.specs.Sound.{differ};
 ghost use Rattle.rs_text.specs.Tokens.{AreTokens, IsNext, IsToken, IsWithin};
@@ -60,10 +60,22 @@ pub fn place_stays()
     ensures { (name : List ℕ) (names more : List (List ℕ)) (place : ℕ) → place_of name names ≡ Some place → place_of name (names ++ more) ≡ Some place }
 {}
 
+/// So it does where the names grow.
+pub fn place_stays_in_grown()
+    ensures { (name : List ℕ) (names more : List (List ℕ)) (place : ℕ) → place_of name names ≡ Some place → place_of name (grown names more) ≡ Some place }
+{
+}
+
 /// A new name gets the place behind all others.
 pub fn new_name_is_last()
     ensures { (name : List ℕ) (names : List (List ℕ)) → place_of name names ≡ None → place_of name (names ++ name ∷ []) ≡ Some (length names) }
 {}
+
+/// A name is among the grown ones exactly where it is among the old or the further ones.
+pub fn grown_has_both()
+    ensures { (name : List ℕ) (names more : List (List ℕ)) → is_among name (grown names more) ≡ (is_among name names || is_among name more) }
+{
+}
 
 /// Names that differ still do so when they have grown ..
 pub fn grown_names_differ()

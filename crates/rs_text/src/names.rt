@@ -1,4 +1,4 @@
-ghost use Rattle.std.specs.Prelude.{◌≡◌, ◌↔◌, IsTrue, ◌≤◌, ◌++◌, ◌∷◌, [], length, OnOk, OnErr, IfOk};
+ghost use Rattle.std.specs.Prelude.{◌≡◌, ◌↔◌, IsTrue, ◌++◌, ◌∷◌, [], length, OnOk, OnErr, IfOk};
 ghost use Rattle.std.specs.List.{list_all};
 ghost use Rattle.rs_text.specs.Names.{place_of, is_among};
 ghost use Rattle.rs_text.specs.Bytes as bytes;
@@ -10,29 +10,25 @@ use crate::lexing::{is_digit, is_letter};
 use rs_model::{Name, Names, NoMemory};
 use std::alloc::Global;
 
-/// The place of a name among others, the first one if there are more.
-pub fn find(names: &[Name], word: &[u8]) -> Option<u32>
-    requires { length names.now ≤ 65536 }
+/// The place of a name among others, the first one if it stands there more than once.
+pub fn find(names: &[Name], word: &[u8]) -> Option<usize>
     ensures { result ≡ place_of word.now names.now }
 {
-    let mut place: u32 = 0;
-    for name in names {
+    for (place, name) in names.iter().enumerate() {
         if name.as_slice() == word {
             return Some(place);
         }
-        place += 1;
     }
     None
 }
 
 /// Puts a name behind the others and gives its place; where memory is refused nothing changes.
-pub fn add(alloc: Global, names: &mut Vec<Name>, word: &[u8]) -> Result<u32, NoMemory>
-    requires { length names.now.items ≤ 65536 }
+pub fn add(alloc: Global, names: &mut Vec<Name>, word: &[u8]) -> Result<usize, NoMemory>
     ensures place { IfOk result (λ place. place ≡ length names.old.items) }
     ensures added { OnOk result (names.new.items ≡ names.old.items ++ word.now ∷ []) }
     ensures kept { OnErr result (names.new.items ≡ names.old.items) }
 {
-    let place = names.len() as u32;
+    let place = names.len();
     let name = Name::of(alloc, word)?;
     names.push(name)?;
     Ok(place)
