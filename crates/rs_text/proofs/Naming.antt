@@ -1,10 +1,10 @@
-use Rattle.std.proofs.Common.{◌≡◌, ◌≢◌, ℕ, zero, suc, ◌+◌, ◌<◌, ◌≤◌, List, [], ◌∷◌, ◌++◌, length, Bool, true, false, if◌then◌else◌, ◌&&◌, ◌||◌, Option, Some, None, ◌⊎◌, ◌↔◌, inl, inr, refl, sym, ap, ◌∙◌, append_assoc, arith, cond}
-use Rattle.std.proofs.lemmas.Bool.Decides.{Decides-by_and, Decides-and}
+use Rattle.std.proofs.Common.{◌≡◌, ◌≢◌, ℕ, zero, suc, ◌+◌, ◌<◌, List, [], ◌∷◌, ◌++◌, length, Bool, true, false, if◌then◌else◌, ◌&&◌, ◌||◌, Option, Some, None, ◌⊎◌, ◌↔◌, inl, inr, refl, sym, ap, ◌∙◌, arith}
+use Rattle.std.proofs.lemmas.Bool.Decides.{Decides-by_and}
 use Rattle.std.proofs.lemmas.List.Folds.{list_any-append, list_all-append}
 use Rattle.std.proofs.lemmas.Slice.Eq.{bytes_eq-Decides}
 use Rattle.std.proofs.lemmas.Map.Made.{AllPairs-from_IsDistinct, IsDistinct-from_AllPairs}
 use Rattle.std.specs.Bool.{Decides, IsTrue}
-use Rattle.std.specs.List.{list_any, list_all, All, AllPairs, AllByRecursion, IsDistinct}
+use Rattle.std.specs.List.{list_all, All, AllPairs, AllByRecursion, IsDistinct}
 use Rattle.std.specs.Prelude.{slice_get}
 use Rattle.std.specs.Str.{bytes_eq}
 use Rattle.rs_text.specs.Names.{place_from, place_of, is_among, grown, StandsFirst}
@@ -166,8 +166,9 @@ grown_all test (x ∷ xs) names h k = elim (true_or_false (is_among x names)) [
 pub grown_stays : (more names : List (List ℕ)) (name : List ℕ) (k : ℕ) → place_of name names ≡ Some k → place_of name (grown names more) ≡ Some k
 grown_stays [] names name k h = h
 grown_stays (x ∷ more) names name k h = elim (true_or_false (is_among x names)) [
-    inl e ↦ rw e (grown_stays more names name k h)
-  | inr e ↦ rw e (grown_stays more (names ++ x ∷ []) name k (place_stays names (x ∷ []) name k h)) ]
+  | inl e ↦ rw e (grown_stays more names name k h)
+  | inr e ↦ rw e (grown_stays more (names ++ x ∷ []) name k (place_stays names (x ∷ []) name k h))
+]
 
 or_nothing : (a : Bool) → a ≡ (a || false)
 or_nothing true = refl
@@ -181,8 +182,9 @@ regroup false false c = refl
 -- a name that is among them needs no second place
 once : (x : List ℕ) (more names : List (List ℕ)) (name : List ℕ) → is_among x names ≡ true → (is_among name names || is_among name more) ≡ (is_among name names || is_among name (x ∷ more))
 once x more names name h = elim (true_or_false (bytes_eq x name)) [
-    inl e ↦ let has : is_among name names ≡ true = rw ((bytes_eq-Decides x name).0 e) at h in rw has refl
-  | inr e ↦ rw e refl ]
+  | inl e ↦ let has : is_among name names ≡ true = rw ((bytes_eq-Decides x name).0 e) at h in rw has refl
+  | inr e ↦ rw e refl
+]
 
 pushed : (x : List ℕ) (more names : List (List ℕ)) (name : List ℕ) → (is_among name (names ++ x ∷ []) || is_among name more) ≡ (is_among name names || is_among name (x ∷ more))
 pushed x more names name = rw (list_any-append (λ z. bytes_eq z name) names (x ∷ [])) (regroup (is_among name names) (bytes_eq x name) (is_among name more))
@@ -190,8 +192,9 @@ pushed x more names name = rw (list_any-append (λ z. bytes_eq z name) names (x 
 pub grown_among : (more names : List (List ℕ)) (name : List ℕ) → is_among name (grown names more) ≡ (is_among name names || is_among name more)
 grown_among [] names name = or_nothing (is_among name names)
 grown_among (x ∷ more) names name = elim (true_or_false (is_among x names)) [
-    inl e ↦ rw e (grown_among more names name ∙ once x more names name e)
-  | inr e ↦ rw e (grown_among more (names ++ x ∷ []) name ∙ pushed x more names name) ]
+  | inl e ↦ rw e (grown_among more names name ∙ once x more names name e)
+  | inr e ↦ rw e (grown_among more (names ++ x ∷ []) name ∙ pushed x more names name)
+]
 
 -- ---- sound names
 

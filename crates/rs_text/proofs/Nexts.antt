@@ -1,7 +1,7 @@
-use Rattle.std.proofs.Common.{◌≡◌, ℕ, zero, suc, ◌+◌, ◌≤◌, ◌<◌, ◌⊎◌, ◌↔◌, inl, inr, List, [], ◌∷◌, ◌++◌, length, drop, take, Bool, true, false, refl, sym, ap, ◌∙◌, subst, append_assoc, length-append, length-drop, add-zero, arith}
+use Rattle.std.proofs.Common.{◌≡◌, ℕ, zero, suc, ◌+◌, ◌≤◌, ◌<◌, ◌↔◌, inl, inr, List, [], ◌∷◌, ◌++◌, length, drop, Bool, true, false, refl, sym, ap, ◌∙◌, subst, length-append, length-drop, add-zero, arith}
 use Rattle.std.proofs.lemmas.List.{drop-drop}
 use Rattle.std.proofs.Math.Seq.{drop-append_seam, drop-length}
-use Rattle.rs_text.specs.Lexemes.{skipped, Front, front, front_of, Lexeme, placed, next_lexeme, is_last, Lexed}
+use Rattle.rs_text.specs.Lexemes.{skipped, front_of, Lexeme, placed, next_lexeme, is_last, Lexed}
 use Rattle.rs_text.specs.Bytes.{is_letter, is_digit}
 use Rattle.rs_text.specs.Words.{begins}
 use Rattle.rs_text.specs.Signs.{Sign, rec_word, end_word, plain, number, finish, broken}

@@ -1,5 +1,5 @@
 -- What the tokens of a text are, apart from any way to find them.
-use Rattle.std.specs.Prelude.{◌≡◌, ◌≢◌, ◌<◌, ◌≤◌, ◌+◌, ℕ, List, [], ◌∷◌, ◌++◌, length, drop, codes, ◌==◌, Bool, true, false}
+use Rattle.std.specs.Prelude.{◌≡◌, ◌≢◌, ◌<◌, ◌≤◌, ◌+◌, ℕ, List, [], ◌∷◌, ◌++◌, length, drop, codes, ◌==◌, true, false}
 use Rattle.std.specs.List.{list_all, list_any}
 use Rattle.rs_text.specs.declared.tokens.FaultKind.{FaultKind}
 use Rattle.rs_text.specs.declared.tokens.FaultKind.TheVariants as fault

@@ -63,8 +63,7 @@ pub fn place_stays()
 /// So it does where the names grow.
 pub fn place_stays_in_grown()
     ensures { (name : List ℕ) (names more : List (List ℕ)) (place : ℕ) → place_of name names ≡ Some place → place_of name (grown names more) ≡ Some place }
-{
-}
+{}
 
 /// A new name gets the place behind all others.
 pub fn new_name_is_last()
@@ -74,8 +73,7 @@ pub fn new_name_is_last()
 /// A name is among the grown ones exactly where it is among the old or the further ones.
 pub fn grown_has_both()
     ensures { (name : List ℕ) (names more : List (List ℕ)) → is_among name (grown names more) ≡ (is_among name names || is_among name more) }
-{
-}
+{}
 
 /// Names that differ still do so when they have grown ..
 pub fn grown_names_differ()

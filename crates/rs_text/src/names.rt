@@ -6,7 +6,7 @@ ghost use Rattle.rs_text.specs.Words as words;
 ghost use Rattle.rs_text.specs.Words.{begins};
 ghost use Rattle.rs_text.specs.Sound as spec;
 
-use crate::lexing::{is_digit, is_letter};
+use crate::lexing::{LONGEST_WORD, is_digit, is_letter};
 use rs_model::{Name, Names, NoMemory};
 use std::alloc::Global;
 
@@ -90,7 +90,7 @@ fn is_role_word(text: &[u8]) -> bool
 fn is_word(text: &[u8]) -> bool
     ensures { result ≡ words.is_word text.now }
 {
-    starts_as_word(text) && are_word_bytes(text) && text.len() <= 64
+    starts_as_word(text) && are_word_bytes(text) && text.len() <= LONGEST_WORD
 }
 
 fn starts_as_word(text: &[u8]) -> bool

@@ -1,4 +1,3 @@
-use Rattle.std.proofs.Common.{◌<◌, arith}
 use Rattle.rs_text.proofs.Values.{too_large}
 use Rattle.rs_text.proofs.lexing.number.Goals as goal
 
