@@ -1,0 +1,6 @@
+pub mod Values
+pub mod Fronts
+pub mod Gaps
+pub mod Starts
+pub mod Nexts
+pub mod Naming

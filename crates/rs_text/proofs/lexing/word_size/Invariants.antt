@@ -1,0 +1,6 @@
+use Rattle.std.proofs.Common.{◌≡◌, ◌+◌, drop}
+use Rattle.rs_text.specs.Lexemes.{word_length}
+use Rattle.rs_text.proofs.lexing.word_size.Given as goal
+
+abbrev pub invariant-loop-place : goal.invariant-loop-place
+invariant-loop-place l = l.place + word_length (drop l.place l.bytes) ≡ word_length l.bytes

@@ -1,0 +1,6 @@
+-- What contracts see of the types with private fields.
+use Rattle.std.specs.Prelude.{ℕ, List}
+
+pub record Lexer_data : Type 0 where
+  pub bytes : List ℕ
+  pub at : ℕ

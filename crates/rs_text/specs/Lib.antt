@@ -1,0 +1,10 @@
+pub mod Data
+pub mod Bytes
+pub mod Words
+pub mod Signs
+pub mod Lexemes
+pub mod Tokens
+pub mod Places
+pub mod Names
+pub mod Sound
+pub mod Faults

@@ -1,0 +1,35 @@
+-- Names by their places, and names that recursions bind.
+use Rattle.std.specs.Prelude.{◌≡◌, ◌≢◌, ◌<◌, slice_get, ℕ, Bool, suc, List, [], ◌∷◌, ◌++◌, Option, Some, None, if◌then◌else◌}
+use Rattle.std.specs.List.{list_any}
+use Rattle.std.specs.Str.{bytes_eq}
+
+-- the first place of a name, counted from n
+abbrev pub place_from : ℕ → List ℕ → List (List ℕ) → Option ℕ
+place_from n name [] = None
+place_from n name (x ∷ xs) = if bytes_eq x name then Some n else place_from (suc n) name xs
+
+-- the first place of a name among names, from 0
+abbrev pub place_of : List ℕ → List (List ℕ) → Option ℕ
+place_of name names = place_from 0 name names
+
+-- the name stands at the place and at none before it
+pub record StandsFirst (name : List ℕ) (names : List (List ℕ)) (place : ℕ) : Type 0 where
+  pub there : slice_get names place ≡ Some name
+  pub first : (k : ℕ) → k < place → slice_get names k ≢ Some name
+
+abbrev pub is_among : List ℕ → List (List ℕ) → Bool
+is_among name names = list_any (λ x. bytes_eq x name) names
+
+-- the names with further ones behind them, in order of their first places
+abbrev pub grown : List (List ℕ) → List (List ℕ) → List (List ℕ)
+grown names [] = names
+grown names (x ∷ xs) = grown (if is_among x names then names else names ++ x ∷ []) xs
+
+-- the recursion names round a place, the nearest first, each with a number
+abbrev pub Bound : Type 0
+Bound = List (List ℕ × ℕ)
+
+-- the number of the nearest one of a name
+abbrev pub bound_to : List ℕ → Bound → Option ℕ
+bound_to name [] = None
+bound_to name (b ∷ bs) = if bytes_eq b.0 name then Some b.1 else bound_to name bs

@@ -1,0 +1,18 @@
+-- Words.
+use Rattle.std.specs.Prelude.{ℕ, List, [], ◌∷◌, length, codes, not, nat_le, Bool, false, ◌&&◌}
+use Rattle.std.specs.List.{list_all}
+use Rattle.std.specs.Str.{bytes_eq}
+use Rattle.rs_text.specs.Bytes.{is_letter, is_word_byte}
+
+-- there is a first byte, and it passes
+abbrev pub begins : (ℕ → Bool) → List ℕ → Bool
+begins test [] = false
+begins test (b ∷ bs) = test b
+
+-- a letter or _, then letters, digits and _: 1 to 64 bytes
+abbrev pub is_word : List ℕ → Bool
+is_word text = begins is_letter text && (list_all is_word_byte text && nat_le (length text) 64)
+
+-- a word other than rec and end
+abbrev pub is_role_word : List ℕ → Bool
+is_role_word text = is_word text && (not (bytes_eq text (codes "rec")) && not (bytes_eq text (codes "end")))

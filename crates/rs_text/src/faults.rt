@@ -1,0 +1,174 @@
+ghost use Rattle.std.specs.Prelude.{◌≡◌};
+ghost use Rattle.rs_text.specs.Faults.{wanted_text, kind_of};
+
+use crate::{Fault, FaultKind};
+
+/// What a reader wanted at a place of the grammar.
+#[derive(Clone, Copy, Debug, PartialEq, Eq)]
+pub enum Wanted {
+    /// The first token.
+    Roles,
+    /// A role.
+    Role,
+    /// Behind the first role of the roles line.
+    Comma,
+    /// Behind a further role of the roles line.
+    CommaOrProtocol,
+    /// The start of a body.
+    Body,
+    /// Behind `rec`.
+    Name,
+    /// Behind `rec` and its name, and behind `)` of an arm.
+    Dot,
+    /// Behind a receiver.
+    ColonOrBrace,
+    /// Behind `!` or `?` in a machine.
+    LabelOrBrace,
+    /// The start of an arm, and behind the mark of an act.
+    Label,
+    /// Behind a label.
+    OpenParen,
+    /// Behind `(`.
+    SortOrCloseParen,
+    /// Behind a sort.
+    CloseParen,
+    /// Behind an arm within braces.
+    CommaOrCloseBrace,
+    /// Behind a machine's role, and behind a node's number.
+    Colon,
+    /// Behind the protocol or a machine.
+    PartOrEnd,
+    /// Behind a derivation.
+    DerivationOrEnd,
+    /// Behind a derivation's role.
+    Bound,
+    /// Behind `bound`.
+    BoundNumber,
+    /// Behind the bound.
+    OpenBrace,
+    /// The first node of a derivation.
+    Node,
+    /// Behind a node of a derivation.
+    NodeOrCloseBrace,
+    /// A node's state, its above state, its rank, and a next behind a comma.
+    Number,
+    /// Before the pending acts and before the nexts.
+    OpenBracket,
+    /// Behind the `[` of the acts.
+    ActOrCloseBracket,
+    /// Behind an act, and behind a next.
+    CommaOrCloseBracket,
+    /// Behind the above state.
+    Rank,
+    /// Behind the rank.
+    Next,
+    /// Behind the `[` of the nexts.
+    NumberOrCloseBracket,
+    /// Behind the role of an act.
+    Mark,
+}
+
+impl Wanted {
+    /// The words of the fault's line, as in `malformed 1:1 expected roles`.
+    pub fn text(self) -> &'static str
+        ensures { result.now ≡ wanted_text self }
+    {
+        match self {
+            Wanted::Roles => "roles",
+            Wanted::Role => "role",
+            Wanted::Comma => ",",
+            Wanted::CommaOrProtocol => ", or protocol",
+            Wanted::Body => "body",
+            Wanted::Name => "name",
+            Wanted::Dot => ".",
+            Wanted::ColonOrBrace => ": or {",
+            Wanted::LabelOrBrace => "label or {",
+            Wanted::Label => "label",
+            Wanted::OpenParen => "(",
+            Wanted::SortOrCloseParen => "sort or )",
+            Wanted::CloseParen => ")",
+            Wanted::CommaOrCloseBrace => ", or }",
+            Wanted::Colon => ":",
+            Wanted::PartOrEnd => "machine, derivation or the end",
+            Wanted::DerivationOrEnd => "derivation or the end",
+            Wanted::Bound => "bound",
+            Wanted::BoundNumber => "number from 1 to 64",
+            Wanted::OpenBrace => "{",
+            Wanted::Node => "node",
+            Wanted::NodeOrCloseBrace => "node or }",
+            Wanted::Number => "number",
+            Wanted::OpenBracket => "[",
+            Wanted::ActOrCloseBracket => "act or ]",
+            Wanted::CommaOrCloseBracket => ", or ]",
+            Wanted::Rank => "rank",
+            Wanted::Next => "next",
+            Wanted::NumberOrCloseBracket => "number or ]",
+            Wanted::Mark => "! or ?",
+        }
+    }
+}
+
+/// The kinds of faults of all readers.
+#[derive(Clone, Copy, Debug, PartialEq, Eq)]
+pub enum TextKind {
+    /// The token doesn't continue the text: something else was wanted.
+    Expected(Wanted),
+    /// A role that the roles line hasn't.
+    UnknownRole,
+    /// A recursion name that no `rec` round it binds.
+    UnboundName,
+    /// A role's second place where it may have one.
+    NameTwice,
+    /// The `rec` or `{` that makes the nesting 201.
+    TooDeep,
+    /// The 17th role.
+    TooManyRoles,
+    /// One talk, act or node more than the limit.
+    TooManyNodes,
+    /// Memory that was asked for was refused.
+    NoMemory,
+    /// A recursion name with no talk or act between its `rec` and itself.
+    Unguarded,
+    /// The 257th label.
+    TooManyLabels,
+    /// A byte that begins no token.
+    BadByte,
+    /// A number above 4,294,967,295.
+    NumberTooLarge,
+    /// A word of more than 64 bytes.
+    NameTooLong,
+}
+
+/// The first fault of a text, and the offset of its token.
+#[derive(Clone, Copy, Debug, PartialEq, Eq)]
+pub struct TextFault {
+    pub kind: TextKind,
+    pub at: usize,
+}
+
+impl From<FaultKind> for TextKind {
+    ghost use Rattle.rs_text.specs.Faults.{kind_of};
+
+    ghost from_gives = { λ kind result. result ≡ kind_of kind };
+
+    fn from(kind: FaultKind) -> Self {
+        match kind {
+            FaultKind::BadByte => TextKind::BadByte,
+            FaultKind::NumberTooLarge => TextKind::NumberTooLarge,
+            FaultKind::NameTooLong => TextKind::NameTooLong,
+        }
+    }
+}
+
+impl From<Fault> for TextFault {
+    ghost use Rattle.rs_text.specs.Faults.{kind_of};
+
+    ghost from_gives = { λ fault result. result ≡ record { kind = kind_of fault.kind; at = fault.at } };
+
+    fn from(fault: Fault) -> Self {
+        TextFault {
+            kind: TextKind::from(fault.kind),
+            at: fault.at,
+        }
+    }
+}

@@ -1,0 +1,19 @@
+//! Texts: their tokens, places, names and faults, and the buffer that texts are written into.
+#![tactic(auto)]
+
+mod faults;
+pub mod laws;
+mod lexing;
+mod names;
+mod output;
+mod places;
+#[cfg(test)]
+mod tests;
+mod tokens;
+
+pub use faults::{TextFault, TextKind, Wanted};
+pub use lexing::{Lexer, number};
+pub use names::{add, find, sound};
+pub use output::Text;
+pub use places::place;
+pub use tokens::{Fault, FaultKind, Kind, Token};

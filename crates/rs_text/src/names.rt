@@ -1,0 +1,109 @@
+ghost use Rattle.std.specs.Prelude.{◌≡◌, ◌↔◌, IsTrue, ◌++◌, ◌∷◌, [], length, OnOk, OnErr, IfOk};
+ghost use Rattle.std.specs.List.{list_all};
+ghost use Rattle.rs_text.specs.Names.{place_of, is_among};
+ghost use Rattle.rs_text.specs.Bytes as bytes;
+ghost use Rattle.rs_text.specs.Words as words;
+ghost use Rattle.rs_text.specs.Words.{begins};
+ghost use Rattle.rs_text.specs.Sound as spec;
+
+use crate::lexing::{LONGEST_WORD, is_digit, is_letter};
+use rs_model::{Name, Names, NoMemory};
+use std::alloc::Global;
+
+/// The place of a name among others, the first one if it stands there more than once.
+pub fn find(names: &[Name], word: &[u8]) -> Option<usize>
+    ensures { result ≡ place_of word.now names.now }
+{
+    for (place, name) in names.iter().enumerate() {
+        if name.as_slice() == word {
+            return Some(place);
+        }
+    }
+    None
+}
+
+/// Puts a name behind the others and gives its place; where memory is refused nothing changes.
+pub fn add(alloc: Global, names: &mut Vec<Name>, word: &[u8]) -> Result<usize, NoMemory>
+    ensures place { IfOk result (λ place. place ≡ length names.old.items) }
+    ensures added { OnOk result (names.new.items ≡ names.old.items ++ word.now ∷ []) }
+    ensures kept { OnErr result (names.new.items ≡ names.old.items) }
+{
+    let place = names.len();
+    let name = Name::of(alloc, word)?;
+    names.push(name)?;
+    Ok(place)
+}
+
+/// Whether texts can have these names: the names of roles differ and are words other than `rec` and `end`, and the
+/// names of labels differ and are words.
+pub fn sound(names: &Names) -> bool
+    ensures means { IsTrue result ↔ spec.IsSound names.now }
+    ensures test { result ≡ spec.are_sound names.now }
+{
+    passes(names)
+}
+
+fn passes(names: &Names) -> bool
+    ensures { result ≡ spec.are_sound names.now }
+{
+    let roles = names.roles.as_slice();
+    let labels = names.labels.as_slice();
+    differ(roles) && are_role_words(roles) && differ(labels) && are_words(labels)
+}
+
+fn differ(names: &[Name]) -> bool
+    ensures { result ≡ spec.differ names.now }
+{
+    for (place, name) in names.iter().enumerate() {
+        let (_, later) = names.split_at(place + 1);
+        if has(later, name.as_slice()) {
+            return false;
+        }
+    }
+    true
+}
+
+fn has(names: &[Name], word: &[u8]) -> bool
+    ensures { result ≡ is_among word.now names.now }
+{
+    names.iter().any(|name| name.as_slice() == word)
+}
+
+fn are_role_words(names: &[Name]) -> bool
+    ensures { result ≡ list_all words.is_role_word names.now }
+{
+    names.iter().all(|name| is_role_word(name.as_slice()))
+}
+
+fn are_words(names: &[Name]) -> bool
+    ensures { result ≡ list_all words.is_word names.now }
+{
+    names.iter().all(|name| is_word(name.as_slice()))
+}
+
+fn is_role_word(text: &[u8]) -> bool
+    ensures { result ≡ words.is_role_word text.now }
+{
+    is_word(text) && text != b"rec".as_slice() && text != b"end".as_slice()
+}
+
+fn is_word(text: &[u8]) -> bool
+    ensures { result ≡ words.is_word text.now }
+{
+    starts_as_word(text) && are_word_bytes(text) && text.len() <= LONGEST_WORD
+}
+
+fn starts_as_word(text: &[u8]) -> bool
+    ensures { result ≡ begins bytes.is_letter text.now }
+{
+    match text {
+        [first, ..] => is_letter(*first),
+        [] => false,
+    }
+}
+
+fn are_word_bytes(text: &[u8]) -> bool
+    ensures { result ≡ list_all bytes.is_word_byte text.now }
+{
+    text.iter().all(|byte| is_letter(*byte) || is_digit(*byte))
+}
