@@ -13,7 +13,7 @@ mod tokens;
 
 pub use faults::{TextFault, TextKind, Wanted};
 pub use lexing::{Lexer, number};
-pub use names::{add, find, sound};
+pub use names::{add, find, is_role_word, is_word, sound};
 pub use output::Text;
 pub use places::place;
 pub use tokens::{Fault, FaultKind, Kind, Token};

@@ -81,13 +81,15 @@ fn are_words(names: &[Name]) -> bool
     names.iter().all(|name| is_word(name.as_slice()))
 }
 
-fn is_role_word(text: &[u8]) -> bool
+/// Whether the text is a word other than `rec` and `end`, which may name a role.
+pub fn is_role_word(text: &[u8]) -> bool
     ensures { result ≡ words.is_role_word text.now }
 {
     is_word(text) && text != b"rec".as_slice() && text != b"end".as_slice()
 }
 
-fn is_word(text: &[u8]) -> bool
+/// Whether the text is a word: a letter or `_`, then letters, digits and `_`, 64 bytes at most.
+pub fn is_word(text: &[u8]) -> bool
     ensures { result ≡ words.is_word text.now }
 {
     starts_as_word(text) && are_word_bytes(text) && text.len() <= LONGEST_WORD

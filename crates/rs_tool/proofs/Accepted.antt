@@ -7,7 +7,8 @@ use Rattle.std.proofs.Math.Seq.{take-append_seam, drop-append_seam}
 use Rattle.std.proofs.lemmas.Bool.{leb-true, le-leb, eqb-true}
 use Rattle.std.proofs.lemmas.Slice.Eq.{bytes_eq-Decides}
 use Rattle.rs_tool.specs.declared.straight.Talk.{Talk}
-use Rattle.rs_tool.specs.Words.{is_word_byte, is_word, is_role_name}
+use Rattle.rs_text.specs.Bytes.{is_word_byte}
+use Rattle.rs_text.specs.Words.{is_word, is_role_word}
 use Rattle.rs_tool.specs.Straight.{Straight_data, IsStraight, SpellsStraight, IsSpelt, SpellsNone, protocol_text, machine_text, machines_text, act_text, acts_of, labels_of, are_short, all_differ, is_between_roles, sends, receives}
 use Rattle.rs_tool.specs.StraightReader.{◌>>=◌, word_of, behind_part, behind_parts, has_roles, has_talks, is_small, is_straight, straight_at, straight_of}
 use Rattle.rs_tool.proofs.Canonical.{from_bind, cond_cases, cond_some, starts_with-is, straight_at-is}
@@ -40,8 +41,8 @@ pub tests-tell : (s : Straight_data) → is_straight s ≡ true → IsStraight s
 tests-tell s e =
     let all = both (has_roles s && has_talks s) (is_small s) e in
     let two = both (has_roles s) (has_talks s) all.0 in
-    let r1 = both (nat_le 2 (length s.roles) && nat_le (length s.roles) 16 && list_all is_role_name s.roles) (all_differ s.roles) two.0 in
-    let r2 = both (nat_le 2 (length s.roles) && nat_le (length s.roles) 16) (list_all is_role_name s.roles) r1.0 in
+    let r1 = both (nat_le 2 (length s.roles) && nat_le (length s.roles) 16 && list_all is_role_word s.roles) (all_differ s.roles) two.0 in
+    let r2 = both (nat_le 2 (length s.roles) && nat_le (length s.roles) 16) (list_all is_role_word s.roles) r1.0 in
     let r3 = both (nat_le 2 (length s.roles)) (nat_le (length s.roles) 16) r2.0 in
     let t1 = both (nat_le (length s.talks) 1024 && list_all (is_between_roles s.roles) s.talks) (list_all (λ t. is_word t.label) s.talks) two.1 in
     let t2 = both (nat_le (length s.talks) 1024) (list_all (is_between_roles s.roles) s.talks) t1.0 in
@@ -133,9 +134,9 @@ parts-again talks (role ∷ roles) (false ∷ parts) runs differ many short =
 
 -- ---- the whole text
 
-pub role-runs : (roles : List (List ℕ)) → list_all is_role_name roles ≡ true → AreRuns roles
+pub role-runs : (roles : List (List ℕ)) → list_all is_role_word roles ≡ true → AreRuns roles
 role-runs [] h = tt
-role-runs (r ∷ rs) h = let t = both (is_role_name r) _ h in (word-run r (role-word r t.0), role-runs rs t.1)
+role-runs (r ∷ rs) h = let t = both (is_role_word r) _ h in (word-run r (role-word r t.0), role-runs rs t.1)
 
 -- a name that is among names of roles is one
 among-runs : (w : List ℕ) (roles : List (List ℕ)) → AreRuns roles → list_any (λ role. bytes_eq w role) roles ≡ true → IsRun w

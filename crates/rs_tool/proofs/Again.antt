@@ -8,7 +8,8 @@ use Rattle.std.proofs.lemmas.Slice.Eq.{bytes_eq-Decides}
 use Rattle.rs_model.specs.declared.values.Sort.{Sort}
 use Rattle.rs_model.specs.declared.values.Sort.TheVariants as sort
 use Rattle.rs_tool.specs.declared.straight.Talk.{Talk}
-use Rattle.rs_tool.specs.Words.{is_letter, is_word_byte, is_word, is_role_name}
+use Rattle.rs_text.specs.Bytes.{is_letter, is_word_byte}
+use Rattle.rs_text.specs.Words.{begins, is_word, is_role_word}
 use Rattle.rs_tool.specs.Straight.{Straight_data, sort_text, names_text, payload_text, talk_text, protocol_text}
 use Rattle.rs_tool.specs.StraightReader.{◌>>=◌, behind, word_length, word_of, behind_word, sort_of, talk_at, names_at, talks_at, straight_at}
 use Rattle.rs_tool.proofs.Canonical.{behind-is}
@@ -34,14 +35,10 @@ behind_word-again : (w r : List ℕ) (c : ℕ) → IsRun w → is_word_byte c �
 behind_word-again w r c h d = rw (word_length-again w r c h d) (drop-append_seam w (c ∷ r))
 
 pub word-run : (w : List ℕ) → is_word w ≡ true → IsRun w
-word-run [] h = absurd cc
-word-run (b ∷ bs) h =
-    let t = both (is_letter b && list_all is_word_byte bs) _ h in
-    let u = both (is_letter b) (list_all is_word_byte bs) t.0 in
-    rw (u.0, u.1) refl
+word-run w h = (both (list_all is_word_byte w) _ (both (begins is_letter w) _ h).1).0
 
-pub role-word : (w : List ℕ) → is_role_name w ≡ true → is_word w ≡ true
-role-word w h = (both (is_word w) _ (both _ _ h).0).0
+pub role-word : (w : List ℕ) → is_role_word w ≡ true → is_word w ≡ true
+role-word w h = (both (is_word w) _ h).0
 
 sort-again : (s : Sort) (r : List ℕ) → (sort_of (word_of (sort_text s ++ (codes "). " ++ r))) ≡ Some s) × (behind (codes "). ") (behind_word (sort_text s ++ (codes "). " ++ r))) ≡ Some r)
 sort-again sort.Unit r = (refl, refl)

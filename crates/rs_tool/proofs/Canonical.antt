@@ -9,7 +9,8 @@ use Rattle.std.proofs.lemmas.Slice.Eq.{bytes_eq-Decides}
 use Rattle.rs_model.specs.declared.values.Sort.{Sort}
 use Rattle.rs_model.specs.declared.values.Sort.TheVariants as sort
 use Rattle.rs_tool.specs.declared.straight.Talk.{Talk}
-use Rattle.rs_tool.specs.Words.{is_word_byte, is_word, is_role_name}
+use Rattle.rs_text.specs.Bytes.{is_word_byte}
+use Rattle.rs_text.specs.Words.{is_word, is_role_word}
 use Rattle.rs_tool.specs.Straight.{Straight_data, sort_text, names_text, payload_text, talk_text, protocol_text}
 use Rattle.rs_tool.specs.StraightReader.{◌>>=◌, behind, word_length, word_of, behind_word, sort_of, talk_at, names_at, talks_at, straight_at}
 

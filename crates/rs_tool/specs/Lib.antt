@@ -1,4 +1,3 @@
-pub mod Words
 pub mod Straight
 pub mod StraightReader
 pub mod Answer

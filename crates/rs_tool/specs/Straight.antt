@@ -9,7 +9,7 @@ use Rattle.rs_model.specs.Data.{Machine_data}
 use Rattle.rs_core.specs.Straight.{StraightTalk, machines_of_straight}
 use Rattle.rs_core.specs.Safety.{IsSafe}
 use Rattle.rs_tool.specs.declared.straight.Talk.{Talk}
-use Rattle.rs_tool.specs.Words.{is_word, is_role_name}
+use Rattle.rs_text.specs.Words.{is_word, is_role_word}
 
 -- the names of the roles, and the talks in order
 pub record Straight_data : Type 0 where
@@ -95,7 +95,7 @@ acts_of talks role = count_by (involves role) talks
 pub record IsStraight (s : Straight_data) : Type 0 where
   pub two_roles : 2 ≤ length s.roles
   pub few_roles : length s.roles ≤ 16
-  pub role_names : IsTrue (list_all is_role_name s.roles)
+  pub role_names : IsTrue (list_all is_role_word s.roles)
   pub different_roles : IsTrue (all_differ s.roles)
   pub few_talks : length s.talks ≤ 1024
   pub between_roles : IsTrue (list_all (is_between_roles s.roles) s.talks)

@@ -5,7 +5,8 @@ use Rattle.std.specs.Str.{bytes_eq}
 use Rattle.rs_model.specs.declared.values.Sort.{Sort}
 use Rattle.rs_model.specs.declared.values.Sort.TheVariants as sort
 use Rattle.rs_tool.specs.declared.straight.Talk.{Talk}
-use Rattle.rs_tool.specs.Words.{is_word_byte, is_word, is_role_name}
+use Rattle.rs_text.specs.Bytes.{is_word_byte}
+use Rattle.rs_text.specs.Words.{is_word, is_role_word}
 use Rattle.rs_tool.specs.Straight.{Straight_data, machine_text, acts_of, labels_of, all_differ, is_between_roles}
 
 infixl 10 ◌>>=◌
@@ -86,7 +87,7 @@ behind_parts talks (role ∷ roles) bytes = behind_parts talks roles (behind_par
 
 -- the tests of a straight protocol
 abbrev pub has_roles : Straight_data → Bool
-has_roles s = nat_le 2 (length s.roles) && nat_le (length s.roles) 16 && list_all is_role_name s.roles && all_differ s.roles
+has_roles s = nat_le 2 (length s.roles) && nat_le (length s.roles) 16 && list_all is_role_word s.roles && all_differ s.roles
 
 abbrev pub has_talks : Straight_data → Bool
 has_talks s = nat_le (length s.talks) 1024 && list_all (is_between_roles s.roles) s.talks && list_all (λ t. is_word t.label) s.talks

@@ -12,8 +12,8 @@ use crate::accepting::{MOST_BYTES, read_straight};
 use crate::printing::report_text;
 use crate::status::Status;
 use crate::straight::Straight;
-use crate::text::Text;
 use rs_model::NoMemory;
+use rs_text::Text;
 use std::alloc::Global;
 use std::marker::Model;
 

@@ -10,7 +10,6 @@ mod reading;
 mod running;
 mod status;
 mod straight;
-mod text;
 
 pub use running::{command, command_serial};
 pub use status::{Reply, Serial, Status};

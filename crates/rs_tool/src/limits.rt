@@ -3,35 +3,16 @@
 ghost use Rattle.std.specs.Prelude.{◌≡◌, ◌≤◌, length, IfOk, OnOk, nat_lt, count_by};
 ghost use Rattle.std.specs.List.{list_any, list_all};
 ghost use Rattle.std.specs.Str.{bytes_eq};
-ghost use Rattle.rs_tool.specs.Words.{is_word_byte, is_word, is_role_name};
+ghost use Rattle.rs_text.specs.Bytes.{is_word_byte};
+ghost use Rattle.rs_text.specs.Words.{is_word, is_role_word};
 ghost use Rattle.rs_tool.specs.Straight.{sends, receives, involves, acts_of, all_differ, is_between_roles, with_label, labels_of};
 ghost use Rattle.rs_tool.specs.StraightReader.{has_roles, has_talks, is_small, is_straight};
 
-use crate::reading::{MOST_ROLES, MOST_TALKS, is_letter, is_word_byte};
+use crate::reading::{MOST_ROLES, MOST_TALKS};
 use crate::straight::{Straight, Talk, Word};
 use rs_model::NoMemory;
+use rs_text::{is_role_word, is_word};
 use std::alloc::Global;
-
-fn are_word_bytes(bytes: &[u8]) -> bool
-    ensures { result ≡ list_all is_word_byte bytes.now }
-{
-    bytes.iter().all(|byte| is_word_byte(*byte))
-}
-
-fn is_word(word: &[u8]) -> bool
-    ensures { result ≡ is_word word.now }
-{
-    match word {
-        [] => false,
-        [first, rest @ ..] => { is_letter(*first) && are_word_bytes(rest) && word.len() <= 64 }
-    }
-}
-
-fn is_role_name(word: &[u8]) -> bool
-    ensures { result ≡ is_role_name word.now }
-{
-    is_word(word) && word != b"rec".as_slice() && word != b"end".as_slice()
-}
 
 fn contains(names: &[Word], name: &[u8]) -> bool
     ensures { result ≡ list_any (λ other. bytes_eq other name.now) names.now }
@@ -107,9 +88,9 @@ fn labels_of<'a>(alloc: Global, talks: &[Talk<'a>]) -> Result<Vec<Word<'a>>, NoM
 }
 
 fn are_role_names(names: &[Word]) -> bool
-    ensures { result ≡ list_all is_role_name names.now }
+    ensures { result ≡ list_all is_role_word names.now }
 {
-    names.iter().all(|name| is_role_name(name.as_slice()))
+    names.iter().all(|name| is_role_word(name.as_slice()))
 }
 
 fn are_between_roles(roles: &[Word], talks: &[Talk]) -> bool

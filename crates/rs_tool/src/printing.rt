@@ -6,8 +6,8 @@ ghost use Rattle.rs_tool.specs.Straight.{sends, receives, sort_text, payload_tex
 
 use crate::limits::{receives, sends};
 use crate::straight::{Straight, Talk, Word};
-use crate::text::Text;
 use rs_model::{NoMemory, Sort};
+use rs_text::Text;
 use std::alloc::Global;
 
 fn sort_text(sort: Sort) -> &'static [u8]

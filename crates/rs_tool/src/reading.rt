@@ -1,7 +1,8 @@
 //! The reader of canonical texts of straight protocols.
 
 ghost use Rattle.std.specs.Prelude.{◌≡◌, ◌≤◌, ◌+◌, length, Some, None, option_map, IfOk};
-ghost use Rattle.rs_tool.specs.Words.{is_letter, is_word_byte, is_word, is_role_name};
+ghost use Rattle.rs_text.specs.Bytes.{is_letter, is_word_byte};
+ghost use Rattle.rs_text.specs.Words.{is_word, is_role_word};
 ghost use Rattle.rs_tool.specs.StraightReader.{behind, word_length, word_of, behind_word, sort_of, talk_at, names_at, talks_at, straight_at};
 
 use crate::straight::{Straight, Talk, Word};
