@@ -1,18 +1,17 @@
 -- The straight protocol that a text spells is the one that is found, and no other.
-use Rattle.std.proofs.Common.{◌≡◌, ℕ, zero, suc, ◌+◌, ◌≤◌, ◌<◌, Bool, true, false, cond, List, [], ◌∷◌, ◌++◌, Option, Some, None, length, take, drop, refl, sym, ap, subst, ◌∙◌, append_assoc, append-nil, add-one, arith}
-use Rattle.std.specs.Prelude.{codes, nat_eq, ◌&&◌, ◌||◌, nat_le, nat_lt, ◌==◌, not, IsTrue}
+use Rattle.std.proofs.Common.{◌≡◌, ℕ, suc, ◌≤◌, ◌<◌, Bool, true, false, cond, List, [], ◌∷◌, ◌++◌, Some, None, length, take, drop, refl, sym, ap, subst, ◌∙◌, append_assoc, arith}
+use Rattle.std.specs.Prelude.{codes, nat_eq, ◌&&◌, ◌||◌, nat_le, nat_lt, ◌==◌, not}
 use Rattle.std.specs.List.{starts_with, flat_map, list_all, list_any}
 use Rattle.std.specs.Str.{bytes_eq}
 use Rattle.std.proofs.Math.Seq.{take-append_seam, drop-append_seam}
 use Rattle.std.proofs.lemmas.Bool.{leb-true, le-leb, eqb-true}
 use Rattle.std.proofs.lemmas.Slice.Eq.{bytes_eq-Decides}
 use Rattle.rs_tool.specs.declared.straight.Talk.{Talk}
-use Rattle.rs_text.specs.Bytes.{is_word_byte}
 use Rattle.rs_text.specs.Words.{is_word, is_role_word}
 use Rattle.rs_tool.specs.Straight.{Straight_data, IsStraight, SpellsStraight, IsSpelt, SpellsNone, protocol_text, machine_text, machines_text, act_text, acts_of, labels_of, are_short, all_differ, is_between_roles, sends, receives}
-use Rattle.rs_tool.specs.StraightReader.{◌>>=◌, word_of, behind_part, behind_parts, has_roles, has_talks, is_small, is_straight, straight_at, straight_of}
+use Rattle.rs_tool.specs.StraightReader.{word_of, behind_part, behind_parts, has_roles, has_talks, is_small, is_straight, straight_at, straight_of}
 use Rattle.rs_tool.proofs.Canonical.{from_bind, cond_cases, cond_some, starts_with-is, straight_at-is}
-use Rattle.rs_tool.proofs.Again.{both, IsRun, AreRuns, HasWords, HaveWords, bind-again, starts-no, word-run, role-word, word_of-again, straight_at-again}
+use Rattle.rs_tool.proofs.Again.{both, IsRun, AreRuns, HaveWords, bind-again, word-run, role-word, word_of-again, straight_at-again}
 
 either : (a b : Bool) → (a || b) ≡ false → (a ≡ false) × (b ≡ false)
 either true b e = absurd cc

@@ -1,17 +1,14 @@
 -- What is read is what the text spells, and a canonical text is read as what it is made of.
-use Rattle.std.proofs.Common.{◌≡◌, ◌≢◌, ℕ, zero, suc, ◌+◌, ◌≤◌, ◌<◌, Bool, true, false, cond, List, [], ◌∷◌, ◌++◌, Option, Some, None, length, take, drop, refl, sym, ap, subst, ◌∙◌, append_assoc, append-nil, arith, inl, inr}
-use Rattle.std.specs.Prelude.{codes, nat_eq, ◌&&◌, ◌==◌, IsTrue}
-use Rattle.std.specs.List.{starts_with, flat_map, list_all, list_any}
+use Rattle.std.proofs.Common.{◌≡◌, ℕ, zero, suc, Bool, true, false, cond, List, [], ◌∷◌, ◌++◌, Option, Some, None, length, take, drop, refl, sym, ap, subst, ◌∙◌, append_assoc}
+use Rattle.std.specs.Prelude.{codes, nat_eq}
+use Rattle.std.specs.List.{starts_with, flat_map}
 use Rattle.std.specs.Str.{bytes_eq}
-use Rattle.std.proofs.Math.Seq.{take-append_seam, drop-append_seam}
 use Rattle.std.proofs.lemmas.List.{take-append-drop}
 use Rattle.std.proofs.lemmas.Slice.Eq.{bytes_eq-Decides}
 use Rattle.rs_model.specs.declared.values.Sort.{Sort}
 use Rattle.rs_model.specs.declared.values.Sort.TheVariants as sort
 use Rattle.rs_tool.specs.declared.straight.Talk.{Talk}
-use Rattle.rs_text.specs.Bytes.{is_word_byte}
-use Rattle.rs_text.specs.Words.{is_word, is_role_word}
-use Rattle.rs_tool.specs.Straight.{Straight_data, sort_text, names_text, payload_text, talk_text, protocol_text}
+use Rattle.rs_tool.specs.Straight.{Straight_data, sort_text, names_text, talk_text, protocol_text}
 use Rattle.rs_tool.specs.StraightReader.{◌>>=◌, behind, word_length, word_of, behind_word, sort_of, talk_at, names_at, talks_at, straight_at}
 
 -- ---- what is read stands in the text

@@ -1,5 +1,5 @@
 -- An accepted text spells safe machines.
-use Rattle.std.proofs.Common.{◌≡◌, ◌≢◌, ℕ, zero, suc, ◌<◌, ◌≤◌, Bool, true, false, cond, List, [], ◌∷◌, length, map, Option, Some, None, refl, sym, ap, subst, ◌∙◌, arith}
+use Rattle.std.proofs.Common.{◌≡◌, ℕ, suc, ◌<◌, Bool, true, false, cond, List, [], ◌∷◌, length, map, Option, Some, None, refl, sym, ap, subst, ◌∙◌, arith}
 use Rattle.std.specs.Prelude.{◌&&◌, ◌||◌, not, IfSome}
 use Rattle.std.specs.List.{list_any, list_all}
 use Rattle.std.specs.Str.{bytes_eq}
@@ -11,7 +11,7 @@ use Rattle.rs_tool.specs.declared.straight.Talk.{Talk}
 use Rattle.rs_tool.specs.declared.status.Status.{Status}
 use Rattle.rs_tool.specs.declared.status.Status.TheVariants.{Fine}
 use Rattle.rs_tool.specs.Straight.{Straight_data, IsStraight, SpellsSafeMachines, is_between_roles, sends, receives, place_of, numbered, machines_of}
-use Rattle.rs_tool.specs.Answer.{Answer, Answers, AnswersCheck, Accepted, NotStraight, NoCommand, NoSuchCommand, Checks, usage, not_built}
+use Rattle.rs_tool.specs.Answer.{Answer, Answers, AnswersCheck, Accepted, NotStraight, NoCommand, NoSuchCommand, Checks}
 use Rattle.rs_tool.specs.Top.{Tells}
 use Rattle.rs_tool.proofs.Again.{both}
 

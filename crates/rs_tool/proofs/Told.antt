@@ -1,11 +1,11 @@
 -- Of a call that was stopped too there is an answer, of which nothing was written.
-use Rattle.std.proofs.Common.{◌≡◌, ℕ, ◌≤◌, ◌<◌, List, length, Bool, true, false, Option, Some, None, Result, Ok, Err, refl, sym, inl, inr}
-use Rattle.std.specs.Prelude.{IfOk, IfSome, ◌⊎◌}
+use Rattle.std.proofs.Common.{◌≡◌, ℕ, ◌≤◌, List, length, Bool, true, false, Option, Some, None, Result, Ok, Err, refl, inl, inr}
+use Rattle.std.specs.Prelude.{IfOk, IfSome}
 use Rattle.std.specs.Io.KnownBytes.{Keeps}
 use Rattle.std.proofs.lemmas.Bool.Decides.{leb_tells}
 use Rattle.rs_tool.specs.declared.running.Stop.{Stop}
 use Rattle.rs_tool.specs.declared.status.Status.TheVariants.{Fine, ReadFault, NoMemory}
-use Rattle.rs_tool.specs.Straight.{Straight_data, IsSpelt, SpellsNone, report_text}
+use Rattle.rs_tool.specs.Straight.{Straight_data, report_text}
 use Rattle.rs_tool.specs.StraightReader.{straight_of}
 use Rattle.rs_tool.specs.Answer.{Answer, Answers, AnswersCheck, Accepted, NotStraight, NoCommand, NoSuchCommand, Checks, names_command, is_check, usage, not_built}
 use Rattle.rs_tool.specs.Top.{Tells}

@@ -1,13 +1,12 @@
 -- A text spells one straight protocol at most, and words and bytes have one answer.
-use Rattle.std.proofs.Common.{◌≡◌, ℕ, suc, Bool, true, false, List, [], ◌∷◌, ◌++◌, Option, Some, None, length, drop, refl, sym, ap, ap₂, subst, ◌∙◌}
+use Rattle.std.proofs.Common.{◌≡◌, ℕ, Bool, true, false, List, [], ◌∷◌, ◌++◌, Some, length, drop, refl, sym, ap, subst, ◌∙◌}
 use Rattle.std.specs.Prelude.{not}
 use Rattle.std.specs.List.{list_any}
 use Rattle.std.specs.Str.{bytes_eq}
 use Rattle.std.proofs.Math.Seq.{drop-append_seam}
 use Rattle.rs_tool.specs.declared.straight.Talk.{Talk}
 use Rattle.rs_tool.specs.declared.status.Status.TheVariants.{Fine}
-use Rattle.rs_tool.specs.Straight.{Straight_data, SpellsStraight, SpellsNone, protocol_text, machine_text, machines_text, all_differ, report_text}
-use Rattle.rs_tool.specs.StraightReader.{straight_at, straight_of}
+use Rattle.rs_tool.specs.Straight.{Straight_data, SpellsStraight, protocol_text, machine_text, machines_text, all_differ, report_text}
 use Rattle.rs_tool.specs.Answer.{Answer, Answers, AnswersCheck, Accepted, NotStraight, NoCommand, NoSuchCommand, Checks, names_command, is_check}
 use Rattle.rs_tool.proofs.Again.{both, AreRuns}
 use Rattle.rs_tool.proofs.Accepted.{found, no-part, role-runs}

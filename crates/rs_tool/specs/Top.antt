@@ -1,8 +1,7 @@
 -- What a call of the program does with its source and its sink, by the status that it answers.
-use Rattle.std.specs.Prelude.{◌≡◌, ◌⊎◌, ℕ, List, Option, Bool, true, false}
+use Rattle.std.specs.Prelude.{◌≡◌, ◌⊎◌, ℕ, List, Option}
 use Rattle.std.specs.Io.KnownBytes.{Appends, Keeps}
 use Rattle.rs_io.specs.Prefix.{AppendsPrefix}
-use Rattle.rs_tool.specs.declared.status.Reply.{Reply}
 use Rattle.rs_tool.specs.declared.status.Serial.{Serial}
 use Rattle.rs_tool.specs.declared.status.Serial.TheVariants.{Answered, NeedsWorkers}
 use Rattle.rs_tool.specs.declared.status.Status.{Status}
