@@ -25,7 +25,6 @@ pub struct Made {
 }
 
 impl Model for Made {
-    ghost use Rattle.rs_tool.specs.Straight.{report_text};
     ghost use Rattle.rs_tool.specs.Answer.{Answer};
 
     ghost Value = { Answer };

@@ -14,6 +14,12 @@ use rs_model::NoMemory;
 use rs_text::{is_role_word, is_word};
 use std::alloc::Global;
 
+/// The most labels of a document.
+const MOST_LABELS: usize = 256;
+
+/// The most states of a projection, its end included.
+const MOST_STATES: usize = 1024;
+
 fn contains(names: &[Word], name: &[u8]) -> bool
     ensures { result ≡ list_any (λ other. bytes_eq other name.now) names.now }
 {
@@ -109,7 +115,7 @@ fn have_label_words(talks: &[Talk]) -> bool
 fn has_few_states(talks: &[Talk], role: &[u8]) -> bool
     ensures { result ≡ nat_lt (acts_of talks.now role.now) 1024 }
 {
-    acts_of(talks, role) < 1024
+    acts_of(talks, role) < MOST_STATES
 }
 
 fn have_few_states(talks: &[Talk], roles: &[Word]) -> bool
@@ -141,7 +147,7 @@ fn is_small(alloc: Global, straight: &Straight) -> Result<bool, NoMemory>
 {
     let talks = straight.talks.as_slice();
     let labels = labels_of(alloc, talks)?;
-    Ok(labels.len() <= 256 && have_few_states(talks, straight.roles.as_slice()))
+    Ok(labels.len() <= MOST_LABELS && have_few_states(talks, straight.roles.as_slice()))
 }
 
 /// Whether the protocol is one of the language, within its limits.
