@@ -1,9 +1,12 @@
-use Rattle.std.proofs.Common.{◌≡◌, ℕ, zero, suc, ◌+◌, ◌≤◌, ◌<◌, ◌↔◌, inl, inr, List, [], ◌∷◌, ◌++◌, length, drop, Bool, true, false, refl, sym, ap, ◌∙◌, subst, length-append, length-drop, add-zero, arith}
+use Rattle.std.proofs.Common.{codes, nat_le, ◌≢◌, ◌≡◌, ℕ, zero, suc, ◌+◌, ◌≤◌, ◌<◌, ◌↔◌, inl, inr, List, [], ◌∷◌, ◌++◌, length, drop, Bool, true, false, refl, sym, ap, ◌∙◌, subst, length-append, length-drop, add-zero, arith}
 use Rattle.std.proofs.lemmas.List.{drop-drop}
 use Rattle.std.proofs.Math.Seq.{drop-append_seam, drop-length}
 use Rattle.rs_text.specs.Lexemes.{skipped, front_of, Lexeme, placed, next_lexeme, is_last, Lexed}
 use Rattle.rs_text.specs.Bytes.{is_letter, is_digit}
-use Rattle.rs_text.specs.Words.{begins}
+use Rattle.rs_text.specs.Words.{begins, is_role_word}
+use Rattle.std.proofs.lemmas.Bool.Decides.{leb_tells}
+use Rattle.std.proofs.lemmas.Slice.Eq.{bytes_eq-Decides}
+use Rattle.std.specs.Str.{bytes_eq}
 use Rattle.rs_text.specs.Signs.{Sign, rec_word, end_word, plain, number, finish, broken}
 use Rattle.rs_text.specs.Tokens.{gap_bytes, IsGap, IsToken, IsNext, IsWithin, AreTokens}
 use Rattle.rs_text.proofs.Gaps.{Passed, passed, passes, true_or_false}
@@ -119,3 +122,24 @@ one_list_law bytes at xs ys h k = one_list bytes xs ys at (are_lexed bytes xs at
 
 pub end_again : (bytes : List ℕ) → next_lexeme bytes (length bytes) ≡ record { sign = finish; from = length bytes; until = length bytes }
 end_again bytes = let none = add-zero (length bytes) in rw (drop-length bytes, none, drop-length bytes, none) refl
+
+-- ---- words
+
+not_same : (text name : List ℕ) → text ≢ name → bytes_eq text name ≡ false
+not_same text name apart = elim (true_or_false (bytes_eq text name)) [
+  | inl e ↦ absurd (apart ((bytes_eq-Decides text name).0 e))
+  | inr e ↦ e
+]
+
+short_enough : (n : ℕ) → n ≤ 64 → nat_le n 64 ≡ true
+short_enough n h = elim (leb_tells n 64) [
+  | inl e ↦ e.0
+  | inr e ↦ absurd (omega arith)
+]
+
+plain_role : (name text behind : List ℕ) → IsToken (plain name) text behind → is_role_word name ≡ true
+plain_role name text behind t =
+    rw (t.4, t.0.first, t.0.all, short_enough (length text) t.1, not_same text (codes "rec") t.2, not_same text (codes "end") t.3) refl
+
+pub plain_law : (bytes : List ℕ) (at : ℕ) (l : Lexeme) (name : List ℕ) → IsNext bytes at l → l.sign ≡ plain name → is_role_word name ≡ true
+plain_law bytes at l name x e = plain_role name x.text x.behind (rw e at x.token)

@@ -14,6 +14,7 @@ pub data Gap : Type 0 where
   blank : (byte : ℕ) → (more : Gap) → Gap
   comment : (held : List ℕ) → (more : Gap) → Gap
 
+-- the bytes of a gap
 abbrev pub gap_bytes : Gap → List ℕ
 gap_bytes nothing = []
 gap_bytes (blank byte more) = byte ∷ gap_bytes more

@@ -1,14 +1,14 @@
 // What the definitions of tokens, names and numbers say together. The functions do nothing: each states a law.
-ghost use Rattle.std.specs.Prelude.{◌≡◌, ◌≢◌, ◌≤◌, ◌<◌, ◌↔◌, ◌||◌, ◌++◌, ◌∷◌, ℕ, List, [], Bool, Some, None, length, slice_get, true, false};
+ghost use Rattle.std.specs.Prelude.{◌≡◌, ◌≢◌, ◌≤◌, ◌↔◌, ◌||◌, ◌++◌, ◌∷◌, ℕ, List, [], Bool, Some, None, length, slice_get, true, false};
 ghost use Rattle.std.specs.Fmt.{decimal};
 ghost use Rattle.std.specs.List.{list_all};
 ghost use Rattle.rs_text.specs.Bytes.{is_digit};
 ghost use Rattle.rs_text.specs.Lexemes.{Lexeme, Lexed, next_lexeme};
 ghost use Rattle.rs_text.specs.Names.{place_of, is_among, grown, StandsFirst};
-ghost use Rattle.rs_text.specs.Signs.{number, finish};
+ghost use Rattle.rs_text.specs.Signs.{plain, number, finish};
 ghost use Rattle.rs_text.specs.Sound.{differ};
 ghost use Rattle.rs_text.specs.Tokens.{AreTokens, IsNext, IsToken, IsWithin};
-ghost use Rattle.rs_text.specs.Words.{begins};
+ghost use Rattle.rs_text.specs.Words.{begins, is_role_word};
 
 /// What is cut off from the front of a text is its next token, and nothing else is.
 pub fn next_token_is_next()
@@ -33,6 +33,11 @@ pub fn has_one_list_of_tokens()
 /// A token lies within the text, behind the ones before it.
 pub fn tokens_are_in_order()
     ensures { (bytes : List ℕ) (at : ℕ) (l : Lexeme) → at ≤ length bytes → IsNext bytes at l → IsWithin bytes at l }
+{}
+
+/// A plain word can be a role's name, and so a label's.
+pub fn plain_words_are_words()
+    ensures { (bytes : List ℕ) (at : ℕ) (l : Lexeme) (name : List ℕ) → IsNext bytes at l → l.sign ≡ plain name → is_role_word name ≡ true }
 {}
 
 /// At the end of a text its end is the next token, again and again.
