@@ -1,3 +1,4 @@
-pub mod Checks
-pub mod Faults
 pub mod WellFormed
+pub mod Faults
+pub mod Checks
+pub mod Examples
