@@ -1,0 +1,90 @@
+-- The first fault of a protocol, and what each fault says.
+use Rattle.std.specs.Prelude.{◌≡◌, ◌⊎◌, ℕ, ◌+◌, ◌<◌, ◌≤◌, List, [], ◌∷◌, ◌++◌, length, map, slice_get, Bool, not, ◌==◌, nat_le, nat_lt, if◌then◌else◌, Option, Some, None}
+use Rattle.std.specs.List.{list_any}
+use Rattle.rs_model.specs.Data.{Protocol_data}
+use Rattle.rs_model.specs.Faults.{StandsTwice}
+use Rattle.rs_model.specs.declared.graph.Arm.{Arm}
+use Rattle.rs_model.specs.declared.graph.Node.{Node}
+use Rattle.rs_model.specs.declared.graph.Node.TheVariants.{Finished, Talk}
+use Rattle.rs_model.specs.declared.graph.Role.{Role}
+use Rattle.rs_wellformed.specs.declared.checks.WfFault.{WfFault}
+use Rattle.rs_wellformed.specs.declared.checks.WfFault.TheVariants.{SelfTalk, NoArms, TooManyArms, TwiceLabel, BadNext}
+
+-- one test of a protocol: whether the protocol passes it, and the fault that is told where it doesn't
+pub record Test : Type 0 where
+  pub passes : Bool
+  pub fault : WfFault
+
+-- the fault of the first test that isn't passed
+abbrev pub first_failed : List Test → Option WfFault
+first_failed [] = None
+first_failed (t ∷ ts) = if t.passes then first_failed ts else Some t.fault
+
+-- for each arm, whether its label stands at no earlier arm
+abbrev pub label_tests : ℕ → List Arm → List Arm → List Test
+label_tests n [] earlier = []
+label_tests n (a ∷ later) earlier =
+    record { passes = not (list_any (λ b. b.label.0 == a.label.0) earlier); fault = TwiceLabel n a.label }
+    ∷ label_tests n later (earlier ++ a ∷ [])
+
+-- for each arm, whether it leads to one of so many nodes
+abbrev pub next_tests : ℕ → ℕ → List Arm → List Test
+next_tests n count arms = map (λ a. record { passes = nat_lt a.next count; fault = BadNext n }) arms
+
+-- whether the sender and the receiver are among so many roles
+abbrev pub role_tests : ℕ → ℕ → Role → Role → List Test
+role_tests n roles sender receiver =
+    record { passes = nat_lt sender.0 roles; fault = BadNext n }
+    ∷ record { passes = nat_lt receiver.0 roles; fault = BadNext n }
+    ∷ []
+
+-- the tests of the talk at node n: two roles, some arms, at most 32, all labels, all nexts, both roles known
+abbrev pub talk_tests : Protocol_data → ℕ → Role → Role → List Arm → List Test
+talk_tests p n sender receiver arms =
+    record { passes = not (sender.0 == receiver.0); fault = SelfTalk n }
+    ∷ record { passes = nat_lt 0 (length arms); fault = NoArms n }
+    ∷ record { passes = nat_le (length arms) 32; fault = TooManyArms n }
+    ∷ (label_tests n arms [] ++ (next_tests n (length p.nodes) arms ++ role_tests n p.roles sender receiver))
+
+-- those of node n, of any kind
+abbrev pub node_tests : Protocol_data → ℕ → Node → List Test
+node_tests p n Finished = []
+node_tests p n (Talk sender receiver arms) = talk_tests p n sender receiver arms
+
+-- those of the nodes in order, the first of which has the number n
+abbrev pub nodes_tests : Protocol_data → List Node → ℕ → List Test
+nodes_tests p [] n = []
+nodes_tests p (node ∷ later) n = node_tests p n node ++ nodes_tests p later (n + 1)
+
+-- all tests of a protocol, in order: the root, and those of the nodes
+abbrev pub tests_of : Protocol_data → List Test
+tests_of p =
+    record { passes = nat_lt p.root (length p.nodes); fault = BadNext p.root } ∷ nodes_tests p p.nodes 0
+
+-- the fault of the first test that the protocol doesn't pass
+unfoldable pub first_fault : Protocol_data → Option WfFault
+first_fault p = first_failed (tests_of p)
+
+-- node n is a talk from the sender to the receiver with these arms
+abbrev pub Talks : Protocol_data → ℕ → Role → Role → List Arm → Type 0
+Talks p n sender receiver arms = slice_get p.nodes n ≡ Some (Talk sender receiver arms)
+
+-- an arm leads to none of so many nodes
+pub record LeadsOut (count : ℕ) (arms : List Arm) : Type 0 where
+  pub place : ℕ
+  pub arm : Arm
+  pub stands : slice_get arms place ≡ Some arm
+  pub out : count ≤ arm.next
+
+-- what each fault says of the protocol
+abbrev pub Blames : Protocol_data → WfFault → Type 0
+Blames p (SelfTalk n) = (role : Role) × (arms : List Arm) × Talks p n role role arms
+Blames p (NoArms n) = (sender : Role) × (receiver : Role) × Talks p n sender receiver []
+Blames p (TooManyArms n) =
+    (sender : Role) × (receiver : Role) × (arms : List Arm) × Talks p n sender receiver arms × (32 < length arms)
+Blames p (TwiceLabel n label) =
+    (sender : Role) × (receiver : Role) × (arms : List Arm) × Talks p n sender receiver arms × StandsTwice arms label
+Blames p (BadNext n) =
+    ((n ≡ p.root) × (length p.nodes ≤ p.root))
+    ⊎ ((sender : Role) × (receiver : Role) × (arms : List Arm) × Talks p n sender receiver arms
+    × (LeadsOut (length p.nodes) arms ⊎ ((p.roles ≤ sender.0) ⊎ (p.roles ≤ receiver.0))))

@@ -1,0 +1,4 @@
+pub mod WellFormed
+pub mod Faults
+pub mod Checks
+pub mod Examples
