@@ -86,8 +86,8 @@ impl Machine {
     }
 }
 
-// The first label that repeats an earlier one. It reads at most one arm more than there are labels.
-fn first_repeat(arms: &[Arm]) -> Option<Label>
+/// The first label that repeats an earlier one. It reads at most one arm more than there are labels.
+pub fn first_repeat(arms: &[Arm]) -> Option<Label>
     ensures { result ≡ first_repeat arms.now [] }
 {
     for (i, arm) in arms.iter().enumerate() {
@@ -105,8 +105,8 @@ fn has_label(arms: &[Arm], label: Label) -> bool
     arms.iter().any(|arm| arm.label.0 == label.0)
 }
 
-// Whether an arm leads to the state numbered `count` or to a later one.
-fn has_next_from(arms: &[Arm], count: usize) -> bool
+/// Whether an arm leads to the state or node numbered `count` or to a later one.
+pub fn has_next_from(arms: &[Arm], count: usize) -> bool
     ensures { result ≡ list_any (λ a. nat_le count a.next) arms.now }
 {
     arms.iter().any(|arm| arm.next as usize >= count)

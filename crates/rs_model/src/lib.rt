@@ -11,7 +11,7 @@ mod tests;
 mod values;
 mod words;
 
-pub use checks::MachineFault;
+pub use checks::{MachineFault, first_repeat, has_next_from};
 pub use graph::{Arm, Arms, Label, Node, Protocol, Role};
 pub use machines::{Act, Machine, State};
 pub use memory::NoMemory;

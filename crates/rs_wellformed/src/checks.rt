@@ -1,11 +1,9 @@
-ghost use Rattle.std.specs.Prelude.{◌≡◌, ◌==◌, ◌<◌, ◌^◌, [], length, nat_le, IfErr, OnOk, None, Some};
-ghost use Rattle.std.specs.List.{list_any};
-ghost use Rattle.rs_model.specs.Checks.{first_repeat};
+ghost use Rattle.std.specs.Prelude.{◌≡◌, ◌<◌, ◌^◌, length, IfErr, OnOk, None};
 ghost use Rattle.rs_wellformed.specs.Checks.{node_fault, protocol_fault, talk_fault};
 ghost use Rattle.rs_wellformed.specs.Faults.{first_fault};
 ghost use Rattle.rs_wellformed.specs.WellFormed.{IsWellFormed};
 
-use rs_model::{Arm, Label, Node, Protocol, Role};
+use rs_model::{Arm, Label, Node, Protocol, Role, first_repeat, has_next_from};
 
 const MOST_ARMS: usize = 32;
 
@@ -97,30 +95,4 @@ fn talk_fault(
     } else {
         None
     }
-}
-
-// The first label that repeats an earlier one.
-fn first_repeat(arms: &[Arm]) -> Option<Label>
-    ensures { result ≡ first_repeat arms.now [] }
-{
-    for (i, arm) in arms.iter().enumerate() {
-        let (earlier, _) = arms.split_at(i);
-        if has_label(earlier, arm.label) {
-            return Some(arm.label);
-        }
-    }
-    None
-}
-
-fn has_label(arms: &[Arm], label: Label) -> bool
-    ensures { result ≡ list_any (λ a. a.label.0 == label.0) arms.now }
-{
-    arms.iter().any(|arm| arm.label.0 == label.0)
-}
-
-// Whether an arm leads to the node numbered `count` or to a later one.
-fn has_next_from(arms: &[Arm], count: usize) -> bool
-    ensures { result ≡ list_any (λ a. nat_le count a.next) arms.now }
-{
-    arms.iter().any(|arm| arm.next as usize >= count)
 }
