@@ -4,3 +4,7 @@ pub mod Trail
 pub mod Walks
 pub mod Covers
 pub mod Grow
+pub mod Equal
+pub mod Built
+pub mod Machines
+pub mod Sessions
