@@ -8,3 +8,6 @@ pub mod Equal
 pub mod Built
 pub mod Machines
 pub mod Sessions
+pub mod Fronts
+pub mod Rounds
+pub mod RoundsProjected

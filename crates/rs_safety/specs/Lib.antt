@@ -1,3 +1,4 @@
 pub mod Data
 pub mod Graph
 pub mod Projection
+pub mod Examples
