@@ -11,3 +11,4 @@ pub mod Sessions
 pub mod Fronts
 pub mod Rounds
 pub mod RoundsProjected
+pub mod Refused

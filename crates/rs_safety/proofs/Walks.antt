@@ -34,7 +34,7 @@ pass-snoc : (pr : Protocol_data) (p : Role) (ss : List PathStep) (h a : ℕ) →
 pass-snoc pr p [] h a all one = (one, tt)
 pass-snoc pr p (s ∷ ss) h a all one = (all.0, pass-snoc pr p ss h a all.1 one)
 
-not-empty : (ss : List PathStep) (s : PathStep) → ss ++ (s ∷ []) ≢ []
+pub not-empty : (ss : List PathStep) (s : PathStep) → ss ++ (s ∷ []) ≢ []
 not-empty [] s e = cc (e)
 not-empty (x ∷ xs) s e = cc (e)
 
