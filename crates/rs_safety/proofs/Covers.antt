@@ -15,7 +15,7 @@ use Rattle.rs_model.specs.declared.machines.State.TheVariants.{Done, Puts, Takes
 use Rattle.rs_wellformed.specs.Faults.{Talks}
 use Rattle.rs_safety.specs.Data.{Projection_data}
 use Rattle.rs_safety.specs.Graph.{LeadsTo, Involves, IsIdle, PassesBy, MeetsFirst, MeetsTheEnd}
-use Rattle.rs_safety.specs.Projection.{IsSet, Choice, choice_of, choices_of, HaveSameChoices, HaveSameSorts, Agree, BothSend, BothReceive, first_choices, merged_choices, MeetsBehind, EndsBehind, AreArmsOf, IsStateOf, Ends, Sends, Receives, IsProjection}
+use Rattle.rs_safety.specs.Projection.{IsSet, Choice, choice_of, choices_of, HaveSameChoices, HaveSameSorts, Agree, BothSend, BothReceive, first_choices, merged_choices, MeetsBehind, EndsBehind, AreArmsOf, IsStateOf, IsDone, IsPuts, IsTakes, IsProjection}
 use Rattle.rs_safety.proofs.Members.{Among, contained, contains, among-left, among-right, among-split, no-member}
 use Rattle.rs_safety.proofs.Walks.{step_of, involves-sender, involves-receiver}
 
@@ -64,9 +64,9 @@ done-of-end pr p pj t is e = let s = stood pr p pj t [] is e in go s.state s.is 
   where
     go : (st : State) → slice_get pj.machine.states t ≡ Some st → IsStateOf pr p pj.sets [] st
         → slice_get pj.machine.states t ≡ Some Done
-    go st at (Ends n d) = cc (at, d)
-    go st at (Sends q arms n each d a) = absurd (n refl)
-    go st at (Receives q arms n each d a) = absurd (n refl)
+    go st at (IsDone n d) = cc (at, d)
+    go st at (IsPuts q arms n each d a) = absurd (n refl)
+    go st at (IsTakes q arms n each d a) = absurd (n refl)
 
 -- a covered idle node: the state is Done
 pub covers-idle : (pr : Protocol_data) (p : Role) (pj : Projection_data) (t g : ℕ) → IsProjection pr p pj → Covers pr p pj.sets t g
@@ -270,13 +270,13 @@ put-state : (pr : Protocol_data) (p : Role) (pj : Projection_data) (t g : ℕ) (
     → IsProjection pr p pj → p ≢ y → Talks pr g p y theirs
     → slice_get pj.sets t ≡ Some members → Contains members g → slice_get pj.machine.states t ≡ Some st
     → IsStateOf pr p pj.sets members st → PutsAt pr p pj t y theirs
-put-state pr p pj t g y theirs members st is ne ng at member is_st (Ends e d) = absurd (no-member members g e member)
-put-state pr p pj t g y theirs members st is ne ng at member is_st (Receives q arms n each d ar) =
+put-state pr p pj t g y theirs members st is ne ng at member is_st (IsDone e d) = absurd (no-member members g e member)
+put-state pr p pj t g y theirs members st is ne ng at member is_st (IsTakes q arms n each d ar) =
     let r = each g member in
     let same : Some (Talk q p r.0) ≡ Some (Talk p y theirs) = sym r.1 ∙ ng in
     let ep : p ≡ y = cc (same) in
     absurd (ne ep)
-put-state pr p pj t g y theirs members st is ne ng at member is_st (Sends q arms n each d ar) =
+put-state pr p pj t g y theirs members st is ne ng at member is_st (IsPuts q arms n each d ar) =
     let r = each g member in
     let same : Some (Talk p q r.0) ≡ Some (Talk p y theirs) = sym r.1 ∙ ng in
     let eq : q ≡ y = cc (same) in
@@ -309,13 +309,13 @@ take-state : (pr : Protocol_data) (p : Role) (pj : Projection_data) (t g : ℕ) 
     → IsProjection pr p pj → x ≢ p → Talks pr g x p theirs
     → slice_get pj.sets t ≡ Some members → Contains members g → slice_get pj.machine.states t ≡ Some st
     → IsStateOf pr p pj.sets members st → TakesAt pr p pj t x theirs
-take-state pr p pj t g x theirs members st is ne ng at member is_st (Ends e d) = absurd (no-member members g e member)
-take-state pr p pj t g x theirs members st is ne ng at member is_st (Sends q arms n each d ar) =
+take-state pr p pj t g x theirs members st is ne ng at member is_st (IsDone e d) = absurd (no-member members g e member)
+take-state pr p pj t g x theirs members st is ne ng at member is_st (IsPuts q arms n each d ar) =
     let r = each g member in
     let same : Some (Talk p q r.0) ≡ Some (Talk x p theirs) = sym r.1 ∙ ng in
     let ep : x ≡ p = cc (same) in
     absurd (ne ep)
-take-state pr p pj t g x theirs members st is ne ng at member is_st (Receives q arms n each d ar) =
+take-state pr p pj t g x theirs members st is ne ng at member is_st (IsTakes q arms n each d ar) =
     let r = each g member in
     let same : Some (Talk q p r.0) ≡ Some (Talk x p theirs) = sym r.1 ∙ ng in
     let eq : q ≡ x = cc (same) in

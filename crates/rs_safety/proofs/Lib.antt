@@ -12,3 +12,4 @@ pub mod Fronts
 pub mod Rounds
 pub mod RoundsProjected
 pub mod Refused
+pub mod Unique

@@ -15,7 +15,7 @@ use Rattle.rs_model.specs.declared.machines.State.TheVariants.{Done, Puts, Takes
 use Rattle.rs_wellformed.specs.Faults.{Talks}
 use Rattle.rs_wellformed.specs.WellFormed.{IsWellFormed}
 use Rattle.rs_safety.specs.Data.{Projection_data}
-use Rattle.rs_safety.specs.Projection.{Choice, choice_of, choices_of, first_choices, merged_choices, AreArmsOf, IsStateOf, Ends, Sends, Receives, IsProjection}
+use Rattle.rs_safety.specs.Projection.{Choice, choice_of, choices_of, first_choices, merged_choices, AreArmsOf, IsStateOf, IsDone, IsPuts, IsTakes, IsProjection}
 use Rattle.rs_safety.proofs.Members.{Among, contains}
 use Rattle.rs_safety.proofs.Covers.{has_label, label-last, merged-label, arm-choice}
 
@@ -88,7 +88,7 @@ arms-some pr members talk x y (a ∷ theirs) arms m n ne c none =
     let S : List Arm → Type 0 = λ z. Among (map choice_of z) l.0 in
     subst S none (subst R (sym c) l.1)
 
-a-member : (members : List ℕ) → members ≢ [] → (talk : ℕ) × Contains members talk
+pub a-member : (members : List ℕ) → members ≢ [] → (talk : ℕ) × Contains members talk
 a-member [] ne = absurd (ne refl)
 a-member (x ∷ xs) ne = (x, contains (x ∷ xs) x (inl refl))
 
@@ -122,9 +122,9 @@ set-of pr p pj s st ip h =
 
 puts-fits : (pr : Protocol_data) (p : Role) (pj : Projection_data) (q : Role) (arms : List Arm) (members : List ℕ) → IsWellFormed pr → IsProjection pr p pj
     → IsStateOf pr p pj.sets members (Puts q arms) → StateFits pj.machine pr.roles q arms
-puts-fits pr p pj q arms members wf ip (Ends n d) = absurd (cc (d))
-puts-fits pr p pj q arms members wf ip (Receives r bs n each d ar) = absurd (cc (d))
-puts-fits pr p pj q arms members wf ip (Sends r bs n each d ar) =
+puts-fits pr p pj q arms members wf ip (IsDone n d) = absurd (cc (d))
+puts-fits pr p pj q arms members wf ip (IsTakes r bs n each d ar) = absurd (cc (d))
+puts-fits pr p pj q arms members wf ip (IsPuts r bs n each d ar) =
     let m = a-member members n in
     let t = each m.0 m.1 in
     let fit = wf.talks m.0 p r t.0 t.1 in
@@ -135,9 +135,9 @@ puts-fits pr p pj q arms members wf ip (Sends r bs n each d ar) =
 
 takes-fits : (pr : Protocol_data) (p : Role) (pj : Projection_data) (q : Role) (arms : List Arm) (members : List ℕ) → IsWellFormed pr → IsProjection pr p pj
     → IsStateOf pr p pj.sets members (Takes q arms) → StateFits pj.machine pr.roles q arms
-takes-fits pr p pj q arms members wf ip (Ends n d) = absurd (cc (d))
-takes-fits pr p pj q arms members wf ip (Sends r bs n each d ar) = absurd (cc (d))
-takes-fits pr p pj q arms members wf ip (Receives r bs n each d ar) =
+takes-fits pr p pj q arms members wf ip (IsDone n d) = absurd (cc (d))
+takes-fits pr p pj q arms members wf ip (IsPuts r bs n each d ar) = absurd (cc (d))
+takes-fits pr p pj q arms members wf ip (IsTakes r bs n each d ar) =
     let m = a-member members n in
     let t = each m.0 m.1 in
     let fit = wf.talks m.0 r p t.0 t.1 in

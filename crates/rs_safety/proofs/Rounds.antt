@@ -13,7 +13,7 @@ use Rattle.rs_wellformed.specs.Faults.{Talks}
 use Rattle.rs_wellformed.specs.WellFormed.{TalkFits, IsWellFormed}
 use Rattle.rs_safety.specs.Data.{Projection_data}
 use Rattle.rs_safety.specs.Graph.{PathStep, LeadsTo, IsPath, IsReachedFrom, Involves, IsIdle, PassesBy, AllPassBy, MeetsFirst, MeetsTheEnd, IsUnreached}
-use Rattle.rs_safety.specs.Projection.{IsSet, choice_of, Agree, BothSend, BothReceive, LeadsOn, MeetsBehind, EndsBehind, AreArmsOf, IsStateOf, Ends, Sends, Receives, IsProjection, AreProjections}
+use Rattle.rs_safety.specs.Projection.{IsSet, choice_of, Agree, BothSend, BothReceive, LeadsOn, MeetsBehind, EndsBehind, AreArmsOf, IsProjection, AreProjections}
 use Rattle.rs_safety.specs.Examples.{a, b, c, to, rounds, projection_with, projections_of_rounds}
 use Rattle.rs_safety.proofs.Members.{Among, contained, contains}
 use Rattle.rs_safety.proofs.Walks.{step_of, numbered, involves-sender, involves-receiver, involves-neither, idle-end}

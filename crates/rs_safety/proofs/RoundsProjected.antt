@@ -11,7 +11,7 @@ use Rattle.rs_model.specs.declared.values.Sort.TheVariants as sort
 use Rattle.rs_wellformed.specs.Faults.{Talks}
 use Rattle.rs_safety.specs.Data.{Projection_data}
 use Rattle.rs_safety.specs.Graph.{PathStep, LeadsTo, IsPath, Involves, IsIdle, PassesBy, AllPassBy, MeetsFirst, MeetsTheEnd, IsUnreached}
-use Rattle.rs_safety.specs.Projection.{IsSet, Choice, choice_of, merged_choices, HaveSameSorts, Agree, BothSend, BothReceive, LeadsOn, MeetsBehind, EndsBehind, AreArmsOf, IsStateOf, Ends, Sends, Receives, IsProjection, AreProjections}
+use Rattle.rs_safety.specs.Projection.{IsSet, Choice, choice_of, merged_choices, HaveSameSorts, Agree, BothSend, BothReceive, LeadsOn, MeetsBehind, EndsBehind, AreArmsOf, IsStateOf, IsDone, IsPuts, IsTakes, IsProjection, AreProjections}
 use Rattle.rs_safety.specs.Examples.{a, b, c, to, rounds, rounds_for_a, rounds_for_b, rounds_for_c, projections_of_rounds}
 use Rattle.rs_safety.proofs.Members.{Among, contained, contains}
 use Rattle.rs_safety.proofs.Walks.{numbered}
@@ -109,12 +109,12 @@ one-sends p q g arms t = one-member (λ z. (theirs : List Arm) × Talks rounds z
 
 states-a : (t : ℕ) (ms : List ℕ) (st : State) → slice_get sets-a t ≡ Some ms → slice_get rounds_for_a.machine.states t ≡ Some st → IsStateOf rounds a sets-a ms st
 states-a zero ms st h k = at-state (IsStateOf rounds a sets-a) (0 ∷ []) ms (Puts b choice) st h k
-    (Sends b choice (λ e. cc (e)) (one-sends a b 0 choice refl) refl record { choices = refl; nexts = nexts-a0 })
+    (IsPuts b choice (λ e. cc (e)) (one-sends a b 0 choice refl) refl record { choices = refl; nexts = nexts-a0 })
 states-a (suc zero) ms st h k = at-state (IsStateOf rounds a sets-a) (1 ∷ []) ms (Puts c goes) st h k
-    (Sends c goes (λ e. cc (e)) (one-sends a c 1 goes refl) refl record { choices = refl; nexts = nexts-a1 })
+    (IsPuts c goes (λ e. cc (e)) (one-sends a c 1 goes refl) refl record { choices = refl; nexts = nexts-a1 })
 states-a (suc (suc zero)) ms st h k = at-state (IsStateOf rounds a sets-a) (2 ∷ []) ms (Puts c halts) st h k
-    (Sends c halts (λ e. cc (e)) (one-sends a c 2 halts refl) refl record { choices = refl; nexts = nexts-a2 })
-states-a (suc (suc (suc zero))) ms st h k = at-state (IsStateOf rounds a sets-a) [] ms Done st h k (Ends refl refl)
+    (IsPuts c halts (λ e. cc (e)) (one-sends a c 2 halts refl) refl record { choices = refl; nexts = nexts-a2 })
+states-a (suc (suc (suc zero))) ms st h k = at-state (IsStateOf rounds a sets-a) [] ms Done st h k (IsDone refl refl)
 states-a (suc (suc (suc (suc t)))) ms st h k = absurd (cc (h))
 
 for-a : IsProjection rounds a rounds_for_a
@@ -180,8 +180,8 @@ nexts-b (suc (suc i)) x h = absurd (cc (h))
 
 states-b : (t : ℕ) (ms : List ℕ) (st : State) → slice_get sets-b t ≡ Some ms → slice_get rounds_for_b.machine.states t ≡ Some st → IsStateOf rounds b sets-b ms st
 states-b zero ms st h k = at-state (IsStateOf rounds b sets-b) (0 ∷ []) ms (Takes a hears-b) st h k
-    (Receives a hears-b (λ e. cc (e)) (one-sends a b 0 choice refl) refl record { choices = refl; nexts = nexts-b })
-states-b (suc zero) ms st h k = at-state (IsStateOf rounds b sets-b) [] ms Done st h k (Ends refl refl)
+    (IsTakes a hears-b (λ e. cc (e)) (one-sends a b 0 choice refl) refl record { choices = refl; nexts = nexts-b })
+states-b (suc zero) ms st h k = at-state (IsStateOf rounds b sets-b) [] ms Done st h k (IsDone refl refl)
 states-b (suc (suc t)) ms st h k = absurd (cc (h))
 
 for-b : IsProjection rounds b rounds_for_b
@@ -276,8 +276,8 @@ nexts-c (suc (suc i)) x h = absurd (cc (h))
 
 states-c : (t : ℕ) (ms : List ℕ) (st : State) → slice_get sets-c t ≡ Some ms → slice_get rounds_for_c.machine.states t ≡ Some st → IsStateOf rounds c sets-c ms st
 states-c zero ms st h k = at-state (IsStateOf rounds c sets-c) both ms (Takes a hears-c) st h k
-    (Receives a hears-c (λ e. cc (e)) (two-members (λ z. (theirs : List Arm) × Talks rounds z a c theirs) (goes, refl) (halts, refl)) refl record { choices = refl; nexts = nexts-c })
-states-c (suc zero) ms st h k = at-state (IsStateOf rounds c sets-c) [] ms Done st h k (Ends refl refl)
+    (IsTakes a hears-c (λ e. cc (e)) (two-members (λ z. (theirs : List Arm) × Talks rounds z a c theirs) (goes, refl) (halts, refl)) refl record { choices = refl; nexts = nexts-c })
+states-c (suc zero) ms st h k = at-state (IsStateOf rounds c sets-c) [] ms Done st h k (IsDone refl refl)
 states-c (suc (suc t)) ms st h k = absurd (cc (h))
 
 for-c : IsProjection rounds c rounds_for_c

@@ -55,7 +55,7 @@ pub data Agree (protocol : Protocol_data) (role : Role) (one other : ℕ) : Type
   BothReceive : (peer : Role) (arms others : List Arm) → Talks protocol one peer role arms → Talks protocol other peer role others
       → HaveSameSorts arms others → Agree protocol role one other
 
--- the choices without those whose label stands at an earlier one
+-- the choices without those whose label stands at an earlier one, or among those of the second list
 abbrev pub first_choices : List Choice → List Choice → List Choice
 first_choices [] earlier = []
 first_choices (c ∷ later) earlier =
@@ -94,11 +94,11 @@ pub record AreArmsOf (protocol : Protocol_data) (role : Role) (sets : List (List
 -- the state that stands for these members: Done for none, and else the role sends to the peer to whom it sends in all
 -- of them, or receives from the peer from whom it receives in all of them
 pub data IsStateOf (protocol : Protocol_data) (role : Role) (sets : List (List ℕ)) (members : List ℕ) (state : State) : Type 0 where
-  Ends : members ≡ [] → state ≡ Done → IsStateOf protocol role sets members state
-  Sends : (peer : Role) (arms : List Arm) → members ≢ []
+  IsDone : members ≡ [] → state ≡ Done → IsStateOf protocol role sets members state
+  IsPuts : (peer : Role) (arms : List Arm) → members ≢ []
       → ((talk : ℕ) → Contains members talk → (theirs : List Arm) × Talks protocol talk role peer theirs)
       → state ≡ Puts peer arms → AreArmsOf protocol role sets members arms → IsStateOf protocol role sets members state
-  Receives : (peer : Role) (arms : List Arm) → members ≢ []
+  IsTakes : (peer : Role) (arms : List Arm) → members ≢ []
       → ((talk : ℕ) → Contains members talk → (theirs : List Arm) × Talks protocol talk peer role theirs)
       → state ≡ Takes peer arms → AreArmsOf protocol role sets members arms → IsStateOf protocol role sets members state
 

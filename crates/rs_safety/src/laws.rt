@@ -5,6 +5,7 @@ ghost use Rattle.rs_core.specs.Safety.{IsSafe};
 ghost use Rattle.rs_model.specs.Data.{Machine_data, Protocol_data};
 ghost use Rattle.rs_model.specs.WellFormed.{IsWellFormedMachine};
 ghost use Rattle.rs_model.specs.declared.graph.Role.{Role};
+ghost use Rattle.rs_safety.specs.Alike.{AreAlike};
 ghost use Rattle.rs_safety.specs.Data.{Projection_data};
 ghost use Rattle.rs_safety.specs.Examples.{c, left_waiting, not_told, projections_of_rounds, rounds};
 ghost use Rattle.rs_safety.specs.Projection.{AreProjections, IsProjection};
@@ -18,6 +19,11 @@ pub fn equal_sessions_are_safe()
 /// The machine of a projection of a well-formed protocol is well formed.
 pub fn projections_are_well_formed()
     ensures { (protocol : Protocol_data) (role : Role) (projection : Projection_data) → IsWellFormed protocol → role.0 < protocol.roles → IsProjection protocol role projection → IsWellFormedMachine projection.machine protocol.roles }
+{}
+
+/// A well-formed protocol has one projection onto a role, but for the numbers of its states.
+pub fn projections_are_alike()
+    ensures { (protocol : Protocol_data) (role : Role) (one other : Projection_data) → IsWellFormed protocol → IsProjection protocol role one → IsProjection protocol role other → AreAlike one other }
 {}
 
 /// The premises can be met: a well-formed protocol with a choice, recursion and three roles, and its projections.
