@@ -1,14 +1,12 @@
 -- What is first met from a node, step by step.
-use Rattle.std.proofs.Common.{◌≡◌, ◌≢◌, ◌⊎◌, ◌↔◌, inl, inr, ℕ, zero, suc, ◌<◌, List, [], ◌∷◌, Some, slice_get, length, refl, sym, subst, subst₂, arith}
+use Rattle.std.proofs.Common.{◌≡◌, ◌↔◌, inl, inr, ℕ, zero, suc, ◌<◌, List, [], ◌∷◌, Some, slice_get, refl, sym, subst, subst₂, arith}
 use Rattle.std.specs.List.{AllPairs, Contains}
 use Rattle.rs_model.specs.Data.{Protocol_data}
-use Rattle.rs_model.specs.declared.graph.Arm.{Arm}
 use Rattle.rs_model.specs.declared.graph.Label.{Label}
 use Rattle.rs_model.specs.declared.graph.Role.{Role}
-use Rattle.rs_wellformed.specs.Faults.{Talks}
 use Rattle.rs_safety.specs.Graph.{PathStep, LeadsTo, IsPath, Involves, IsIdle, PassesBy, AllPassBy, MeetsFirst, MeetsTheEnd}
 use Rattle.rs_safety.specs.Projection.{IsSet, LeadsOn, MeetsBehind, EndsBehind, Agree}
-use Rattle.rs_safety.proofs.Members.{Among, contained, contains}
+use Rattle.rs_safety.proofs.Members.{contained, contains}
 use Rattle.rs_safety.proofs.Walks.{step_of}
 
 pub meets-itself : (pr : Protocol_data) (p : Role) (g : ℕ) → Involves pr p g → MeetsFirst pr p g g

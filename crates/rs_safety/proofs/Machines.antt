@@ -1,5 +1,5 @@
 -- A projection's machine is well formed.
-use Rattle.std.proofs.Common.{◌≡◌, ◌≢◌, ◌⊎◌, inl, inr, ℕ, zero, suc, ◌<◌, Bool, true, false, ◌||◌, List, [], ◌∷◌, ◌++◌, map, length, Option, Some, slice_get, refl, sym, ap, ◌∙◌, subst, subst₂, arith, if◌then◌else◌, ◌==◌, get_or}
+use Rattle.std.proofs.Common.{◌≡◌, ◌≢◌, inl, inr, ℕ, zero, suc, ◌<◌, Bool, true, false, ◌||◌, List, [], ◌∷◌, ◌++◌, map, Option, Some, slice_get, refl, sym, ap, ◌∙◌, subst, subst₂, arith, if◌then◌else◌, ◌==◌, get_or}
 use Rattle.std.specs.List.{Contains, flat_map}
 use Rattle.std.proofs.lemmas.Bool.Decides.{eqb_tells}
 use Rattle.std.proofs.lemmas.Option.{slice_get_within, slice_get-get_or}
@@ -8,10 +8,9 @@ use Rattle.rs_model.specs.WellFormed.{StateFits, IsWellFormedMachine}
 use Rattle.rs_model.specs.declared.graph.Arm.{Arm}
 use Rattle.rs_model.specs.declared.graph.Label.{Label}
 use Rattle.rs_model.specs.declared.graph.Node.{Node}
-use Rattle.rs_model.specs.declared.graph.Node.TheVariants.{Talk}
 use Rattle.rs_model.specs.declared.graph.Role.{Role}
 use Rattle.rs_model.specs.declared.machines.State.{State}
-use Rattle.rs_model.specs.declared.machines.State.TheVariants.{Done, Puts, Takes}
+use Rattle.rs_model.specs.declared.machines.State.TheVariants.{Puts, Takes}
 use Rattle.rs_wellformed.specs.Faults.{Talks}
 use Rattle.rs_wellformed.specs.WellFormed.{IsWellFormed}
 use Rattle.rs_safety.specs.Data.{Projection_data}

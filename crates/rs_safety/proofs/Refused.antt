@@ -1,8 +1,7 @@
 -- Protocols that have no projection onto a role.
-use Rattle.std.proofs.Common.{◌≡◌, ◌≢◌, inl, inr, ℕ, List, [], ◌∷◌, refl, sym}
-use Rattle.rs_model.specs.declared.graph.Arm.{Arm}
+use Rattle.std.proofs.Common.{[], ◌∷◌, refl}
 use Rattle.rs_safety.specs.Data.{Projection_data}
-use Rattle.rs_safety.specs.Graph.{LeadsTo, Involves, IsIdle, PassesBy}
+use Rattle.rs_safety.specs.Graph.{LeadsTo, Involves, PassesBy}
 use Rattle.rs_safety.specs.Projection.{IsProjection}
 use Rattle.rs_safety.specs.Examples.{a, b, c, to, not_told, left_waiting}
 use Rattle.rs_safety.proofs.Members.{no-member}

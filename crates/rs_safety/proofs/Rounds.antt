@@ -1,23 +1,15 @@
 -- A small protocol with a choice and recursion, and its projections.
-use Rattle.std.proofs.Common.{◌≡◌, ◌≢◌, ◌⊎◌, inl, inr, ℕ, zero, suc, ◌<◌, ◌≤◌, List, [], ◌∷◌, map, Some, slice_get, length, refl, sym, ap, ◌∙◌, subst, subst₂, arith}
-use Rattle.std.specs.List.{Contains}
-use Rattle.rs_model.specs.Data.{Protocol_data}
+use Rattle.std.proofs.Common.{◌≡◌, ◌≢◌, ℕ, zero, suc, ◌<◌, List, [], ◌∷◌, Some, slice_get, refl, sym, ap, ◌∙◌, subst, subst₂, arith}
 use Rattle.rs_model.specs.declared.graph.Arm.{Arm}
 use Rattle.rs_model.specs.declared.graph.Label.{Label}
-use Rattle.rs_model.specs.declared.graph.Node.{Node}
-use Rattle.rs_model.specs.declared.graph.Node.TheVariants.{Finished, Talk}
+use Rattle.rs_model.specs.declared.graph.Node.TheVariants.{Talk}
 use Rattle.rs_model.specs.declared.graph.Role.{Role}
-use Rattle.rs_model.specs.declared.machines.State.{State}
-use Rattle.rs_model.specs.declared.machines.State.TheVariants.{Done, Puts, Takes}
 use Rattle.rs_wellformed.specs.Faults.{Talks}
 use Rattle.rs_wellformed.specs.WellFormed.{TalkFits, IsWellFormed}
-use Rattle.rs_safety.specs.Data.{Projection_data}
-use Rattle.rs_safety.specs.Graph.{PathStep, LeadsTo, IsPath, IsReachedFrom, Involves, IsIdle, PassesBy, AllPassBy, MeetsFirst, MeetsTheEnd, IsUnreached}
-use Rattle.rs_safety.specs.Projection.{IsSet, choice_of, Agree, BothSend, BothReceive, LeadsOn, MeetsBehind, EndsBehind, AreArmsOf, IsProjection, AreProjections}
-use Rattle.rs_safety.specs.Examples.{a, b, c, to, rounds, projection_with, projections_of_rounds}
-use Rattle.rs_safety.proofs.Members.{Among, contained, contains}
-use Rattle.rs_safety.proofs.Walks.{step_of, numbered, involves-sender, involves-receiver, involves-neither, idle-end}
-use Rattle.rs_safety.proofs.Fronts.{meets-itself, meets-on, ends-on, Met, Here, There, met, Ended, Rests, Later, ended, rising-two, single-set, end-set, through, behind-set, agree-single}
+use Rattle.rs_safety.specs.Graph.{LeadsTo, IsPath, Involves, IsIdle, PassesBy}
+use Rattle.rs_safety.specs.Projection.{LeadsOn}
+use Rattle.rs_safety.specs.Examples.{a, b, c, to, rounds}
+use Rattle.rs_safety.proofs.Walks.{step_of, involves-sender, involves-receiver, involves-neither, idle-end}
 
 pub a-b : a ≢ b
 a-b e = let n : 0 ≡ 1 = ap (λ (z : Role). z.0) e in absurd (omega (arith, n))
@@ -219,4 +211,3 @@ rounds-well-formed = record {
     fits (suc (suc zero)) x y arms t = as-it-is a c x y halts arms t (fits-one a c (to 3 3) a-c (omega arith) (omega arith) (omega arith))
     fits (suc (suc (suc zero))) x y arms t = absurd (cc (t))
     fits (suc (suc (suc (suc n)))) x y arms t = absurd (cc (t))
-

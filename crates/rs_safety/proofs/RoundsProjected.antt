@@ -1,9 +1,7 @@
 -- The projections of the small protocol.
-use Rattle.std.proofs.Common.{◌≡◌, ◌≢◌, ◌⊎◌, inl, inr, ℕ, zero, suc, ◌<◌, List, [], ◌∷◌, map, Some, slice_get, length, refl, sym, ap, ◌∙◌, subst, subst₂, arith}
+use Rattle.std.proofs.Common.{◌≡◌, ◌≢◌, inl, inr, ℕ, zero, suc, List, [], ◌∷◌, map, Some, slice_get, refl, sym, ap, ◌∙◌, subst, subst₂, arith}
 use Rattle.std.specs.List.{Contains}
-use Rattle.rs_model.specs.Data.{Protocol_data}
 use Rattle.rs_model.specs.declared.graph.Arm.{Arm}
-use Rattle.rs_model.specs.declared.graph.Label.{Label}
 use Rattle.rs_model.specs.declared.graph.Role.{Role}
 use Rattle.rs_model.specs.declared.machines.State.{State}
 use Rattle.rs_model.specs.declared.machines.State.TheVariants.{Done, Puts, Takes}
@@ -11,10 +9,9 @@ use Rattle.rs_model.specs.declared.values.Sort.TheVariants as sort
 use Rattle.rs_wellformed.specs.Faults.{Talks}
 use Rattle.rs_safety.specs.Data.{Projection_data}
 use Rattle.rs_safety.specs.Graph.{PathStep, LeadsTo, IsPath, Involves, IsIdle, PassesBy, AllPassBy, MeetsFirst, MeetsTheEnd, IsUnreached}
-use Rattle.rs_safety.specs.Projection.{IsSet, Choice, choice_of, merged_choices, HaveSameSorts, Agree, BothSend, BothReceive, LeadsOn, MeetsBehind, EndsBehind, AreArmsOf, IsStateOf, IsDone, IsPuts, IsTakes, IsProjection, AreProjections}
+use Rattle.rs_safety.specs.Projection.{IsSet, Choice, choice_of, Agree, BothSend, BothReceive, LeadsOn, MeetsBehind, EndsBehind, IsStateOf, IsDone, IsPuts, IsTakes, IsProjection, AreProjections}
 use Rattle.rs_safety.specs.Examples.{a, b, c, to, rounds, rounds_for_a, rounds_for_b, rounds_for_c, projections_of_rounds}
-use Rattle.rs_safety.proofs.Members.{Among, contained, contains}
-use Rattle.rs_safety.proofs.Walks.{numbered}
+use Rattle.rs_safety.proofs.Members.{contained, contains}
 use Rattle.rs_safety.proofs.Fronts.{meets-itself, meets-on, Met, Here, There, met, met-here, no-end-here, Ended, Rests, Later, ended, rising-two, single-set, end-set, through, behind-set, agree-single}
 use Rattle.rs_safety.proofs.Rounds.{choice, goes, halts, Edge, More, Stop, Go, Halt, arm-is, edge, more, stop, go, halt, target, leads-to, a-0, a-1, a-2, b-0, c-1, c-2, idle-3, passes-b, idle-b, passes-c}
 
@@ -252,8 +249,8 @@ receive-from-a g h l n k m tg th = BothReceive a (to l n ∷ []) (to k m ∷ [])
 agree-c : (t : ℕ) (ms : List ℕ) → slice_get sets-c t ≡ Some ms → (one other : ℕ) → Contains ms one → Contains ms other → Agree rounds c one other
 agree-c zero ms h = at-set (λ z. (one other : ℕ) → Contains z one → Contains z other → Agree rounds c one other) both ms h
     (λ x y hx hy. two-members (λ z. Agree rounds c z y)
-        (two-members (λ z. Agree rounds c 1 z) (receive-from-a 1 1 2 0 2 0 refl refl) (receive-from-a 1 2 2 0 3 3 refl refl) y hy)
-        (two-members (λ z. Agree rounds c 2 z) (receive-from-a 2 1 3 3 2 0 refl refl) (receive-from-a 2 2 3 3 3 3 refl refl) y hy) x hx)
+    (two-members (λ z. Agree rounds c 1 z) (receive-from-a 1 1 2 0 2 0 refl refl) (receive-from-a 1 2 2 0 3 3 refl refl) y hy)
+    (two-members (λ z. Agree rounds c 2 z) (receive-from-a 2 1 3 3 2 0 refl refl) (receive-from-a 2 2 3 3 3 3 refl refl) y hy) x hx)
 agree-c (suc zero) ms h = at-set (λ z. (one other : ℕ) → Contains z one → Contains z other → Agree rounds c one other) [] ms h (λ x y m. absurd (contained [] x m))
 agree-c (suc (suc t)) ms h = absurd (cc (h))
 

@@ -1,16 +1,13 @@
 -- Sessions of machines that are their projections are safe.
-use Rattle.std.proofs.Common.{◌≡◌, ◌≢◌, ℕ, zero, suc, ◌<◌, List, [], ◌∷◌, map, Some, slice_get, length, refl, sym, ap, ◌∙◌, subst, arith, get_or}
+use Rattle.std.proofs.Common.{◌≡◌, ℕ, zero, suc, ◌<◌, List, [], ◌∷◌, map, Some, slice_get, length, refl, sym, ap, ◌∙◌, subst, arith, get_or}
 use Rattle.std.proofs.lemmas.Option.{slice_get-get_or, slice_get_within}
 use Rattle.rs_model.specs.Data.{Machine_data, Protocol_data}
 use Rattle.rs_model.specs.WellFormed.{IsWellFormedMachine}
-use Rattle.rs_model.specs.declared.graph.Arm.{Arm}
-use Rattle.rs_model.specs.declared.graph.Role.{Role}
-use Rattle.rs_model.specs.declared.machines.State.TheVariants.{Takes}
 use Rattle.rs_wellformed.specs.WellFormed.{IsWellFormed}
 use Rattle.rs_core.specs.Safety.{IsSafe}
 use Rattle.rs_core.proofs.Stands.{Peered}
 use Rattle.rs_safety.specs.Data.{Projection_data}
-use Rattle.rs_safety.specs.Projection.{IsProjection, AreProjections}
+use Rattle.rs_safety.specs.Projection.{AreProjections}
 use Rattle.rs_safety.proofs.Walks.{numbered}
 use Rattle.rs_safety.proofs.Machines.{projection-machine}
 use Rattle.rs_safety.proofs.Built.{safe-of-parts}
