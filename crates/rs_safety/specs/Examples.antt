@@ -22,7 +22,8 @@ c = record { 0 = 2 }
 abbrev pub to : ℕ → ℕ → Arm
 to label next = record { label = record { 0 = label }; sort = sort.Unit; next = next }
 
--- `rec X. A->B{more(). A->C:go(). X, stop(). A->C:halt(). end}`, with the labels in the order of the text
+-- `rec X. A->B{more(). A->C:go(). X, stop(). A->C:halt(). end}`; the labels are 0 for more, 1 for stop, 2 for go and 3 for
+-- halt
 abbrev pub rounds : Protocol_data
 rounds = record {
   roles = 3;
