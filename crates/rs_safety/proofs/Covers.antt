@@ -1,0 +1,349 @@
+-- A state of the projection covers a node of the protocol where it has all that is met first from there.
+use Rattle.std.proofs.Common.{◌≡◌, ◌≢◌, ◌⊎◌, inl, inr, ℕ, zero, suc, Bool, true, false, ◌||◌, List, [], ◌∷◌, ◌++◌, map, Option, Some, None, slice_get, refl, sym, ap, ◌∙◌, subst, if◌then◌else◌, ◌==◌, arith, get_or}
+use Rattle.std.specs.List.{Contains, flat_map, list_any}
+use Rattle.std.proofs.lemmas.Bool.Decides.{eqb_tells}
+use Rattle.std.proofs.lemmas.List.Folds.{list_any-append}
+use Rattle.std.proofs.lemmas.Option.{slice_get_within, slice_get-get_or}
+use Rattle.rs_model.specs.Data.{Protocol_data}
+use Rattle.rs_model.specs.declared.graph.Arm.{Arm}
+use Rattle.rs_model.specs.declared.graph.Label.{Label}
+use Rattle.rs_model.specs.declared.graph.Node.{Node}
+use Rattle.rs_model.specs.declared.graph.Node.TheVariants.{Talk}
+use Rattle.rs_model.specs.declared.graph.Role.{Role}
+use Rattle.rs_model.specs.declared.machines.State.{State}
+use Rattle.rs_model.specs.declared.machines.State.TheVariants.{Done, Puts, Takes}
+use Rattle.rs_wellformed.specs.Faults.{Talks}
+use Rattle.rs_safety.specs.Data.{Projection_data}
+use Rattle.rs_safety.specs.Graph.{LeadsTo, Involves, IsIdle, MeetsFirst, MeetsTheEnd}
+use Rattle.rs_safety.specs.Projection.{IsSet, Choice, choice_of, choices_of, HaveSameChoices, HaveSameSorts, Agree, BothSend, BothReceive, first_choices, merged_choices, MeetsBehind, EndsBehind, IsStateOf, IsDone, IsPuts, IsTakes, IsProjection}
+use Rattle.rs_safety.proofs.Members.{Among, contained, contains, among-left, among-right, among-split, no-member}
+use Rattle.rs_safety.proofs.Walks.{step_of, involves-sender, involves-receiver}
+
+-- the set of number t has the talk
+pub record InSet (sets : List (List ℕ)) (t h : ℕ) : Type 0 where
+  pub members : List ℕ
+  pub is : slice_get sets t ≡ Some members
+  pub has : Contains members h
+
+pub record Covers (pr : Protocol_data) (p : Role) (sets : List (List ℕ)) (t g : ℕ) : Type 0 where
+  pub talks : (h : ℕ) → MeetsFirst pr p g h → InSet sets t h
+  pub ends : MeetsTheEnd pr p g → slice_get sets t ≡ Some []
+
+set-covers : (pr : Protocol_data) (p : Role) (sets : List (List ℕ)) (t g : ℕ) (M : ℕ → Type 0) (E : Type 0) → IsSet sets t M E
+    → ((h : ℕ) → MeetsFirst pr p g h → M h) → (MeetsTheEnd pr p g → E) → Covers pr p sets t g
+set-covers pr p sets t g M E s m e = record {
+  talks = λ h f. record { members = s.members; is = s.is; has = (s.talks h).1 (m h f) };
+  ends = λ f. (let n = s.ends.1 (e f) in rw (← n) s.is);
+}
+
+pub covers-start : (pr : Protocol_data) (p : Role) (pj : Projection_data) → IsProjection pr p pj
+    → Covers pr p pj.sets pj.machine.start pr.root
+covers-start pr p pj is =
+    let P : ℕ → Type 0 = λ z. Covers pr p pj.sets z pr.root in
+    subst P (sym is.start) (set-covers pr p pj.sets 0 pr.root (MeetsFirst pr p pr.root) (MeetsTheEnd pr p pr.root) is.first (λ h m. m) (λ e. e))
+
+-- each set has its state
+pub record Stood (pr : Protocol_data) (p : Role) (pj : Projection_data) (t : ℕ) (members : List ℕ) : Type 0 where
+  pub state : State
+  pub is : slice_get pj.machine.states t ≡ Some state
+  pub of : IsStateOf pr p pj.sets members state
+
+pub stood : (pr : Protocol_data) (p : Role) (pj : Projection_data) (t : ℕ) (members : List ℕ) → IsProjection pr p pj
+    → slice_get pj.sets t ≡ Some members → Stood pr p pj t members
+stood pr p pj t members is h =
+    let all = is.all in
+    let w = slice_get_within pj.sets t members h in
+    let st : State = get_or pj.machine.states t Done in
+    let at : slice_get pj.machine.states t ≡ Some st = slice_get-get_or pj.machine.states t Done (omega arith) in
+    record { state = st; is = at; of = is.states t members st h at }
+
+-- a set without talks has the state Done
+done-of-end : (pr : Protocol_data) (p : Role) (pj : Projection_data) (t : ℕ) → IsProjection pr p pj → slice_get pj.sets t ≡ Some []
+    → slice_get pj.machine.states t ≡ Some Done
+done-of-end pr p pj t is e = let s = stood pr p pj t [] is e in go s.state s.is s.of
+  where
+    go : (st : State) → slice_get pj.machine.states t ≡ Some st → IsStateOf pr p pj.sets [] st
+        → slice_get pj.machine.states t ≡ Some Done
+    go st at (IsDone n d) = cc (at, d)
+    go st at (IsPuts q arms n each d a) = absurd (n refl)
+    go st at (IsTakes q arms n each d a) = absurd (n refl)
+
+-- a covered idle node: the state is Done
+pub covers-idle : (pr : Protocol_data) (p : Role) (pj : Projection_data) (t g : ℕ) → IsProjection pr p pj → Covers pr p pj.sets t g
+    → IsIdle pr p g → slice_get pj.machine.states t ≡ Some Done
+covers-idle pr p pj t g is cov idle = done-of-end pr p pj t is (cov.ends record { steps = []; last = g; path = refl; earlier = tt; idle = idle })
+
+-- what covers a node that does not involve p covers its next nodes
+pub covers-next : (pr : Protocol_data) (p : Role) (sets : List (List ℕ)) (t g a h : ℕ) → Covers pr p sets t g
+    → (Involves pr p g → ⊥) → LeadsTo pr g a h → Covers pr p sets t h
+covers-next pr p sets t g a h cov un goes = record {
+  talks = λ k m. cov.talks k record {
+    steps = step_of g a ∷ m.steps;
+    path = (h, refl, goes, m.path);
+    earlier = (record { uninvolved = un; awaited = λ idle. idle k (step_of g a ∷ m.steps, (h, refl, goes, m.path)) m.involved }, m.earlier);
+    involved = m.involved;
+  };
+  ends = λ e. end-stays e (slice_get sets t) refl;
+}
+  where
+    still : (IsIdle pr p g → ⊥) → MeetsTheEnd pr p h → slice_get sets t ≡ Some []
+    still awaited e = cov.ends record {
+      steps = step_of g a ∷ e.steps;
+      last = e.last;
+      path = (h, refl, goes, e.path);
+      earlier = (record { uninvolved = un; awaited = awaited }, e.earlier);
+      idle = e.idle;
+    }
+
+    at-once : IsIdle pr p g → slice_get sets t ≡ Some []
+    at-once idle = cov.ends record { steps = []; last = g; path = refl; earlier = tt; idle = idle }
+
+    end-stays : MeetsTheEnd pr p h → (o : Option (List ℕ)) → slice_get sets t ≡ o → slice_get sets t ≡ Some []
+    end-stays e (Some []) s = s
+    end-stays e None s = still (λ idle. cc (s, at-once idle)) e
+    end-stays e (Some (x ∷ xs)) s = still (λ idle. cc (s, at-once idle)) e
+
+-- a covered node at a state that is not Done is not idle
+pub covers-awaited : (pr : Protocol_data) (p : Role) (pj : Projection_data) (t g : ℕ) → IsProjection pr p pj
+    → Covers pr p pj.sets t g → (slice_get pj.machine.states t ≡ Some Done → ⊥) → IsIdle pr p g → ⊥
+covers-awaited pr p pj t g is cov live idle = live (covers-idle pr p pj t g is cov idle)
+
+-- choices and arms
+pub choice-arm : (arms : List Arm) (c : Choice) → Among (map choice_of arms) c
+    → (k : ℕ) × (arm : Arm) × (slice_get arms k ≡ Some arm) × (choice_of arm ≡ c)
+choice-arm [] c h = absurd h
+choice-arm (a ∷ arms) c (inl e) = (0, a, refl, e)
+choice-arm (a ∷ arms) c (inr h) = let r = choice-arm arms c h in (suc r.0, r.1, r.2, r.3)
+
+pub arm-choice : (arms : List Arm) (k : ℕ) (arm : Arm) → slice_get arms k ≡ Some arm → Among (map choice_of arms) (choice_of arm)
+arm-choice [] k arm h = absurd (cc (h))
+arm-choice (a ∷ arms) zero arm h = let e : a ≡ arm = cc (h) in inl (ap choice_of e)
+arm-choice (a ∷ arms) (suc k) arm h = inr (arm-choice arms k arm h)
+
+-- whether the label stands at one of the choices
+abbrev pub has_label : Label → List Choice → Bool
+has_label l cs = list_any (λ b. b.label.0 == l.0) cs
+
+pub label-last : (l : Label) (cs : List Choice) (c : Choice) → has_label l (cs ++ (c ∷ [])) ≡ (has_label l cs || (c.label.0 == l.0))
+label-last l cs c = list_any-append (λ b. b.label.0 == l.0) cs (c ∷ []) ∙ ap (λ (z : Bool). has_label l cs || z) (or-false (c.label.0 == l.0))
+  where
+    or-false : (b : Bool) → (b || false) ≡ b
+    or-false true = refl
+    or-false false = refl
+
+-- the first choices are choices
+pub first-from : (cs earlier : List Choice) (c : Choice) → Among (first_choices cs earlier) c → Among cs c
+first-from [] earlier c h = h
+first-from (a ∷ later) earlier c h = go (has_label a.label earlier) (first-from later earlier c) (first-from later (earlier ++ (a ∷ [])) c) h
+  where
+    go : (b : Bool) → (Among (first_choices later earlier) c → Among later c)
+        → (Among (first_choices later (earlier ++ (a ∷ []))) c → Among later c)
+        → Among (if b then first_choices later earlier else a ∷ first_choices later (earlier ++ (a ∷ []))) c → Among (a ∷ later) c
+    go true skip keep h' = inr (skip h')
+    go false skip keep (inl e) = inl e
+    go false skip keep (inr h') = inr (keep h')
+
+-- a choice with the label
+abbrev pub Labelled : Label → List Choice → Type 0
+Labelled l cs = (d : Choice) × Among cs d × (d.label ≡ l)
+
+pub same-label : (x y : Label) → x.0 ≡ y.0 → x ≡ y
+same-label x y e = ap (λ (z : ℕ). record { 0 = z }) e
+
+-- each label stands at a first choice, or stood earlier
+first-label : (cs earlier : List Choice) (c : Choice) → Among cs c
+    → (has_label c.label earlier ≡ true) ⊎ Labelled c.label (first_choices cs earlier)
+first-label [] earlier c h = absurd h
+first-label (a ∷ later) earlier c h = go (has_label a.label earlier) refl h (first-label later earlier c) (first-label later (earlier ++ (a ∷ [])) c)
+  where
+    kept : (has_label c.label (earlier ++ (a ∷ [])) ≡ true) ⊎ Labelled c.label (first_choices later (earlier ++ (a ∷ [])))
+        → (has_label c.label earlier ≡ true) ⊎ Labelled c.label (a ∷ first_choices later (earlier ++ (a ∷ [])))
+    kept (inr d) = inr (d.0, inr d.1, d.2)
+    kept (inl t) = elim (eqb_tells a.label.0 c.label.0) [
+      | inl u ↦ inr (a, inl refl, same-label a.label c.label u.1)
+      | inr u ↦ inl (drop-last (has_label c.label earlier) (sym (label-last c.label earlier a) ∙ t) u.0)
+    ]
+      where
+        drop-last : (b : Bool) → (b || (a.label.0 == c.label.0)) ≡ true → (a.label.0 == c.label.0) ≡ false → b ≡ true
+        drop-last true e f = refl
+        drop-last false e f = absurd (cc (e, f))
+
+    go : (b : Bool) → has_label a.label earlier ≡ b → Among (a ∷ later) c
+        → (Among later c → (has_label c.label earlier ≡ true) ⊎ Labelled c.label (first_choices later earlier))
+        → (Among later c → (has_label c.label (earlier ++ (a ∷ [])) ≡ true) ⊎ Labelled c.label (first_choices later (earlier ++ (a ∷ []))))
+        → (has_label c.label earlier ≡ true)
+        ⊎ Labelled c.label (if b then first_choices later earlier else a ∷ first_choices later (earlier ++ (a ∷ [])))
+    go true e (inl s) skip keep = let P : Choice → Type 0 = λ z. has_label z.label earlier ≡ true in inl (subst P s e)
+    go true e (inr h') skip keep = skip h'
+    go false e (inl s) skip keep = inr (a, inl refl, ap (λ (z : Choice). z.label) s)
+    go false e (inr h') skip keep = kept (keep h')
+
+-- the choices of a member
+abbrev pub member_choices : Protocol_data → ℕ → List Choice
+member_choices pr n = choices_of (slice_get pr.nodes n)
+
+flat-from : (pr : Protocol_data) (members : List ℕ) (c : Choice) → Among (flat_map (λ n. choices_of (slice_get pr.nodes n)) members) c
+    → (h : ℕ) × Among members h × Among (member_choices pr h) c
+flat-from pr [] c h = absurd h
+flat-from pr (m ∷ ms) c h = elim (among-split (member_choices pr m) (flat_map (λ n. choices_of (slice_get pr.nodes n)) ms) c h) [
+  | inl a ↦ (m, inl refl, a)
+  | inr b ↦ (let r = flat-from pr ms c b in (r.0, inr r.1, r.2))
+]
+
+flat-has : (pr : Protocol_data) (members : List ℕ) (h : ℕ) (c : Choice) → Among members h → Among (member_choices pr h) c
+    → Among (flat_map (λ n. choices_of (slice_get pr.nodes n)) members) c
+flat-has pr [] h c m a = absurd m
+flat-has pr (x ∷ xs) h c (inl e) a =
+    let P : ℕ → Type 0 = λ z. Among (member_choices pr z) c in
+    among-left (member_choices pr x) (flat_map (λ n. choices_of (slice_get pr.nodes n)) xs) c (subst P (sym e) a)
+flat-has pr (x ∷ xs) h c (inr m) a =
+    among-right (member_choices pr x) (flat_map (λ n. choices_of (slice_get pr.nodes n)) xs) c (flat-has pr xs h c m a)
+
+-- what is merged comes from a member
+pub merged-from : (pr : Protocol_data) (members : List ℕ) (c : Choice) → Among (merged_choices pr members) c
+    → (h : ℕ) × Contains members h × Among (member_choices pr h) c
+merged-from pr members c h =
+    let r = flat-from pr members c (first-from (flat_map (λ n. choices_of (slice_get pr.nodes n)) members) [] c h) in
+    (r.0, contains members r.0 r.1, r.2)
+
+-- each label of a member is merged
+pub merged-label : (pr : Protocol_data) (members : List ℕ) (h : ℕ) (c : Choice) → Contains members h
+    → Among (member_choices pr h) c → Labelled c.label (merged_choices pr members)
+merged-label pr members h c m a =
+    elim (first-label (flat_map (λ n. choices_of (slice_get pr.nodes n)) members) [] c (flat-has pr members h c (contained members h m) a)) [
+      | inl e ↦ absurd (cc (e))
+      | inr d ↦ d
+    ]
+
+-- a covered send of p: the state puts to its receiver, with arms that the talk has
+pub record PutsAt (pr : Protocol_data) (p : Role) (pj : Projection_data) (t : ℕ) (y : Role) (theirs : List Arm) : Type 0 where
+  pub arms : List Arm
+  pub is : slice_get pj.machine.states t ≡ Some (Puts y arms)
+  pub each : (k : ℕ) (arm : Arm) → slice_get arms k ≡ Some arm
+      → (a : ℕ) × (to : Arm) × (slice_get theirs a ≡ Some to) × (to.label ≡ arm.label) × (to.sort ≡ arm.sort) × Covers pr p pj.sets arm.next to.next
+
+-- a covered receive of p: the state takes from its sender, with all arms of the talk
+pub record TakesAt (pr : Protocol_data) (p : Role) (pj : Projection_data) (t : ℕ) (x : Role) (theirs : List Arm) : Type 0 where
+  pub arms : List Arm
+  pub is : slice_get pj.machine.states t ≡ Some (Takes x arms)
+  pub each : (a : ℕ) (to : Arm) → slice_get theirs a ≡ Some to
+      → (k : ℕ) × (arm : Arm) × (slice_get arms k ≡ Some arm) × (arm.label ≡ to.label) × (arm.sort ≡ to.sort) × Covers pr p pj.sets arm.next to.next
+
+-- what two agreeing members are, where the second is known
+agree-put : (pr : Protocol_data) (p : Role) (h g : ℕ) (y : Role) (theirs : List Arm) → p ≢ y → Talks pr g p y theirs
+    → Agree pr p h g → (bs : List Arm) × Talks pr h p y bs × HaveSameChoices bs theirs
+agree-put pr p h g y theirs ne is (BothSend q bs cs nh ng same) =
+    let e : Some (Talk p q cs) ≡ Some (Talk p y theirs) = sym ng ∙ is in
+    let eq : q ≡ y = cc (e) in
+    let ec : cs ≡ theirs = cc (e) in
+    let P : List Arm → Type 0 = λ z. HaveSameChoices bs z in
+    (bs, cc (nh, eq), subst P ec same)
+agree-put pr p h g y theirs ne is (BothReceive q bs cs nh ng same) =
+    let e : Some (Talk q p cs) ≡ Some (Talk p y theirs) = sym ng ∙ is in
+    let ep : p ≡ y = cc (e) in
+    absurd (ne ep)
+
+agree-take : (pr : Protocol_data) (p : Role) (h g : ℕ) (x : Role) (theirs : List Arm) → x ≢ p → Talks pr g x p theirs
+    → Agree pr p h g → (bs : List Arm) × Talks pr h x p bs × HaveSameSorts bs theirs
+agree-take pr p h g x theirs ne is (BothSend q bs cs nh ng same) =
+    let e : Some (Talk p q cs) ≡ Some (Talk x p theirs) = sym ng ∙ is in
+    let ep : x ≡ p = cc (e) in
+    absurd (ne ep)
+agree-take pr p h g x theirs ne is (BothReceive q bs cs nh ng same) =
+    let e : Some (Talk q p cs) ≡ Some (Talk x p theirs) = sym ng ∙ is in
+    let eq : q ≡ x = cc (e) in
+    let ec : cs ≡ theirs = cc (e) in
+    let P : List Arm → Type 0 = λ z. HaveSameSorts bs z in
+    (bs, cc (nh, eq), subst P ec same)
+
+behind-covers : (pr : Protocol_data) (p : Role) (pj : Projection_data) (members : List ℕ) (g a : ℕ) (to arm : Arm) → Contains members g
+    → (goes : LeadsTo pr g a to.next) → goes.arm ≡ to → to.label ≡ arm.label
+    → IsSet pj.sets arm.next (MeetsBehind pr p members arm.label) (EndsBehind pr p members arm.label)
+    → Covers pr p pj.sets arm.next to.next
+behind-covers pr p pj members g a to arm member goes same label s =
+    let l : goes.arm.label ≡ arm.label = ap (λ (z : Arm). z.label) same ∙ label in
+    set-covers pr p pj.sets arm.next to.next (MeetsBehind pr p members arm.label) (EndsBehind pr p members arm.label) s
+    (λ h m. (to.next, record { talk = g; member = member; place = a; step = goes; its_label = l }, m))
+    (λ m. (to.next, record { talk = g; member = member; place = a; step = goes; its_label = l }, m))
+
+put-state : (pr : Protocol_data) (p : Role) (pj : Projection_data) (t g : ℕ) (y : Role) (theirs : List Arm) (members : List ℕ) (st : State)
+    → IsProjection pr p pj → p ≢ y → Talks pr g p y theirs
+    → slice_get pj.sets t ≡ Some members → Contains members g → slice_get pj.machine.states t ≡ Some st
+    → IsStateOf pr p pj.sets members st → PutsAt pr p pj t y theirs
+put-state pr p pj t g y theirs members st is ne ng at member is_st (IsDone e d) = absurd (no-member members g e member)
+put-state pr p pj t g y theirs members st is ne ng at member is_st (IsTakes q arms n each d ar) =
+    let r = each g member in
+    let same : Some (Talk q p r.0) ≡ Some (Talk p y theirs) = sym r.1 ∙ ng in
+    let ep : p ≡ y = cc (same) in
+    absurd (ne ep)
+put-state pr p pj t g y theirs members st is ne ng at member is_st (IsPuts q arms n each d ar) =
+    let r = each g member in
+    let same : Some (Talk p q r.0) ≡ Some (Talk p y theirs) = sym r.1 ∙ ng in
+    let eq : q ≡ y = cc (same) in
+    record { arms = arms; is = cc (is_st, d, eq); each = one }
+  where
+    from-member : (k : ℕ) (arm : Arm) → slice_get arms k ≡ Some arm → Among (map choice_of theirs) (choice_of arm)
+    from-member k arm h =
+        let P : List Choice → Type 0 = λ z. Among z (choice_of arm) in
+        let m = merged-from pr members (choice_of arm) (subst P ar.choices (arm-choice arms k arm h)) in
+        let a = agree-put pr p m.0 g y theirs ne ng (is.agree t members at m.0 g m.1 member) in
+        let Q : Option Node → Type 0 = λ z. Among (choices_of z) (choice_of arm) in
+        contained (map choice_of theirs) (choice_of arm) ((a.2 (choice_of arm)).0 (contains (map choice_of a.0) (choice_of arm) (subst Q a.1 m.2)))
+
+    one : (k : ℕ) (arm : Arm) → slice_get arms k ≡ Some arm
+        → (a : ℕ) × (to : Arm) × (slice_get theirs a ≡ Some to) × (to.label ≡ arm.label) × (to.sort ≡ arm.sort) × Covers pr p pj.sets arm.next to.next
+    one k arm h =
+        let f = choice-arm theirs (choice_of arm) (from-member k arm h) in
+        let label : f.1.label ≡ arm.label = ap (λ (z : Choice). z.label) f.3 in
+        let goes : LeadsTo pr g f.0 f.1.next = record { sender = p; receiver = y; arms = theirs; arm = f.1; talks = ng; stands = f.2; leads = refl } in
+        (f.0, f.1, f.2, label, ap (λ (z : Choice). z.sort) f.3, behind-covers pr p pj members g f.0 f.1 arm member goes refl label (ar.nexts k arm h))
+
+pub covers-put : (pr : Protocol_data) (p : Role) (pj : Projection_data) (t g : ℕ) (y : Role) (theirs : List Arm) → IsProjection pr p pj
+    → p ≢ y → Talks pr g p y theirs → Covers pr p pj.sets t g → PutsAt pr p pj t y theirs
+covers-put pr p pj t g y theirs is ne ng cov =
+    let m = cov.talks g record { steps = []; path = refl; earlier = tt; involved = involves-sender pr p g y theirs ng } in
+    let s = stood pr p pj t m.members is m.is in
+    put-state pr p pj t g y theirs m.members s.state is ne ng m.is m.has s.is s.of
+
+take-state : (pr : Protocol_data) (p : Role) (pj : Projection_data) (t g : ℕ) (x : Role) (theirs : List Arm) (members : List ℕ) (st : State)
+    → IsProjection pr p pj → x ≢ p → Talks pr g x p theirs
+    → slice_get pj.sets t ≡ Some members → Contains members g → slice_get pj.machine.states t ≡ Some st
+    → IsStateOf pr p pj.sets members st → TakesAt pr p pj t x theirs
+take-state pr p pj t g x theirs members st is ne ng at member is_st (IsDone e d) = absurd (no-member members g e member)
+take-state pr p pj t g x theirs members st is ne ng at member is_st (IsPuts q arms n each d ar) =
+    let r = each g member in
+    let same : Some (Talk p q r.0) ≡ Some (Talk x p theirs) = sym r.1 ∙ ng in
+    let ep : x ≡ p = cc (same) in
+    absurd (ne ep)
+take-state pr p pj t g x theirs members st is ne ng at member is_st (IsTakes q arms n each d ar) =
+    let r = each g member in
+    let same : Some (Talk q p r.0) ≡ Some (Talk x p theirs) = sym r.1 ∙ ng in
+    let eq : q ≡ x = cc (same) in
+    record { arms = arms; is = cc (is_st, d, eq); each = one }
+  where
+    sorts : (k : ℕ) (arm to : Arm) (a : ℕ) → slice_get arms k ≡ Some arm → slice_get theirs a ≡ Some to → arm.label ≡ to.label
+        → arm.sort ≡ to.sort
+    sorts k arm to a h ha el =
+        let P : List Choice → Type 0 = λ z. Among z (choice_of arm) in
+        let m = merged-from pr members (choice_of arm) (subst P ar.choices (arm-choice arms k arm h)) in
+        let ag = agree-take pr p m.0 g x theirs ne ng (is.agree t members at m.0 g m.1 member) in
+        let Q : Option Node → Type 0 = λ z. Among (choices_of z) (choice_of arm) in
+        ag.2 (choice_of arm) (choice_of to) (contains (map choice_of ag.0) (choice_of arm) (subst Q ag.1 m.2)) (contains (map choice_of theirs) (choice_of to) (arm-choice theirs a to ha)) el
+
+    one : (a : ℕ) (to : Arm) → slice_get theirs a ≡ Some to
+        → (k : ℕ) × (arm : Arm) × (slice_get arms k ≡ Some arm) × (arm.label ≡ to.label) × (arm.sort ≡ to.sort) × Covers pr p pj.sets arm.next to.next
+    one a to ha =
+        let Q : Option Node → Type 0 = λ z. Among (choices_of z) (choice_of to) in
+        let ml = merged-label pr members g (choice_of to) member (subst Q (sym ng) (arm-choice theirs a to ha)) in
+        let P : List Choice → Type 0 = λ z. Among z ml.0 in
+        let fa = choice-arm arms ml.0 (subst P (sym ar.choices) ml.1) in
+        let label : fa.1.label ≡ to.label = ap (λ (z : Choice). z.label) fa.3 ∙ ml.2 in
+        let goes : LeadsTo pr g a to.next = record { sender = x; receiver = p; arms = theirs; arm = to; talks = ng; stands = ha; leads = refl } in
+        (fa.0, fa.1, fa.2, label, sorts fa.0 fa.1 to a fa.2 ha label, behind-covers pr p pj members g a to fa.1 member goes refl (sym label) (ar.nexts fa.0 fa.1 fa.2))
+
+pub covers-take : (pr : Protocol_data) (p : Role) (pj : Projection_data) (t g : ℕ) (x : Role) (theirs : List Arm) → IsProjection pr p pj
+    → x ≢ p → Talks pr g x p theirs → Covers pr p pj.sets t g → TakesAt pr p pj t x theirs
+covers-take pr p pj t g x theirs is ne ng cov =
+    let m = cov.talks g record { steps = []; path = refl; earlier = tt; involved = involves-receiver pr p g x theirs ng } in
+    let s = stood pr p pj t m.members is m.is in
+    take-state pr p pj t g x theirs m.members s.state is ne ng m.is m.has s.is s.of

@@ -1,0 +1,15 @@
+pub mod Kept
+pub mod Members
+pub mod Trail
+pub mod Walks
+pub mod Covers
+pub mod Grow
+pub mod Equal
+pub mod Built
+pub mod Machines
+pub mod Sessions
+pub mod Fronts
+pub mod Rounds
+pub mod RoundsProjected
+pub mod Refused
+pub mod Unique

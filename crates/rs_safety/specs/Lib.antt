@@ -1,0 +1,5 @@
+pub mod Data
+pub mod Graph
+pub mod Projection
+pub mod Alike
+pub mod Examples
