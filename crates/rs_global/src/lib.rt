@@ -1,0 +1,9 @@
+//! The reader of protocols with choice and recursion.
+#![tactic(auto)]
+
+mod drafts;
+mod protocols;
+mod reading;
+mod seen;
+
+pub use protocols::read_protocol;

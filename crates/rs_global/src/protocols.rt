@@ -1,0 +1,80 @@
+ghost use Rattle.std.specs.Prelude.{◌≡◌, ◌≤◌, length, IfOk, IfErr, ◌⊎◌, Ok, Err};
+ghost use Rattle.rs_text.specs.declared.faults.TextKind.TheVariants as kind;
+ghost use Rattle.rs_global.specs.Drafts.{names_read, protocol_of};
+ghost use Rattle.rs_global.specs.Feeding.{Reads, ReadsAs, StopsAs};
+ghost use Rattle.rs_text.specs.Lexemes.{next_lexeme};
+
+use crate::drafts::{nodes, settled_number};
+use crate::reading::{Reader, Stop};
+use rs_model::{Names, NoMemory, Protocol};
+use rs_text::{Lexer, TextFault, TextKind};
+use std::alloc::Global;
+
+/// Reads a roles line and a protocol from the offset `at` on, and gives the names, the protocol and the offset of the
+/// first byte behind them that is neither a blank nor in a comment, or the length.
+pub fn read_protocol(alloc: Global, bytes: &[u8], at: usize) -> Result<(Names, Protocol, usize), TextFault>
+    requires { at ≤ length bytes.now }
+    ensures ok { IfOk result (λ r. ReadsAs bytes.now at (Ok (record { names = r.0; protocol = r.1; until = r.2 }))) }
+    ensures err { IfErr result (λ e. (e.kind ≡ kind.NoMemory) ⊎ ReadsAs bytes.now at (Err e)) }
+{
+    match read(alloc, bytes, at) {
+        Ok((reader, until)) => match graph(alloc, reader) {
+            Ok((names, protocol)) => Ok((names, protocol, until)),
+            Err(_) => Err(no_memory(at)),
+        },
+        Err(Stop::Fault(fault)) => Err(fault),
+        Err(Stop::Memory) => Err(no_memory(at)),
+    }
+}
+
+fn no_memory(at: usize) -> TextFault
+    ensures { result ≡ record { kind = kind.NoMemory; at = at } }
+{
+    TextFault {
+        kind: TextKind::NoMemory,
+        at,
+    }
+}
+
+/// The names and the graph of what was read.
+fn graph(alloc: Global, reader: Reader) -> Result<(Names, Protocol), NoMemory>
+    ensures names { IfOk result (λ r. r.0 ≡ names_read reader.entry) }
+    ensures protocol { IfOk result (λ r. r.1 ≡ protocol_of reader.entry) }
+{
+    let last = reader.drafts.len() as u32;
+    let protocol = Protocol {
+        roles: reader.roles.len() as u8,
+        nodes: nodes(alloc, reader.drafts.as_slice(), last, reader.ended)?,
+        root: settled_number(last, reader.root),
+    };
+    let names = Names {
+        roles: reader.roles,
+        labels: reader.labels,
+    };
+    Ok((names, protocol))
+}
+
+fn read<'a>(alloc: Global, bytes: &'a [u8], at: usize) -> Result<(Reader<'a>, usize), Stop>
+    requires { at ≤ length bytes.now }
+    ensures ok { IfOk result (λ r. Reads bytes.now at (Ok (record { reader = r.0; until = r.1 }))) }
+    ensures err { IfErr result (λ e. StopsAs e bytes.now at) }
+{
+    let mut reader = Reader::new(alloc);
+    let mut lexer = Lexer::new(bytes, at);
+    while !reader.is_read() {
+        let token = lexer.next()?;
+        reader.feed(bytes, token)?;
+    }
+    Ok((reader, behind(lexer)))
+}
+
+/// The offset of the next token, or of the faulty one there.
+fn behind(lexer: Lexer) -> usize
+    ensures { result ≡ (next_lexeme lexer.entry.bytes lexer.entry.at).from }
+{
+    let mut lexer = lexer;
+    match lexer.next() {
+        Ok(token) => token.from,
+        Err(fault) => fault.at,
+    }
+}
