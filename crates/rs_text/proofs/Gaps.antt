@@ -1,4 +1,4 @@
-use Rattle.std.proofs.Common.{◌≡◌, ◌≢◌, ℕ, suc, ◌+◌, List, [], ◌∷◌, ◌++◌, length, drop, Bool, true, false, if◌then◌else◌, ◌==◌, ◌||◌, ◌⊎◌, inl, inr, refl, sym, ap, ◌∙◌, append_assoc, length-append, arith}
+use Rattle.std.proofs.Common.{◌≡◌, ◌≢◌, ℕ, suc, ◌+◌, List, [], ◌∷◌, ◌++◌, length, Bool, true, false, ◌==◌, ◌⊎◌, inl, inr, refl, sym, ap, ◌∙◌, append_assoc, length-append, arith}
 use Rattle.std.proofs.lemmas.Bool.Decides.{eqb_tells}
 use Rattle.std.specs.List.{list_any}
 use Rattle.rs_text.specs.Bytes.{is_blank}
@@ -54,16 +54,19 @@ mutual
   pub passed : (rest : List ℕ) → Passed rest (skipped false rest)
   passed [] = record { gap = nothing; behind = []; parts = refl; size = refl; right = tt; stops = tt }
   passed (b ∷ bs) = elim (true_or_false (is_blank b)) [
-      inl h ↦ rw h (on_blank b bs (skipped false bs) h (passed bs))
+    | inl h ↦ rw h (on_blank b bs (skipped false bs) h (passed bs))
     | inr h ↦ rw h (elim (eqb_tells b 35) [
-        inl e ↦ rw (e.0, e.1) (on_comment bs (skipped true bs) (held bs))
-      | inr e ↦ rw e.0 (on_stop b bs h e.1) ]) ]
+      | inl e ↦ rw (e.0, e.1) (on_comment bs (skipped true bs) (held bs))
+      | inr e ↦ rw e.0 (on_stop b bs h e.1)
+    ])
+  ]
 
   held : (rest : List ℕ) → Held rest (skipped true rest)
   held [] = record { held = []; gap = nothing; behind = []; parts = refl; size = refl; no_line = refl; ends = tt; right = tt; stops = tt }
   held (b ∷ bs) = elim (eqb_tells b 10) [
-      inl e ↦ rw e.0 (on_line_end b bs (skipped false bs) e.1 (passed bs))
-    | inr e ↦ rw e.0 (on_held b bs (skipped true bs) e.0 (held bs)) ]
+    | inl e ↦ rw e.0 (on_line_end b bs (skipped false bs) e.1 (passed bs))
+    | inr e ↦ rw e.0 (on_held b bs (skipped true bs) e.0 (held bs))
+  ]
 
 -- ---- and the other way: a gap of which nothing is left is passed over whole
 
@@ -74,8 +77,9 @@ on_first (b ∷ bs) n h e = rw h (rw h at e)
 with_comment : (text rest : List ℕ) (n : ℕ) → list_any (λ b. b == 10) text ≡ false → skipped true rest ≡ n → skipped true (text ++ rest) ≡ length text + n
 with_comment [] rest n h e = omega arith
 with_comment (b ∷ text) rest n h e = elim (eqb_tells b 10) [
-    inl p ↦ absurd (cc (rw p.0 at h))
-  | inr p ↦ rw p.0 (let m = with_comment text rest n (rw p.0 at h) e in omega arith) ]
+  | inl p ↦ absurd (cc (rw p.0 at h))
+  | inr p ↦ rw p.0 (let m = with_comment text rest n (rw p.0 at h) e in omega arith)
+]
 
 pub passes : (gap : Gap) (rest : List ℕ) → IsGap gap rest → Stops rest → skipped false (gap_bytes gap ++ rest) ≡ length (gap_bytes gap)
 passes nothing [] h s = refl
@@ -83,4 +87,4 @@ passes nothing (b ∷ bs) h s = elim (eqb_tells b 35) [ inl p ↦ absurd (s.1 p.
 passes (blank b gap) rest h s = rw h.0 (ap suc (passes gap rest h.1 s))
 passes (comment text gap) rest h s =
     rw (append_assoc text (gap_bytes gap) rest, length-append text (gap_bytes gap))
-        (ap suc (with_comment text (gap_bytes gap ++ rest) (length (gap_bytes gap)) h.0 (on_first (gap_bytes gap ++ rest) (length (gap_bytes gap)) h.1 (passes gap rest h.2 s))))
+    (ap suc (with_comment text (gap_bytes gap ++ rest) (length (gap_bytes gap)) h.0 (on_first (gap_bytes gap ++ rest) (length (gap_bytes gap)) h.1 (passes gap rest h.2 s))))

@@ -1,10 +1,10 @@
-use Rattle.std.proofs.Common.{◌≡◌, ◌≢◌, ℕ, zero, suc, ◌+◌, ◌<◌, ◌≤◌, List, [], ◌∷◌, ◌++◌, length, Bool, true, false, if◌then◌else◌, ◌&&◌, ◌||◌, Option, Some, None, ◌⊎◌, ◌↔◌, inl, inr, refl, sym, ap, ◌∙◌, append_assoc, arith, cond}
-use Rattle.std.proofs.lemmas.Bool.Decides.{Decides-by_and, Decides-and}
+use Rattle.std.proofs.Common.{◌≡◌, ◌≢◌, ℕ, zero, suc, ◌+◌, ◌<◌, List, [], ◌∷◌, ◌++◌, length, Bool, true, false, if◌then◌else◌, ◌&&◌, ◌||◌, Option, Some, None, ◌⊎◌, ◌↔◌, inl, inr, refl, sym, ap, ◌∙◌, arith}
+use Rattle.std.proofs.lemmas.Bool.Decides.{Decides-by_and}
 use Rattle.std.proofs.lemmas.List.Folds.{list_any-append, list_all-append}
 use Rattle.std.proofs.lemmas.Slice.Eq.{bytes_eq-Decides}
 use Rattle.std.proofs.lemmas.Map.Made.{AllPairs-from_IsDistinct, IsDistinct-from_AllPairs}
-use Rattle.std.specs.Bool.{Decides}
-use Rattle.std.specs.List.{list_any, list_all, All, AllPairs, AllByRecursion, IsDistinct}
+use Rattle.std.specs.Bool.{Decides, IsTrue}
+use Rattle.std.specs.List.{list_all, All, AllPairs, AllByRecursion, IsDistinct}
 use Rattle.std.specs.Prelude.{slice_get}
 use Rattle.std.specs.Str.{bytes_eq}
 use Rattle.rs_text.specs.Names.{place_from, place_of, is_among, grown, StandsFirst}
@@ -37,8 +37,9 @@ place_stays names more name k h = stays_from names more name 0 k h
 new_from : (names : List (List ℕ)) (name : List ℕ) (n : ℕ) → place_from n name names ≡ None → place_from n name (names ++ name ∷ []) ≡ Some (n + length names)
 new_from [] name n h = rw bytes_same (ap Some (omega arith))
 new_from (x ∷ names) name n h = elim (true_or_false (bytes_eq x name)) [
-    inl e ↦ absurd (cc (rw e at h))
-  | inr e ↦ rw e (new_from names name (suc n) (rw e at h) ∙ ap Some (omega arith)) ]
+  | inl e ↦ absurd (cc (rw e at h))
+  | inr e ↦ rw e (new_from names name (suc n) (rw e at h) ∙ ap Some (omega arith))
+]
 
 pub place_of_new : (names : List (List ℕ)) (name : List ℕ) → place_of name names ≡ None → place_of name (names ++ name ∷ []) ≡ Some (length names)
 place_of_new names name h = new_from names name 0 h ∙ ap Some (omega arith)
@@ -47,14 +48,16 @@ place_of_new names name h = new_from names name 0 h ∙ ap Some (omega arith)
 pub not_among : (names : List (List ℕ)) (name : List ℕ) (n : ℕ) → place_from n name names ≡ None → is_among name names ≡ false
 not_among [] name n h = refl
 not_among (x ∷ names) name n h = elim (true_or_false (bytes_eq x name)) [
-    inl e ↦ absurd (cc (rw e at h))
-  | inr e ↦ rw e (not_among names name (suc n) (rw e at h)) ]
+  | inl e ↦ absurd (cc (rw e at h))
+  | inr e ↦ rw e (not_among names name (suc n) (rw e at h))
+]
 
 pub among : (names : List (List ℕ)) (name : List ℕ) (n k : ℕ) → place_from n name names ≡ Some k → is_among name names ≡ true
 among [] name n k h = cc
 among (x ∷ names) name n k h = elim (true_or_false (bytes_eq x name)) [
-    inl e ↦ rw e refl
-  | inr e ↦ rw e (among names name (suc n) k (rw e at h)) ]
+  | inl e ↦ rw e refl
+  | inr e ↦ rw e (among names name (suc n) k (rw e at h))
+]
 
 some_same : (n k : ℕ) → Some n ≡ Some k → k ≡ n + 0
 some_same n k h = let e : n ≡ k = cc in omega arith
@@ -66,11 +69,12 @@ before x names name i e rest (suc k) below h = rest k (omega arith) h
 stands_from : (names : List (List ℕ)) (name : List ℕ) (n k : ℕ) → place_from n name names ≡ Some k → (i : ℕ) × (k ≡ n + i) × StandsFirst name names i
 stands_from [] name n k h = absurd (cc h)
 stands_from (x ∷ names) name n k h = elim (true_or_false (bytes_eq x name)) [
-    inl e ↦ (0, some_same n k (rw e at h), record { there = ap Some ((bytes_eq-Decides x name).0 e); first = λ i below. absurd (omega arith) })
+  | inl e ↦ (0, some_same n k (rw e at h), record { there = ap Some ((bytes_eq-Decides x name).0 e); first = λ i below. absurd (omega arith) })
   | inr e ↦
       let rest = stands_from names name (suc n) k (rw e at h) in
       let shift = rest.1 in
-      (suc rest.0, omega arith, record { there = rest.2.there; first = before x names name rest.0 e rest.2.first }) ]
+      (suc rest.0, omega arith, record { there = rest.2.there; first = before x names name rest.0 e rest.2.first })
+]
 
 pub place_stands : (names : List (List ℕ)) (name : List ℕ) (k : ℕ) → place_of name names ≡ Some k → StandsFirst name names k
 place_stands names name k h =
@@ -83,8 +87,38 @@ pub stands_place : (names : List (List ℕ)) (name : List ℕ) (n i : ℕ) → S
 stands_place [] name n i s = absurd (cc s.there)
 stands_place (x ∷ names) name n zero s = rw ((bytes_eq-Decides x name).1 (some_is x name s.there)) (ap Some (omega arith))
 stands_place (x ∷ names) name n (suc i) s = elim (true_or_false (bytes_eq x name)) [
-    inl e ↦ absurd (s.first 0 (omega arith) (ap Some ((bytes_eq-Decides x name).0 e)))
-  | inr e ↦ rw e (stands_place names name (suc n) i (record { there = s.there; first = λ k below. s.first (suc k) (omega arith) }) ∙ ap Some (omega arith)) ]
+  | inl e ↦ absurd (s.first 0 (omega arith) (ap Some ((bytes_eq-Decides x name).0 e)))
+  | inr e ↦ rw e (stands_place names name (suc n) i (record { there = s.there; first = λ k below. s.first (suc k) (omega arith) }) ∙ ap Some (omega arith))
+]
+
+or_left : (a b : Bool) → (a || b) ≡ false → a ≡ false
+or_left true b h = absurd (cc h)
+or_left false b h = refl
+
+or_right : (a b : Bool) → (a || b) ≡ false → b ≡ false
+or_right true b h = absurd (cc h)
+or_right false b h = h
+
+pub place_law : (name : List ℕ) (names : List (List ℕ)) (place : ℕ) → (place_of name names ≡ Some place) ↔ StandsFirst name names place
+place_law name names place = (place_stands names name place, λ s. stands_place names name 0 place s ∙ ap Some (omega arith))
+
+absent_at : (names : List (List ℕ)) (name : List ℕ) (k : ℕ) → is_among name names ≡ false → slice_get names k ≢ Some name
+absent_at [] name k h e = cc
+absent_at (x ∷ names) name zero h e = cc ((bytes_eq-Decides x name).1 (some_is x name e), or_left (bytes_eq x name) (is_among name names) h)
+absent_at (x ∷ names) name (suc k) h e = absent_at names name k (or_right (bytes_eq x name) (is_among name names) h) e
+
+none_or_some : (o : Option ℕ) → (o ≡ None) ⊎ ((k : ℕ) × (o ≡ Some k))
+none_or_some None = inl refl
+none_or_some (Some k) = inr (k, refl)
+
+pub absent_law : (name : List ℕ) (names : List (List ℕ)) → (place_of name names ≡ None) ↔ ((k : ℕ) → slice_get names k ≢ Some name)
+absent_law name names = (
+  (λ h k. absent_at names name k (not_among names name 0 h)),
+  (λ none. elim (none_or_some (place_of name names)) [
+    | inl h ↦ h
+    | inr found ↦ absurd (none found.0 (place_stands names name found.0 found.1).there)
+  ]),
+)
 
 -- ---- growing
 
@@ -100,38 +134,67 @@ pub grown_append : (xs ys names : List (List ℕ)) → grown names (xs ++ ys) �
 grown_append [] ys names = refl
 grown_append (x ∷ xs) ys names = grown_append xs ys (if is_among x names then names else names ++ x ∷ [])
 
-or_left : (a b : Bool) → (a || b) ≡ false → a ≡ false
-or_left true b h = absurd (cc h)
-or_left false b h = refl
-
-or_right : (a b : Bool) → (a || b) ≡ false → b ≡ false
-or_right true b h = absurd (cc h)
-or_right false b h = h
-
 other_way : (x y : List ℕ) → bytes_eq x y ≡ false → bytes_eq y x ≡ false
 other_way x y h = elim (true_or_false (bytes_eq y x)) [
-    inl e ↦ absurd (cc ((bytes_eq-Decides x y).1 (sym ((bytes_eq-Decides y x).0 e)), h))
-  | inr e ↦ e ]
+  | inl e ↦ absurd (cc ((bytes_eq-Decides x y).1 (sym ((bytes_eq-Decides y x).0 e)), h))
+  | inr e ↦ e
+]
 
 differ_push : (names : List (List ℕ)) (x : List ℕ) → differ names ≡ true → is_among x names ≡ false → differ (names ++ x ∷ []) ≡ true
 differ_push [] x h k = refl
 differ_push (y ∷ names) x h k = elim (true_or_false (is_among y names)) [
-    inl e ↦ absurd (cc (rw e at h))
+  | inl e ↦ absurd (cc (rw e at h))
   | inr e ↦
       rw (list_any-append (λ z. bytes_eq z y) names (x ∷ []), e, other_way y x (or_left (bytes_eq y x) (is_among x names) k))
-          (differ_push names x (rw e at h) (or_right (bytes_eq y x) (is_among x names) k)) ]
+      (differ_push names x (rw e at h) (or_right (bytes_eq y x) (is_among x names) k))
+]
 
 pub grown_differ : (xs names : List (List ℕ)) → differ names ≡ true → differ (grown names xs) ≡ true
 grown_differ [] names h = h
 grown_differ (x ∷ xs) names h = elim (true_or_false (is_among x names)) [
-    inl e ↦ rw e (grown_differ xs names h)
-  | inr e ↦ rw e (grown_differ xs (names ++ x ∷ []) (differ_push names x h e)) ]
+  | inl e ↦ rw e (grown_differ xs names h)
+  | inr e ↦ rw e (grown_differ xs (names ++ x ∷ []) (differ_push names x h e))
+]
 
 pub grown_all : (test : List ℕ → Bool) (xs names : List (List ℕ)) → list_all test names ≡ true → list_all test xs ≡ true → list_all test (grown names xs) ≡ true
 grown_all test [] names h k = h
 grown_all test (x ∷ xs) names h k = elim (true_or_false (is_among x names)) [
-    inl e ↦ rw e (grown_all test xs names h (and_right (test x) (list_all test xs) k))
-  | inr e ↦ rw e (grown_all test xs (names ++ x ∷ []) (rw (list_all-append test names (x ∷ []), h, and_left (test x) (list_all test xs) k) refl) (and_right (test x) (list_all test xs) k)) ]
+  | inl e ↦ rw e (grown_all test xs names h (and_right (test x) (list_all test xs) k))
+  | inr e ↦ rw e (grown_all test xs (names ++ x ∷ []) (rw (list_all-append test names (x ∷ []), h, and_left (test x) (list_all test xs) k) refl) (and_right (test x) (list_all test xs) k))
+]
+
+pub grown_stays : (more names : List (List ℕ)) (name : List ℕ) (k : ℕ) → place_of name names ≡ Some k → place_of name (grown names more) ≡ Some k
+grown_stays [] names name k h = h
+grown_stays (x ∷ more) names name k h = elim (true_or_false (is_among x names)) [
+  | inl e ↦ rw e (grown_stays more names name k h)
+  | inr e ↦ rw e (grown_stays more (names ++ x ∷ []) name k (place_stays names (x ∷ []) name k h))
+]
+
+or_nothing : (a : Bool) → a ≡ (a || false)
+or_nothing true = refl
+or_nothing false = refl
+
+regroup : (a b c : Bool) → ((a || (b || false)) || c) ≡ (a || (b || c))
+regroup true b c = refl
+regroup false true c = refl
+regroup false false c = refl
+
+-- a name that is among them needs no second place
+once : (x : List ℕ) (more names : List (List ℕ)) (name : List ℕ) → is_among x names ≡ true → (is_among name names || is_among name more) ≡ (is_among name names || is_among name (x ∷ more))
+once x more names name h = elim (true_or_false (bytes_eq x name)) [
+  | inl e ↦ let has : is_among name names ≡ true = rw ((bytes_eq-Decides x name).0 e) at h in rw has refl
+  | inr e ↦ rw e refl
+]
+
+pushed : (x : List ℕ) (more names : List (List ℕ)) (name : List ℕ) → (is_among name (names ++ x ∷ []) || is_among name more) ≡ (is_among name names || is_among name (x ∷ more))
+pushed x more names name = rw (list_any-append (λ z. bytes_eq z name) names (x ∷ [])) (regroup (is_among name names) (bytes_eq x name) (is_among name more))
+
+pub grown_among : (more names : List (List ℕ)) (name : List ℕ) → is_among name (grown names more) ≡ (is_among name names || is_among name more)
+grown_among [] names name = or_nothing (is_among name names)
+grown_among (x ∷ more) names name = elim (true_or_false (is_among x names)) [
+  | inl e ↦ rw e (grown_among more names name ∙ once x more names name e)
+  | inr e ↦ rw e (grown_among more (names ++ x ∷ []) name ∙ pushed x more names name)
+]
 
 -- ---- sound names
 
@@ -147,8 +210,9 @@ differ_distinct : (xs : List (List ℕ)) → differ xs ≡ true → IsDistinct b
 unfolding IsDistinct
 differ_distinct [] h = tt
 differ_distinct (x ∷ xs) h = elim (true_or_false (is_among x xs)) [
-    inl e ↦ absurd (cc (rw e at h))
-  | inr e ↦ (distinct_others xs x e, differ_distinct xs (rw e at h)) ]
+  | inl e ↦ absurd (cc (rw e at h))
+  | inr e ↦ (distinct_others xs x e, differ_distinct xs (rw e at h))
+]
 
 distinct_differ : (xs : List (List ℕ)) → IsDistinct bytes_eq xs → differ xs ≡ true
 unfolding IsDistinct
@@ -162,15 +226,16 @@ decides_all : (test : List ℕ → Bool) (xs : List (List ℕ)) → Decides (lis
 decides_all test xs = Decides-by_and test (λ x. test x ≡ true) (list_all test) (λ x. (λ h. h, λ h. h)) refl (λ _ _. refl) xs
 
 -- the test of sound names is right
-pub decides_sound : (names : Names_data) → (are_sound names ≡ true) ↔ IsSound names
+pub decides_sound : (names : Names_data) → IsTrue (are_sound names) ↔ IsSound names
 decides_sound names = (
-    (λ h.
-        let roles = and_left (differ names.roles && list_all is_role_word names.roles) (differ names.labels && list_all is_word names.labels) h in
-        let labels = and_right (differ names.roles && list_all is_role_word names.roles) (differ names.labels && list_all is_word names.labels) h in
-        record {
-          roles_differ = (decides_differ names.roles).0 (and_left (differ names.roles) (list_all is_role_word names.roles) roles);
-          roles_are_words = (decides_all is_role_word names.roles).0 (and_right (differ names.roles) (list_all is_role_word names.roles) roles);
-          labels_differ = (decides_differ names.labels).0 (and_left (differ names.labels) (list_all is_word names.labels) labels);
-          labels_are_words = (decides_all is_word names.labels).0 (and_right (differ names.labels) (list_all is_word names.labels) labels);
-        }),
-    (λ s. rw ((decides_differ names.roles).1 s.roles_differ, (decides_all is_role_word names.roles).1 s.roles_are_words, (decides_differ names.labels).1 s.labels_differ, (decides_all is_word names.labels).1 s.labels_are_words) refl))
+  (λ h.
+      let roles = and_left (differ names.roles && list_all is_role_word names.roles) (differ names.labels && list_all is_word names.labels) h in
+      let labels = and_right (differ names.roles && list_all is_role_word names.roles) (differ names.labels && list_all is_word names.labels) h in
+      record {
+        roles_differ = (decides_differ names.roles).0 (and_left (differ names.roles) (list_all is_role_word names.roles) roles);
+        roles_are_words = (decides_all is_role_word names.roles).0 (and_right (differ names.roles) (list_all is_role_word names.roles) roles);
+        labels_differ = (decides_differ names.labels).0 (and_left (differ names.labels) (list_all is_word names.labels) labels);
+        labels_are_words = (decides_all is_word names.labels).0 (and_right (differ names.labels) (list_all is_word names.labels) labels);
+      }),
+  (λ s. rw ((decides_differ names.roles).1 s.roles_differ, (decides_all is_role_word names.roles).1 s.roles_are_words, (decides_differ names.labels).1 s.labels_differ, (decides_all is_word names.labels).1 s.labels_are_words) refl),
+)

@@ -1,9 +1,12 @@
-use Rattle.std.proofs.Common.{◌≡◌, ℕ, zero, suc, ◌+◌, ◌≤◌, ◌<◌, ◌⊎◌, inl, inr, List, [], ◌∷◌, ◌++◌, length, drop, take, Bool, true, false, refl, sym, ap, ◌∙◌, subst, append_assoc, length-append, length-drop, arith}
+use Rattle.std.proofs.Common.{codes, nat_le, ◌≢◌, ◌≡◌, ℕ, zero, suc, ◌+◌, ◌≤◌, ◌<◌, ◌↔◌, inl, inr, List, [], ◌∷◌, ◌++◌, length, drop, Bool, true, false, refl, sym, ap, ◌∙◌, subst, length-append, length-drop, add-zero, arith}
 use Rattle.std.proofs.lemmas.List.{drop-drop}
-use Rattle.std.proofs.Math.Seq.{drop-append_seam}
-use Rattle.rs_text.specs.Lexemes.{skipped, Front, front, front_of, Lexeme, placed, next_lexeme, is_last, Lexed}
+use Rattle.std.proofs.Math.Seq.{drop-append_seam, drop-length}
+use Rattle.rs_text.specs.Lexemes.{skipped, front_of, Lexeme, placed, next_lexeme, is_last, Lexed}
 use Rattle.rs_text.specs.Bytes.{is_letter, is_digit}
-use Rattle.rs_text.specs.Words.{begins}
+use Rattle.rs_text.specs.Words.{begins, is_role_word}
+use Rattle.std.proofs.lemmas.Bool.Decides.{leb_tells}
+use Rattle.std.proofs.lemmas.Slice.Eq.{bytes_eq-Decides}
+use Rattle.std.specs.Str.{bytes_eq}
 use Rattle.rs_text.specs.Signs.{Sign, rec_word, end_word, plain, number, finish, broken}
 use Rattle.rs_text.specs.Tokens.{gap_bytes, IsGap, IsToken, IsNext, IsWithin, AreTokens}
 use Rattle.rs_text.proofs.Gaps.{Passed, passed, passes, true_or_false}
@@ -29,7 +32,7 @@ pub next_is_next : (bytes : List ℕ) (at : ℕ) → IsNext bytes at (next_lexem
 next_is_next bytes at =
     let p = passed (drop at bytes) in
     rw (behind_gap bytes at (skipped false (drop at bytes)) (gap_bytes p.gap) p.behind p.parts p.size)
-        (next_at bytes at (skipped false (drop at bytes)) p (front_fits p.behind p.stops))
+    (next_at bytes at (skipped false (drop at bytes)) p (front_fits p.behind p.stops))
 
 same_lexeme : (l : Lexeme) (from until : ℕ) → l.from ≡ from → l.until ≡ until → l ≡ record { sign = l.sign; from = from; until = until }
 same_lexeme l from until p q = rw (← p, ← q) refl
@@ -58,8 +61,9 @@ one_list bytes (x ∷ xs) [] at h k = absurd k
 one_list bytes (x ∷ xs) (y ∷ ys) at h k =
     let e : y ≡ x = k.0 ∙ sym h.0 in
     elim (true_or_false (is_last x.sign)) [
-        inl last ↦ rw (e, h.1 last, k.1 (rw e last)) refl
-      | inr more ↦ rw e (ap (λ zs. x ∷ zs) (one_list bytes xs ys x.until (h.2 more) (rw e at (k.2 (rw e more))))) ]
+      | inl last ↦ rw (e, h.1 last, k.1 (rw e last)) refl
+      | inr more ↦ rw e (ap (λ zs. x ∷ zs) (one_list bytes xs ys x.until (h.2 more) (rw e at (k.2 (rw e more)))))
+    ]
 
 -- ---- in order and inside the bytes
 
@@ -92,14 +96,50 @@ exists_by bytes (suc fuel) at h k =
     let x = next_is_next bytes at in
     let w = within bytes at l h x in
     elim (true_or_false (is_last l.sign)) [
-        inl last ↦ (l ∷ [], (x, (λ _. refl), λ e. absurd (cc (e, last))))
+      | inl last ↦ (l ∷ [], (x, (λ _. refl), λ e. absurd (cc (e, last))))
       | inr more ↦
           let grows = takes_up l.sign x.text x.behind x.token more in
           let ahead = w.ahead in
           let inside = w.inside in
           let until = x.until in
           let rest = exists_by bytes fuel l.until inside (omega arith) in
-          (l ∷ rest.0, (x, (λ e. absurd (cc (e, more))), λ _. rest.1)) ]
+          (l ∷ rest.0, (x, (λ e. absurd (cc (e, more))), λ _. rest.1))
+    ]
 
 pub exists : (bytes : List ℕ) (at : ℕ) → at ≤ length bytes → (ls : List Lexeme) × AreTokens bytes at ls
 exists bytes at h = exists_by bytes (length bytes + 1) at h (omega arith)
+
+-- ---- as the laws say it
+
+pub next_token_law : (bytes : List ℕ) (at : ℕ) (l : Lexeme) → (l ≡ next_lexeme bytes at) ↔ IsNext bytes at l
+next_token_law bytes at l = (λ e. rw e (next_is_next bytes at), one_next bytes at l)
+
+pub tokens_law : (bytes : List ℕ) (at : ℕ) (ls : List Lexeme) → Lexed bytes at ls ↔ AreTokens bytes at ls
+tokens_law bytes at ls = (lexed_are bytes ls at, are_lexed bytes ls at)
+
+pub one_list_law : (bytes : List ℕ) (at : ℕ) (xs ys : List Lexeme) → AreTokens bytes at xs → AreTokens bytes at ys → xs ≡ ys
+one_list_law bytes at xs ys h k = one_list bytes xs ys at (are_lexed bytes xs at h) (are_lexed bytes ys at k)
+
+pub end_again : (bytes : List ℕ) → next_lexeme bytes (length bytes) ≡ record { sign = finish; from = length bytes; until = length bytes }
+end_again bytes = let none = add-zero (length bytes) in rw (drop-length bytes, none, drop-length bytes, none) refl
+
+-- ---- words
+
+not_same : (text name : List ℕ) → text ≢ name → bytes_eq text name ≡ false
+not_same text name apart = elim (true_or_false (bytes_eq text name)) [
+  | inl e ↦ absurd (apart ((bytes_eq-Decides text name).0 e))
+  | inr e ↦ e
+]
+
+short_enough : (n : ℕ) → n ≤ 64 → nat_le n 64 ≡ true
+short_enough n h = elim (leb_tells n 64) [
+  | inl e ↦ e.0
+  | inr e ↦ absurd (omega arith)
+]
+
+plain_role : (name text behind : List ℕ) → IsToken (plain name) text behind → is_role_word name ≡ true
+plain_role name text behind t =
+    rw (t.4, t.0.first, t.0.all, short_enough (length text) t.1, not_same text (codes "rec") t.2, not_same text (codes "end") t.3) refl
+
+pub plain_law : (bytes : List ℕ) (at : ℕ) (l : Lexeme) (name : List ℕ) → IsNext bytes at l → l.sign ≡ plain name → is_role_word name ≡ true
+plain_law bytes at l name x e = plain_role name x.text x.behind (rw e at x.token)

@@ -1,11 +1,10 @@
-use Rattle.std.proofs.Common.{◌≡◌, ◌≢◌, ℕ, suc, ◌+◌, ◌<◌, ◌≤◌, List, [], ◌∷◌, ◌++◌, length, drop, take, codes, Bool, true, false, not, if◌then◌else◌, ◌==◌, ◌||◌, ◌&&◌, nat_lt, nat_le, ◌⊎◌, inl, inr, refl, sym, ap, ◌∙◌, append_assoc, length-append, arith, cond}
+use Rattle.std.proofs.Common.{◌≡◌, ◌≢◌, ℕ, suc, ◌+◌, ◌<◌, ◌≤◌, List, [], ◌∷◌, ◌++◌, length, drop, take, codes, Bool, true, false, if◌then◌else◌, ◌==◌, ◌||◌, inl, inr, refl, sym, ap, ◌∙◌, arith}
 use Rattle.std.proofs.lemmas.Bool.{eq-eqb}
 use Rattle.std.proofs.lemmas.Bool.Decides.{eqb_tells, leb_tells, nat_tests}
-use Rattle.std.proofs.lemmas.List.Sums.{prefix_len-le-length}
 use Rattle.std.proofs.lemmas.List.{take-append-drop}
 use Rattle.std.proofs.lemmas.List.Folds.{length-prefix_len}
 use Rattle.std.proofs.lemmas.Slice.Eq.{bytes_eq-Decides}
-use Rattle.std.proofs.Math.Seq.{drop-append_seam, take-append_seam}
+use Rattle.std.proofs.Math.Seq.{take-append_seam}
 use Rattle.std.specs.List.{list_any, list_all, prefix_len}
 use Rattle.std.specs.Str.{bytes_eq}
 use Rattle.rs_text.specs.declared.tokens.FaultKind.{FaultKind}
@@ -33,21 +32,24 @@ one_more n = omega arith
 run_all : (p : ℕ → Bool) (xs : List ℕ) → list_all p (take (prefix_len p xs) xs) ≡ true
 run_all p [] = refl
 run_all p (x ∷ xs) = elim (true_or_false (p x)) [
-    inl h ↦ rw (h, one_more (prefix_len p xs), h) (run_all p xs)
-  | inr h ↦ rw h refl ]
+  | inl h ↦ rw (h, one_more (prefix_len p xs), h) (run_all p xs)
+  | inr h ↦ rw h refl
+]
 
 run_ends : (p : ℕ → Bool) (xs : List ℕ) → begins p (drop (prefix_len p xs) xs) ≡ false
 run_ends p [] = refl
 run_ends p (x ∷ xs) = elim (true_or_false (p x)) [
-    inl h ↦ rw (h, one_more (prefix_len p xs)) (run_ends p xs)
-  | inr h ↦ rw h h ]
+  | inl h ↦ rw (h, one_more (prefix_len p xs)) (run_ends p xs)
+  | inr h ↦ rw h h
+]
 
 run_length : (p : ℕ → Bool) (xs ys : List ℕ) → list_all p xs ≡ true → begins p ys ≡ false → prefix_len p (xs ++ ys) ≡ length xs
 run_length p [] [] h k = refl
 run_length p [] (y ∷ ys) h k = rw k refl
 run_length p (x ∷ xs) ys h k = elim (true_or_false (p x)) [
-    inl e ↦ rw e (let m = run_length p xs ys (rw e at h) k in omega arith)
-  | inr e ↦ absurd (cc (rw e at h)) ]
+  | inl e ↦ rw e (let m = run_length p xs ys (rw e at h) k in omega arith)
+  | inr e ↦ absurd (cc (rw e at h))
+]
 
 -- the front of a run is its first byte
 run_begins : (p q : ℕ → Bool) (b : ℕ) (bs : List ℕ) → p b ≡ true → q b ≡ true → begins q (take (prefix_len p (b ∷ bs)) (b ∷ bs)) ≡ true
@@ -67,15 +69,18 @@ word_whole b bs h = record {
 
 word_is : (text behind : List ℕ) → IsWholeWord text behind → length text ≤ 64 → IsToken (word_sign text) text behind
 word_is text behind w short = elim (true_or_false (bytes_eq text (codes "rec"))) [
-    inl h ↦ rw h (w, (bytes_eq-Decides text (codes "rec")).0 h)
+  | inl h ↦ rw h (w, (bytes_eq-Decides text (codes "rec")).0 h)
   | inr h ↦ rw h (elim (true_or_false (bytes_eq text (codes "end"))) [
-      inl k ↦ rw k (w, (bytes_eq-Decides text (codes "end")).0 k)
-    | inr k ↦ rw k (w, short, (λ e. cc ((bytes_eq-Decides text (codes "rec")).1 e, h)), (λ e. cc ((bytes_eq-Decides text (codes "end")).1 e, k)), refl) ]) ]
+    | inl k ↦ rw k (w, (bytes_eq-Decides text (codes "end")).0 k)
+    | inr k ↦ rw k (w, short, (λ e. cc ((bytes_eq-Decides text (codes "rec")).1 e, h)), (λ e. cc ((bytes_eq-Decides text (codes "end")).1 e, k)), refl)
+  ])
+]
 
 word_front_fits : (here : List ℕ) (n : ℕ) → length (take n here) ≡ n → IsWholeWord (take n here) (drop n here) → Fits (word_front here n) here
 word_front_fits here n size whole = elim (leb_tells 65 n) [
-    inl h ↦ rw h.0 (record { behind = here; text = []; parts = refl; size = refl; token = (refl, (take n here, drop n here, sym (take-append-drop n here), whole, omega arith)) })
-  | inr h ↦ rw h.0 (record { behind = drop n here; text = take n here; parts = sym (take-append-drop n here); size = sym size; token = word_is (take n here) (drop n here) whole (omega arith) }) ]
+  | inl h ↦ rw h.0 (record { behind = here; text = []; parts = refl; size = refl; token = (refl, (take n here, drop n here, sym (take-append-drop n here), whole, omega arith)) })
+  | inr h ↦ rw h.0 (record { behind = drop n here; text = take n here; parts = sym (take-append-drop n here); size = sym size; token = word_is (take n here) (drop n here) whole (omega arith) })
+]
 
 -- ---- numbers
 
@@ -88,8 +93,9 @@ number_whole b bs h = record {
 
 number_front_fits : (here : List ℕ) (n : ℕ) → length (take n here) ≡ n → IsWholeNumber (take n here) (drop n here) → Fits (number_front here n) here
 number_front_fits here n size whole = elim (leb_tells 4294967296 (value_of (take n here))) [
-    inl h ↦ rw h.0 (record { behind = here; text = []; parts = refl; size = refl; token = (refl, (take n here, drop n here, sym (take-append-drop n here), whole, omega arith)) })
-  | inr h ↦ rw h.0 (record { behind = drop n here; text = take n here; parts = sym (take-append-drop n here); size = sym size; token = (whole, omega arith, refl) }) ]
+  | inl h ↦ rw h.0 (record { behind = here; text = []; parts = refl; size = refl; token = (refl, (take n here, drop n here, sym (take-append-drop n here), whole, omega arith)) })
+  | inr h ↦ rw h.0 (record { behind = drop n here; text = take n here; parts = sym (take-append-drop n here); size = sym size; token = (whole, omega arith, refl) })
+]
 
 -- ---- marks
 
@@ -105,13 +111,15 @@ lone_dash bs h = record { no_blank = refl; no_comment = apart 45 35 refl; no_wor
 arrow_fits : (bs : List ℕ) → Fits (arrow_front bs) (45 ∷ bs)
 arrow_fits [] = faulty 45 [] (lone_dash [] refl)
 arrow_fits (c ∷ bs) = elim (eqb_tells c 62) [
-    inl h ↦ rw (h.0, h.1) (record { behind = bs; text = codes "->"; parts = refl; size = refl; token = refl })
-  | inr h ↦ rw h.0 (faulty 45 (c ∷ bs) (lone_dash (c ∷ bs) h.0)) ]
+  | inl h ↦ rw (h.0, h.1) (record { behind = bs; text = codes "->"; parts = refl; size = refl; token = refl })
+  | inr h ↦ rw h.0 (faulty 45 (c ∷ bs) (lone_dash (c ∷ bs) h.0))
+]
 
 one_mark : (b mark : ℕ) (bs : List ℕ) (s : Sign) (other : Front) → IsToken s (mark ∷ []) bs → ((b == mark) ≡ false → Fits other (b ∷ bs)) → Fits (if b == mark then front s 1 else other) (b ∷ bs)
 one_mark b mark bs s other token rest = elim (eqb_tells b mark) [
-    inl h ↦ rw (h.0, h.1) (record { behind = bs; text = mark ∷ []; parts = refl; size = refl; token = token })
-  | inr h ↦ rw h.0 (rest h.0) ]
+  | inl h ↦ rw (h.0, h.1) (record { behind = bs; text = mark ∷ []; parts = refl; size = refl; token = token })
+  | inr h ↦ rw h.0 (rest h.0)
+]
 
 mark_fits : (b : ℕ) (bs : List ℕ) → is_blank b ≡ false → b ≢ 35 → is_letter b ≡ false → is_digit b ≡ false → (b == 45) ≡ false → Fits (mark_front b) (b ∷ bs)
 mark_fits b bs blank hash letter digit dash =
@@ -143,30 +151,35 @@ pick false f g here h k = k refl
 
 dash_fits : (b : ℕ) (bs : List ℕ) → is_blank b ≡ false → b ≢ 35 → is_letter b ≡ false → is_digit b ≡ false → Fits (if b == 45 then arrow_front bs else mark_front b) (b ∷ bs)
 dash_fits b bs blank hash letter digit = elim (eqb_tells b 45) [
-    inl h ↦ rw (h.0, h.1) (arrow_fits bs)
-  | inr h ↦ rw h.0 (mark_fits b bs blank hash letter digit h.0) ]
+  | inl h ↦ rw (h.0, h.1) (arrow_fits bs)
+  | inr h ↦ rw h.0 (mark_fits b bs blank hash letter digit h.0)
+]
 
 pub front_fits : (here : List ℕ) → Stops here → Fits (front_of here) here
 front_fits [] s = record { behind = []; text = []; parts = refl; size = refl; token = (refl, refl) }
 front_fits (b ∷ bs) s =
     pick (is_letter b) (word_front (b ∷ bs) (word_length (b ∷ bs))) (if is_digit b then number_front (b ∷ bs) (number_length (b ∷ bs)) else if b == 45 then arrow_front bs else mark_front b) (b ∷ bs)
-        (λ h. word_front_fits (b ∷ bs) (word_length (b ∷ bs)) (length-prefix_len is_word_byte (b ∷ bs)) (word_whole b bs h))
-        (λ h. pick (is_digit b) (number_front (b ∷ bs) (number_length (b ∷ bs))) (if b == 45 then arrow_front bs else mark_front b) (b ∷ bs)
-            (λ k. number_front_fits (b ∷ bs) (number_length (b ∷ bs)) (length-prefix_len is_digit (b ∷ bs)) (number_whole b bs k))
-            (λ k. dash_fits b bs s.0 s.1 h k))
+    (λ h. word_front_fits (b ∷ bs) (word_length (b ∷ bs)) (length-prefix_len is_word_byte (b ∷ bs)) (word_whole b bs h))
+    (λ h. pick (is_digit b) (number_front (b ∷ bs) (number_length (b ∷ bs))) (if b == 45 then arrow_front bs else mark_front b) (b ∷ bs)
+    (λ k. number_front_fits (b ∷ bs) (number_length (b ∷ bs)) (length-prefix_len is_digit (b ∷ bs)) (number_whole b bs k))
+    (λ k. dash_fits b bs s.0 s.1 h k))
 
 -- ---- and the other way: a token or a fault is the front
 
 not_blank : (test : ℕ → Bool) (b : ℕ) → test b ≡ true → test 32 ≡ false → test 9 ≡ false → test 13 ≡ false → test 10 ≡ false → is_blank b ≡ false
 not_blank test b h space tab cr lf = elim (eqb_tells b 32) [
-    inl e ↦ absurd (cc (rw e.1 at h, space))
+  | inl e ↦ absurd (cc (rw e.1 at h, space))
   | inr e1 ↦ elim (eqb_tells b 9) [
-      inl e ↦ absurd (cc (rw e.1 at h, tab))
+    | inl e ↦ absurd (cc (rw e.1 at h, tab))
     | inr e2 ↦ elim (eqb_tells b 13) [
-        inl e ↦ absurd (cc (rw e.1 at h, cr))
+      | inl e ↦ absurd (cc (rw e.1 at h, cr))
       | inr e3 ↦ elim (eqb_tells b 10) [
-          inl e ↦ absurd (cc (rw e.1 at h, lf))
-        | inr e4 ↦ rw (e1.0, e2.0, e3.0, e4.0) refl ] ] ] ]
+        | inl e ↦ absurd (cc (rw e.1 at h, lf))
+        | inr e4 ↦ rw (e1.0, e2.0, e3.0, e4.0) refl
+      ]
+    ]
+  ]
+]
 
 word_stops : (text behind : List ℕ) → begins is_letter text ≡ true → Stops (text ++ behind)
 word_stops [] behind h = absurd (cc h)
@@ -234,30 +247,36 @@ number_front_is (b ∷ bs) behind w =
 
 word_short : (text behind : List ℕ) (s : Sign) → length text ≤ 64 → word_sign text ≡ s → word_front (text ++ behind) (length text) ≡ front s (length text)
 word_short text behind s short e = elim (leb_tells 65 (length text)) [
-    inl h ↦ absurd (omega arith)
-  | inr h ↦ rw (h.0, take-append_seam text behind, e) refl ]
+  | inl h ↦ absurd (omega arith)
+  | inr h ↦ rw (h.0, take-append_seam text behind, e) refl
+]
 
 word_long : (text behind : List ℕ) → 64 < length text → word_front (text ++ behind) (length text) ≡ front (broken fault.NameTooLong) 0
 word_long text behind long = elim (leb_tells 65 (length text)) [
-    inl h ↦ rw h.0 refl
-  | inr h ↦ absurd (omega arith) ]
+  | inl h ↦ rw h.0 refl
+  | inr h ↦ absurd (omega arith)
+]
 
 number_small : (text behind : List ℕ) → value_of text ≤ 4294967295 → number_front (text ++ behind) (length text) ≡ front (number (value_of text)) (length text)
 number_small text behind small = elim (leb_tells 4294967296 (value_of text)) [
-    inl h ↦ absurd (omega arith)
-  | inr h ↦ rw (take-append_seam text behind, h.0) refl ]
+  | inl h ↦ absurd (omega arith)
+  | inr h ↦ rw (take-append_seam text behind, h.0) refl
+]
 
 number_large : (text behind : List ℕ) → 4294967295 < value_of text → number_front (text ++ behind) (length text) ≡ front (broken fault.NumberTooLarge) 0
 number_large text behind large = elim (leb_tells 4294967296 (value_of text)) [
-    inl h ↦ rw (take-append_seam text behind, h.0) refl
-  | inr h ↦ absurd (omega arith) ]
+  | inl h ↦ rw (take-append_seam text behind, h.0) refl
+  | inr h ↦ absurd (omega arith)
+]
 
 plain_sign : (text : List ℕ) → text ≢ codes "rec" → text ≢ codes "end" → word_sign text ≡ plain text
 plain_sign text not_rec not_end = elim (true_or_false (bytes_eq text (codes "rec"))) [
-    inl h ↦ absurd (not_rec ((bytes_eq-Decides text (codes "rec")).0 h))
+  | inl h ↦ absurd (not_rec ((bytes_eq-Decides text (codes "rec")).0 h))
   | inr h ↦ elim (true_or_false (bytes_eq text (codes "end"))) [
-      inl k ↦ absurd (not_end ((bytes_eq-Decides text (codes "end")).0 k))
-    | inr k ↦ rw (h, k) refl ] ]
+    | inl k ↦ absurd (not_end ((bytes_eq-Decides text (codes "end")).0 k))
+    | inr k ↦ rw (h, k) refl
+  ]
+]
 
 lone_front : (bs : List ℕ) → begins (λ next. next == 62) bs ≡ false → arrow_front bs ≡ front (broken fault.BadByte) 0
 lone_front [] h = refl
@@ -281,8 +300,9 @@ no_mark_front b h0 =
 nothing_front : (b : ℕ) (bs : List ℕ) → BeginsNothing b bs → front_of (b ∷ bs) ≡ front (broken fault.BadByte) 0
 nothing_front b bs n =
     not_picked (is_letter b) _ _ _ n.no_word (not_picked (is_digit b) _ _ _ n.no_number (elim (eqb_tells b 45) [
-        inl e ↦ rw e.0 (lone_front bs (n.no_arrow e.1))
-      | inr e ↦ rw e.0 (no_mark_front b n.no_mark) ]))
+      | inl e ↦ rw e.0 (lone_front bs (n.no_arrow e.1))
+      | inr e ↦ rw e.0 (no_mark_front b n.no_mark)
+    ]))
 
 fault_front : (kind : FaultKind) (here : List ℕ) → IsFaulty kind here → front_of here ≡ front (broken kind) 0
 fault_front fault.BadByte here f = rw f.2 (nothing_front f.0 f.1 f.3)

@@ -1,10 +1,12 @@
-use Rattle.std.proofs.Common.{Bool, true, ◌/◌, ◌%◌, ◌^◌, ◌++◌, refl, ◌≡◌, ℕ, suc, ◌+◌, ◌-◌, ◌*◌, ◌<◌, ◌≤◌, List, [], ◌∷◌, drop, drop-cons, length, get_or, arith}
+use Rattle.std.proofs.Common.{Bool, true, false, sym, ◌/◌, ◌%◌, ◌^◌, ◌++◌, refl, ◌≡◌, ℕ, suc, ◌+◌, ◌-◌, ◌*◌, ◌<◌, ◌≤◌, List, [], ◌∷◌, drop, drop-cons, length, get_or, arith}
 use Rattle.std.proofs.lemmas.Fmt.{decimal_by_steps}
 use Rattle.std.proofs.lemmas.Bool.Decides.{nat_tests}
 use Rattle.std.proofs.lemmas.List.Folds.{list_all-append}
 use Rattle.std.specs.Fmt.{decimal}
 use Rattle.std.specs.List.{list_all}
 use Rattle.rs_text.specs.Bytes.{is_digit}
+use Rattle.rs_text.specs.Signs.{number}
+use Rattle.rs_text.specs.Tokens.{IsToken}
 use Rattle.rs_text.specs.Words.{begins}
 use Rattle.rs_text.specs.Lexemes.{value_behind, value_of}
 
@@ -47,7 +49,14 @@ reads_push n digits h r =
     let d = plus_is_digit (n % 10) (omega arith) in (
       (rw (value_push digits (48 + n % 10), r.0) (omega arith)),
       (rw (list_all-append is_digit digits ((48 + n % 10) ∷ []), r.1, d) refl),
-      (begins_more is_digit digits ((48 + n % 10) ∷ []) r.2))
+      (begins_more is_digit digits ((48 + n % 10) ∷ []) r.2),
+    )
 
 pub decimal_reads : (n : ℕ) → n < 2 ^ 64 → Reads n (decimal n)
 decimal_reads n h = decimal_by_steps Reads reads_digit reads_push n h
+
+pub decimal_token : (n : ℕ) (behind : List ℕ) → n ≤ 4294967295 → begins is_digit behind ≡ false → IsToken (number n) (decimal n) behind
+decimal_token n behind small whole =
+    let r = decimal_reads n (omega arith) in
+    let e = r.0 in
+    (record { first = r.2; all = r.1; whole = whole }, omega arith, sym e)

@@ -37,16 +37,19 @@ pub record Front : Type 0 where
   pub sign : Sign
   pub size : ℕ
 
+-- a sign with its size
 abbrev pub front : Sign → ℕ → Front
 front sign size = record { sign = sign; size = size }
 
+-- the word of the first n bytes
 abbrev pub word_front : List ℕ → ℕ → Front
 word_front bytes n = if nat_lt 64 n then front (broken fault.NameTooLong) 0 else front (word_sign (take n bytes)) n
 
+-- the number of the first n bytes
 abbrev pub number_front : List ℕ → ℕ → Front
 number_front bytes n = if nat_lt 4294967295 (value_of (take n bytes)) then front (broken fault.NumberTooLarge) 0 else front (number (value_of (take n bytes))) n
 
--- behind a -
+-- behind a first -
 abbrev pub arrow_front : List ℕ → Front
 arrow_front [] = front (broken fault.BadByte) 0
 arrow_front (b ∷ bs) = if b == 62 then front arrow 2 else front (broken fault.BadByte) 0
@@ -82,6 +85,7 @@ pub record Lexeme : Type 0 where
   pub from : ℕ
   pub until : ℕ
 
+-- what stands in front, at its offset
 abbrev pub placed : ℕ → Front → Lexeme
 placed from f = record { sign = f.sign; from = from; until = from + f.size }
 

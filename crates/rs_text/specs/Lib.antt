@@ -1,10 +1,10 @@
 pub mod Data
 pub mod Bytes
+pub mod Words
 pub mod Signs
 pub mod Lexemes
-pub mod Faults
-pub mod Names
-pub mod Places
-pub mod Sound
 pub mod Tokens
-pub mod Words
+pub mod Places
+pub mod Names
+pub mod Sound
+pub mod Faults

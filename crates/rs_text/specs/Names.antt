@@ -17,6 +17,7 @@ pub record StandsFirst (name : List ℕ) (names : List (List ℕ)) (place : ℕ)
   pub there : slice_get names place ≡ Some name
   pub first : (k : ℕ) → k < place → slice_get names k ≢ Some name
 
+-- the name is one of these
 abbrev pub is_among : List ℕ → List (List ℕ) → Bool
 is_among name names = list_any (λ x. bytes_eq x name) names
 

@@ -1,5 +1,5 @@
 -- Names that a text can have.
-use Rattle.std.specs.Prelude.{◌≡◌, ◌≢◌, ℕ, List, [], ◌∷◌, length, Bool, true, false, ◌&&◌, if◌then◌else◌}
+use Rattle.std.specs.Prelude.{◌≡◌, ◌≢◌, ℕ, List, [], ◌∷◌, Bool, true, false, ◌&&◌, if◌then◌else◌}
 use Rattle.std.specs.List.{list_all, All, AllPairs}
 use Rattle.rs_model.specs.Data.{Names_data}
 use Rattle.rs_text.specs.Names.{is_among}

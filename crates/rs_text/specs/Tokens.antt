@@ -1,5 +1,5 @@
 -- What the tokens of a text are, apart from any way to find them.
-use Rattle.std.specs.Prelude.{◌≡◌, ◌≢◌, ◌<◌, ◌≤◌, ◌+◌, ℕ, List, [], ◌∷◌, ◌++◌, length, drop, codes, ◌==◌, Bool, true, false}
+use Rattle.std.specs.Prelude.{◌≡◌, ◌≢◌, ◌<◌, ◌≤◌, ◌+◌, ℕ, List, [], ◌∷◌, ◌++◌, length, drop, codes, ◌==◌, true, false}
 use Rattle.std.specs.List.{list_all, list_any}
 use Rattle.rs_text.specs.declared.tokens.FaultKind.{FaultKind}
 use Rattle.rs_text.specs.declared.tokens.FaultKind.TheVariants as fault
@@ -14,6 +14,7 @@ pub data Gap : Type 0 where
   blank : (byte : ℕ) → (more : Gap) → Gap
   comment : (held : List ℕ) → (more : Gap) → Gap
 
+-- the bytes of a gap
 abbrev pub gap_bytes : Gap → List ℕ
 gap_bytes nothing = []
 gap_bytes (blank byte more) = byte ∷ gap_bytes more

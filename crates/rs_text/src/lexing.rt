@@ -7,8 +7,8 @@ ghost use Rattle.rs_text.specs.declared.tokens.FaultKind.TheVariants as fault;
 use crate::{Fault, FaultKind, Kind, Token};
 use std::marker::Model;
 
-/// The longest word, in bytes.
-const LONGEST_WORD: usize = 64;
+/// The length of the longest word, in bytes.
+pub(crate) const LONGEST_WORD: usize = 64;
 
 /// Cuts a text into its tokens, one by one, without copying it.
 #[derive(Drop)]

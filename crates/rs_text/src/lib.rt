@@ -2,10 +2,13 @@
 #![tactic(auto)]
 
 mod faults;
+pub mod laws;
 mod lexing;
 mod names;
 mod output;
 mod places;
+#[cfg(test)]
+mod tests;
 mod tokens;
 
 pub use faults::{TextFault, TextKind, Wanted};

@@ -1,4 +1,4 @@
-ghost use Rattle.std.specs.Prelude.{◌≡◌, ◌≤◌, ◌++◌, ◌∷◌, [], length, OnOk, OnErr, IfOk};
+ghost use Rattle.std.specs.Prelude.{◌≡◌, ◌↔◌, IsTrue, ◌++◌, ◌∷◌, [], length, OnOk, OnErr, IfOk};
 ghost use Rattle.std.specs.List.{list_all};
 ghost use Rattle.rs_text.specs.Names.{place_of, is_among};
 ghost use Rattle.rs_text.specs.Bytes as bytes;
@@ -6,33 +6,29 @@ ghost use Rattle.rs_text.specs.Words as words;
 ghost use Rattle.rs_text.specs.Words.{begins};
 ghost use Rattle.rs_text.specs.Sound as spec;
 
-use crate::lexing::{is_digit, is_letter};
+use crate::lexing::{LONGEST_WORD, is_digit, is_letter};
 use rs_model::{Name, Names, NoMemory};
 use std::alloc::Global;
 
-/// The place of a name among others, the first one if there are more.
-pub fn find(names: &[Name], word: &[u8]) -> Option<u32>
-    requires { length names.now ≤ 65536 }
+/// The place of a name among others, the first one if it stands there more than once.
+pub fn find(names: &[Name], word: &[u8]) -> Option<usize>
     ensures { result ≡ place_of word.now names.now }
 {
-    let mut place: u32 = 0;
-    for name in names {
+    for (place, name) in names.iter().enumerate() {
         if name.as_slice() == word {
             return Some(place);
         }
-        place += 1;
     }
     None
 }
 
 /// Puts a name behind the others and gives its place; where memory is refused nothing changes.
-pub fn add(alloc: Global, names: &mut Vec<Name>, word: &[u8]) -> Result<u32, NoMemory>
-    requires { length names.now.items ≤ 65536 }
+pub fn add(alloc: Global, names: &mut Vec<Name>, word: &[u8]) -> Result<usize, NoMemory>
     ensures place { IfOk result (λ place. place ≡ length names.old.items) }
     ensures added { OnOk result (names.new.items ≡ names.old.items ++ word.now ∷ []) }
     ensures kept { OnErr result (names.new.items ≡ names.old.items) }
 {
-    let place = names.len() as u32;
+    let place = names.len();
     let name = Name::of(alloc, word)?;
     names.push(name)?;
     Ok(place)
@@ -41,6 +37,13 @@ pub fn add(alloc: Global, names: &mut Vec<Name>, word: &[u8]) -> Result<u32, NoM
 /// Whether texts can have these names: the names of roles differ and are words other than `rec` and `end`, and the
 /// names of labels differ and are words.
 pub fn sound(names: &Names) -> bool
+    ensures means { IsTrue result ↔ spec.IsSound names.now }
+    ensures test { result ≡ spec.are_sound names.now }
+{
+    passes(names)
+}
+
+fn passes(names: &Names) -> bool
     ensures { result ≡ spec.are_sound names.now }
 {
     let roles = names.roles.as_slice();
@@ -87,7 +90,7 @@ fn is_role_word(text: &[u8]) -> bool
 fn is_word(text: &[u8]) -> bool
     ensures { result ≡ words.is_word text.now }
 {
-    starts_as_word(text) && are_word_bytes(text) && text.len() <= 64
+    starts_as_word(text) && are_word_bytes(text) && text.len() <= LONGEST_WORD
 }
 
 fn starts_as_word(text: &[u8]) -> bool

@@ -1,4 +1,4 @@
-use Rattle.std.proofs.Common.{rules, ◌≡◌}
+use Rattle.std.proofs.Common.{rules}
 use Rattle.rs_text.proofs.Fronts.{next_is}
 use Rattle.rs_text.proofs.lexing.next_token.Goals as goal
 

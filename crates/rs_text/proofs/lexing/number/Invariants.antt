@@ -1,4 +1,4 @@
-use Rattle.std.proofs.Common.{◌≡◌, ◌+◌, drop}
+use Rattle.std.proofs.Common.{◌≡◌, drop}
 use Rattle.rs_text.specs.Lexemes.{value_behind}
 use Rattle.rs_text.proofs.lexing.number.Given as goal
 

@@ -1,0 +1,91 @@
+// What the definitions of tokens, names and numbers say together. The functions do nothing: each states a law.
+ghost use Rattle.std.specs.Prelude.{◌≡◌, ◌≢◌, ◌≤◌, ◌↔◌, ◌||◌, ◌++◌, ◌∷◌, ℕ, List, [], Bool, Some, None, length, slice_get, true, false};
+ghost use Rattle.std.specs.Fmt.{decimal};
+ghost use Rattle.std.specs.List.{list_all};
+ghost use Rattle.rs_text.specs.Bytes.{is_digit};
+ghost use Rattle.rs_text.specs.Lexemes.{Lexeme, Lexed, next_lexeme};
+ghost use Rattle.rs_text.specs.Names.{place_of, is_among, grown, StandsFirst};
+ghost use Rattle.rs_text.specs.Signs.{plain, number, finish};
+ghost use Rattle.rs_text.specs.Sound.{differ};
+ghost use Rattle.rs_text.specs.Tokens.{AreTokens, IsNext, IsToken, IsWithin};
+ghost use Rattle.rs_text.specs.Words.{begins, is_role_word};
+
+/// What is cut off from the front of a text is its next token, and nothing else is.
+pub fn next_token_is_next()
+    ensures { (bytes : List ℕ) (at : ℕ) (l : Lexeme) → (l ≡ next_lexeme bytes at) ↔ IsNext bytes at l }
+{}
+
+/// Tokens cut off one by one are the tokens of the text.
+pub fn cut_off_are_tokens()
+    ensures { (bytes : List ℕ) (at : ℕ) (lexemes : List Lexeme) → Lexed bytes at lexemes ↔ AreTokens bytes at lexemes }
+{}
+
+/// A text has tokens ..
+pub fn has_tokens()
+    ensures { (bytes : List ℕ) (at : ℕ) → at ≤ length bytes → (lexemes : List Lexeme) × AreTokens bytes at lexemes }
+{}
+
+/// .. and no others.
+pub fn has_one_list_of_tokens()
+    ensures { (bytes : List ℕ) (at : ℕ) (these others : List Lexeme) → AreTokens bytes at these → AreTokens bytes at others → these ≡ others }
+{}
+
+/// A token lies within the text, behind the ones before it.
+pub fn tokens_are_in_order()
+    ensures { (bytes : List ℕ) (at : ℕ) (l : Lexeme) → at ≤ length bytes → IsNext bytes at l → IsWithin bytes at l }
+{}
+
+/// A plain word can be a role's name, and so a label's.
+pub fn plain_words_are_words()
+    ensures { (bytes : List ℕ) (at : ℕ) (l : Lexeme) (name : List ℕ) → IsNext bytes at l → l.sign ≡ plain name → is_role_word name ≡ true }
+{}
+
+/// At the end of a text its end is the next token, again and again.
+pub fn end_comes_again()
+    ensures { (bytes : List ℕ) → next_lexeme bytes (length bytes) ≡ record { sign = finish; from = length bytes; until = length bytes } }
+{}
+
+/// A number that is written in decimal is read as that number, where no digit stands behind it.
+pub fn decimal_is_a_number()
+    ensures { (n : ℕ) (behind : List ℕ) → n ≤ 4294967295 → begins is_digit behind ≡ false → IsToken (number n) (decimal n) behind }
+{}
+
+/// The place of a name is the first at which it stands ..
+pub fn place_is_the_first()
+    ensures { (name : List ℕ) (names : List (List ℕ)) (place : ℕ) → (place_of name names ≡ Some place) ↔ StandsFirst name names place }
+{}
+
+/// .. and a name that stands nowhere has none.
+pub fn absent_has_no_place()
+    ensures { (name : List ℕ) (names : List (List ℕ)) → (place_of name names ≡ None) ↔ ((k : ℕ) → slice_get names k ≢ Some name) }
+{}
+
+/// A name keeps its place where others are put behind.
+pub fn place_stays()
+    ensures { (name : List ℕ) (names more : List (List ℕ)) (place : ℕ) → place_of name names ≡ Some place → place_of name (names ++ more) ≡ Some place }
+{}
+
+/// So it does where the names grow.
+pub fn place_stays_in_grown()
+    ensures { (name : List ℕ) (names more : List (List ℕ)) (place : ℕ) → place_of name names ≡ Some place → place_of name (grown names more) ≡ Some place }
+{}
+
+/// A new name gets the place behind all others.
+pub fn new_name_is_last()
+    ensures { (name : List ℕ) (names : List (List ℕ)) → place_of name names ≡ None → place_of name (names ++ name ∷ []) ≡ Some (length names) }
+{}
+
+/// A name is among the grown ones exactly where it is among the old or the further ones.
+pub fn grown_has_both()
+    ensures { (name : List ℕ) (names more : List (List ℕ)) → is_among name (grown names more) ≡ (is_among name names || is_among name more) }
+{}
+
+/// Names that differ still do so when they have grown ..
+pub fn grown_names_differ()
+    ensures { (names more : List (List ℕ)) → differ names ≡ true → differ (grown names more) ≡ true }
+{}
+
+/// .. and what holds of the old and of the further ones holds of them all.
+pub fn grown_names_pass()
+    ensures { (test : List ℕ → Bool) (names more : List (List ℕ)) → list_all test names ≡ true → list_all test more ≡ true → list_all test (grown names more) ≡ true }
+{}

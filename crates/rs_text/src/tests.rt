@@ -1,0 +1,208 @@
+ghost use Rattle.std.specs.Prelude.{◌≤◌, length};
+
+use crate::{
+    FaultKind, Kind, Lexer, Text, TextFault, TextKind, Wanted, add, find, number, place, sound,
+};
+use rs_model::{Name, Names, NoMemory};
+use std::alloc::Global;
+use std::test::Fail;
+
+/// 65 bytes that could be a word, were they not one too many.
+const LONG: &[u8] = b"ab34567890b234567890c234567890d234567890e234567890f234567890g2345";
+
+fn letter_of(kind: Kind) -> &'static str {
+    match kind {
+        Kind::Word => "w",
+        Kind::Number => "n",
+        Kind::Arrow => "->",
+        Kind::Bang => "!",
+        Kind::Question => "?",
+        Kind::Colon => ":",
+        Kind::Dot => ".",
+        Kind::Comma => ",",
+        Kind::OpenBrace => "{",
+        Kind::CloseBrace => "}",
+        Kind::OpenParen => "(",
+        Kind::CloseParen => ")",
+        Kind::OpenBracket => "[",
+        Kind::CloseBracket => "]",
+        Kind::Finish => "end",
+    }
+}
+
+/// Writes the next token with its offsets, or the fault, and tells whether it is the last.
+fn show_next(text: &mut Text, lexer: &mut Lexer) -> Result<bool, NoMemory> {
+    match lexer.next() {
+        Ok(token) => {
+            text.push(letter_of(token.kind).as_bytes())?;
+            text.push_number(token.from as u64)?;
+            text.push(b"-")?;
+            text.push_number(token.until as u64)?;
+            Ok(token.kind == Kind::Finish)
+        }
+        Err(fault) => {
+            let kind = match fault.kind {
+                FaultKind::BadByte => "bad",
+                FaultKind::NumberTooLarge => "large",
+                FaultKind::NameTooLong => "long",
+            };
+            text.push(kind.as_bytes())?;
+            text.push_number(fault.at as u64)?;
+            Ok(true)
+        }
+    }
+}
+
+/// The tokens from `at` on, to the end or a fault; the last is asked for twice.
+fn shown(alloc: Global, bytes: &[u8], at: usize) -> Result<Text, NoMemory>
+    requires { at ≤ length bytes.now }
+{
+    let mut lexer = Lexer::new(bytes, at);
+    let mut text = Text::new(alloc);
+    for _ in 0..40 {
+        if show_next(&mut text, &mut lexer)? {
+            break;
+        }
+        text.push(b" ")?;
+    }
+    text.push(b" ")?;
+    show_next(&mut text, &mut lexer)?;
+    Ok(text)
+}
+
+#[test]
+fn cuts_tokens(rt: HostRuntime) -> Result<(), Fail> {
+    let cases = [
+        (b"".as_slice(), "end0-0 end0-0"),
+        (
+            b"w 1->!?:.,",
+            "w0-1 n2-3 ->3-5 !5-6 ?6-7 :7-8 .8-9 ,9-10 end10-10 end10-10",
+        ),
+        (b"{}()[]", "{0-1 }1-2 (2-3 )3-4 [4-5 ]5-6 end6-6 end6-6"),
+        (
+            b"_ A9_z rec end",
+            "w0-1 w2-6 w7-10 w11-14 end14-14 end14-14",
+        ),
+        (b"12ab a12", "n0-2 w2-4 w5-8 end8-8 end8-8"),
+        (b" \t\r\n", "end4-4 end4-4"),
+        (b"a\r\n\tb", "w0-1 w4-5 end5-5 end5-5"),
+        (b"ab#c\nd", "w0-2 w5-6 end6-6 end6-6"),
+        (b"# \xff-$#\r\n1", "n8-9 end9-9 end9-9"),
+        (b"a #", "w0-1 end3-3 end3-3"),
+        (b"-", "bad0 bad0"),
+        (b"A->B A- >B", "w0-1 ->1-3 w3-4 w5-6 bad6 bad6"),
+        (b"->>", "->0-2 bad2 bad2"),
+        (b"a \xff b", "w0-1 bad2 bad2"),
+        (b"$", "bad0 bad0"),
+        (b"4294967295", "n0-10 end10-10 end10-10"),
+        (b"4294967296", "large0 large0"),
+        (b" 00000000000004294967295", "n1-24 end24-24 end24-24"),
+        (b"1 99999999999999999999999", "n0-1 large2 large2"),
+        (LONG, "long0 long0"),
+    ];
+    for (bytes, want) in cases {
+        let text = shown(rt.alloc(), bytes, 0)?;
+        assert_eq!(rt; text.as_slice(), want.as_bytes(), "{want}");
+    }
+    let text = shown(rt.alloc(), LONG, 1)?;
+    assert_eq!(rt; text.as_slice(), b"w1-65 end65-65 end65-65".as_slice());
+    Ok(())
+}
+
+#[test]
+fn reads_numbers(rt: HostRuntime) {
+    for (digits, want) in [
+        (b"0".as_slice(), Some(0)),
+        (b"0064", Some(64)),
+        (b"4294967295", Some(4294967295)),
+        (b"4294967296", None),
+        (b"18446744073709551616", None),
+    ] {
+        assert_eq!(rt; number(digits), want);
+    }
+}
+
+#[test]
+fn counts_lines_and_columns(rt: HostRuntime) {
+    for (bytes, offset, want) in [
+        (b"".as_slice(), 0, (1, 1)),
+        (b"ab", 2, (1, 3)),
+        (b"a\nb", 1, (1, 2)),
+        (b"a\nb", 2, (2, 1)),
+        (b"\n\n", 2, (3, 1)),
+        (b"a\r\tb", 3, (1, 4)),
+        (b"roles A, 4294967296", 9, (1, 10)),
+        (b"roles A, B\nprotocol A-", 21, (2, 11)),
+    ] {
+        assert!(rt; offset <= bytes.len());
+        assert_eq!(rt; place(bytes, offset), want);
+    }
+}
+
+#[test]
+fn writes_texts(rt: HostRuntime) -> Result<(), Fail> {
+    let mut text = Text::new(rt.alloc());
+    text.push(b"node ")?;
+    for n in [0, 65537, u64::MAX] {
+        text.push_number(n)?;
+        text.push(b" ")?;
+    }
+    text.push(Wanted::BoundNumber.text().as_bytes())?;
+    assert_eq!(rt;
+        text.as_slice(),
+        b"node 0 65537 18446744073709551615 number from 1 to 64".as_slice()
+    );
+    Ok(())
+}
+
+fn names_of(alloc: Global, words: &[&str]) -> Result<Vec<Name>, NoMemory> {
+    let mut names = Vec::new(alloc);
+    for word in words {
+        names.push(Name::of(alloc, word.as_bytes())?)?;
+    }
+    Ok(names)
+}
+
+fn are_sound(alloc: Global, roles: &[&str], labels: &[&str]) -> Result<bool, NoMemory> {
+    let names = Names {
+        roles: names_of(alloc, roles)?,
+        labels: names_of(alloc, labels)?,
+    };
+    Ok(sound(&names))
+}
+
+#[test]
+fn tells_sound_names(rt: HostRuntime) -> Result<(), Fail> {
+    let alloc = rt.alloc();
+    let short = "ab34567890b234567890c234567890d234567890e234567890f234567890g234";
+    let long = "ab34567890b234567890c234567890d234567890e234567890f234567890g2345";
+    assert!(rt; are_sound(alloc, &[], &[])?);
+    assert!(rt; are_sound(alloc, &["A", "B"], &["x", "rec", "end"])?);
+    assert!(rt; are_sound(alloc, &["_", "x9", short], &["x9", short])?);
+    for (roles, labels) in [
+        (["A", "A"], ["x", "y"]),
+        (["A", "rec"], ["x", "y"]),
+        (["end", "A"], ["x", "y"]),
+        (["A b", "A"], ["x", "y"]),
+        (["", "A"], ["x", "y"]),
+        ([long, "A"], ["x", "y"]),
+        (["A", "B"], ["x", "x"]),
+        (["A", "B"], ["x", ""]),
+        (["A", "B"], ["x", "1x"]),
+        (["A", "B"], [long, "y"]),
+    ] {
+        assert!(rt; !are_sound(alloc, roles.as_slice(), labels.as_slice())?);
+    }
+    Ok(())
+}
+
+#[test]
+fn finds_and_adds_names(rt: HostRuntime) -> Result<(), Fail> {
+    let mut names = Vec::new(rt.alloc());
+    assert_eq!(rt; find(&names, b"x"), None);
+    assert_eq!(rt; add(rt.alloc(), &mut names, b"x")?, 0);
+    assert_eq!(rt; add(rt.alloc(), &mut names, b"xy")?, 1);
+    assert_eq!(rt; find(&names, b"xy"), Some(1));
+    assert_eq!(rt; find(&names, b"y"), None);
+    Ok(())
+}
