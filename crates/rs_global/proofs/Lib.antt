@@ -1,3 +1,4 @@
 pub mod Numbers
 pub mod Bindings
 pub mod Standing
+pub mod FaultRuns
