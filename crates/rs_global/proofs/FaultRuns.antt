@@ -70,7 +70,7 @@ named_if : (c : Bool) (k : ℕ) (from : Link) (at : ℕ) (r : Reader_data) (Q : 
 named_if true k from at r Q h = h
 named_if false k from at r Q h = tt
 
-named_lands : (found : Option ℕ) (from : Link) (at : ℕ) (r : Reader_data) (Q : Reader_data → Type 0) → ((k : ℕ) → Q (record (linked from (Some k) r) { mode = mode.Next })) → Lands (named found from at r) Q
+pub named_lands : (found : Option ℕ) (from : Link) (at : ℕ) (r : Reader_data) (Q : Reader_data → Type 0) → ((k : ℕ) → Q (record (linked from (Some k) r) { mode = mode.Next })) → Lands (named found from at r) Q
 named_lands None from at r Q h = tt
 named_lands (Some k) from at r Q h = named_if (nat_lt k (length r.drafts)) k from at r Q (h k)
 
@@ -165,7 +165,7 @@ Goes ls n r Q = (labels : List (List ℕ)) (drafts : List Draft_data) (root : Op
 abbrev pub frame_at : ℕ → Bound → ℕ → Frame
 frame_at node bound depth = record { node = node; bound = length bound; depth = depth }
 
-restored_bound : (inner bound outer : Bound) → bound ≡ inner ++ outer → drop (length bound - length outer) bound ≡ outer
+pub restored_bound : (inner bound outer : Bound) → bound ≡ inner ++ outer → drop (length bound - length outer) bound ≡ outer
 restored_bound inner bound outer h =
     let n : length bound ≡ length inner + length outer = ap length h ∙ length-append inner outer in
     let m : length bound - length outer ≡ length inner = ap (λ z. z - length outer) n ∙ omega arith in

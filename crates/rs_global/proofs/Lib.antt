@@ -2,3 +2,4 @@ pub mod Numbers
 pub mod Bindings
 pub mod Standing
 pub mod FaultRuns
+pub mod FaultPlaces
