@@ -3,3 +3,4 @@ pub mod Bindings
 pub mod Standing
 pub mod FaultRuns
 pub mod FaultPlaces
+pub mod FaultCuts
