@@ -93,16 +93,18 @@ abbrev pub is_named_of : ProtocolCut → Bool
 is_named_of (in_body x y xs body) = is_named body
 is_named_of _ = false
 
-abbrev pub NamedBy : Mode → Sign → Bool → Type 0
-NamedBy (mode.Arrow from s) u b = (u ≡ arrow) × (b ≡ true)
-NamedBy mode.Next u b = b ≡ true → ends_a_name u ≡ true
-NamedBy _ u b = Unit {0}
+-- an arrow was seen behind a word, a word that is a name has no arrow behind it, and there is room for a talk that is begun
+abbrev pub NamedBy : Mode → Sign → Bool → Reader_data → Type 0
+NamedBy (mode.Arrow from s) u b d = (u ≡ arrow) × (b ≡ true)
+NamedBy (mode.Receiver from s) u b d = nat_le 1024 (length d.drafts) ≡ false
+NamedBy mode.Next u b d = b ≡ true → ends_a_name u ≡ true
+NamedBy _ u b d = Unit {0}
 
 -- the reader stands at a place with this wanted text and these faults; u is the token there
 pub record Agrees (w : Wanted) (fault : Sign → Sign → Option TextKind) (is_name : Bool) (u : Sign) (d : Reader_data) : Type 0 where
   pub wanted : wanted_by d.mode d.frames ≡ w
   pub faults : (t n : Sign) → fault t n ≡ fault_seen d.mode t n d
-  pub named : NamedBy d.mode u is_name
+  pub named : NamedBy d.mode u is_name d
 
 abbrev pub CutAgrees : Cut → Wanted → Scene → Sign → Reader_data → Type 0
 CutAgrees c w s u d = Agrees (wanted_at c w) (λ t n. fault_by (wanted_at c w) t n (scene_at c s)) (is_named c) u d
@@ -152,6 +154,14 @@ arm_cut_passes (behind_sort l x) node r s u e = λ a f n. label_lands l node a _
 arm_cut_passes (behind_head l x) node r s u e = λ a f n. label_lands l node a _ r (λ d. Leads (open_paren ∷ (sort_signs x ++ close_paren ∷ [])) u (ArmAgrees (behind_head l x) s u) d)
     (λ k. head_passes x l node k (record r { labels = grown r.labels (l ∷ []) }) s u)
 
+room_if : (c : Bool) (at : ℕ) (x : Fed) (Q : Reader_data → Type 0) → (c ≡ false → Lands x Q) → Lands (if c then fault kind.TooManyNodes at else x) Q
+room_if true at x Q h = tt
+room_if false at x Q h = h refl
+
+sent_in_room : (found : Option ℕ) (from : Link) (at : ℕ) (r : Reader_data) (Q : Reader_data → Type 0) → ((s : Role) → nat_le 1024 (length r.drafts) ≡ false → Q (record r { mode = mode.Arrow from s })) → Lands (sent_by found from at r) Q
+sent_in_room None from at r Q h = tt
+sent_in_room (Some k) from at r Q h = room_if (nat_le 1024 (length r.drafts)) at (in_mode (mode.Arrow from (record { 0 = k })) r) Q (h (record { 0 = k }))
+
 word_agrees : (u : Sign) (f : Follower u) (name : List ℕ) (from : Link) (at next : ℕ) (r : Reader_data) (s : Scene) → Lands (feed_word from name u at next (record r { mode = mode.Body from })) (CutAgrees (behind_name name) (wanted_behind r.frames) s u)
 word_agrees _ an_arrow name from at next r s = sent_lands (place_of name r.roles) from at (record r { mode = mode.Body from }) (CutAgrees (behind_name name) (wanted_behind r.frames) s arrow) (λ role. record { wanted = refl; faults = λ t n. none_behind r.frames t n s; named = (refl, refl) })
 word_agrees _ (a_broken k) name from at next r s = faulty_calm k
@@ -168,8 +178,8 @@ mutual
     (λ a f n. record { wanted = refl; faults = λ t n. refl; named = tt })
   cut_passes (in_binds name b) from r u = λ a f n. lands_if (nat_le 200 r.depth) kind.TooDeep a (Ok (record r { depth = suc r.depth; mode = mode.RecName from })) (λ d. Leads (plain name ∷ dot ∷ cut_signs b) u (CutAgrees (in_binds name b) (wanted_behind r.frames) (scene_of r) u) d) tt
     (λ a f n. λ a f n. cut_passes b from (record r { depth = suc r.depth; bound = (name, length r.drafts) ∷ r.bound }) u)
-  cut_passes (behind_arrow x) from r u = λ a f n. sent_lands (place_of x r.roles) from a (record r { mode = mode.Body from }) (λ d. Leads (arrow ∷ []) u (CutAgrees (behind_arrow x) (wanted_behind r.frames) (scene_of r) u) d)
-    (λ role. λ a f n. record { wanted = refl; faults = λ t n. refl; named = tt })
+  cut_passes (behind_arrow x) from r u = λ a f n. sent_in_room (place_of x r.roles) from a (record r { mode = mode.Body from }) (λ d. Leads (arrow ∷ []) u (CutAgrees (behind_arrow x) (wanted_behind r.frames) (scene_of r) u) d)
+    (λ role room. λ a f n. record { wanted = refl; faults = λ t n. refl; named = room })
   cut_passes (behind_receiver x y) from r u = λ a f n. sent_lands (place_of x r.roles) from a (record r { mode = mode.Body from }) (λ d. Leads (arrow ∷ plain y ∷ []) u (CutAgrees (behind_receiver x y) (wanted_behind r.frames) (scene_of r) u) d)
     (λ role. λ a f n. λ a f n. met_lands (place_of y r.roles) from role a (record r { mode = mode.Receiver from role }) (CutAgrees (behind_receiver x y) (wanted_behind r.frames) (scene_of r) u)
       (λ q. record { wanted = refl; faults = λ t n. mark_same t n (scene_of r) (scene_of (placed from role q r)) refl; named = tt }))

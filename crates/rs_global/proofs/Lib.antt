@@ -4,3 +4,4 @@ pub mod Standing
 pub mod FaultRuns
 pub mod FaultPlaces
 pub mod FaultCuts
+pub mod FaultSteps
