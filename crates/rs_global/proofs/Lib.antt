@@ -5,3 +5,4 @@ pub mod FaultRuns
 pub mod FaultPlaces
 pub mod FaultCuts
 pub mod FaultSteps
+pub mod FirstFaults
