@@ -150,3 +150,182 @@ clear_of xs t u r reach there whole seen k f = elim f [
   | inr (inl m) ↦ absurd (cc (sym m.fault ∙ (agree xs t r reach m.place m.stands).faults t u ∙ seen))
   | inr (inr b) ↦ subst IsWhole b.2.broken_is whole
 ]
+
+pub record Here (xs : List Sign) (t : Sign) (at : ℕ) (u : Sign) (e : TextFault) : Type 0 where
+  pub at_is : e.at ≡ at
+  pub fault : FaultAt xs t u e.kind
+  pub least : (k : TextKind) → FaultAt xs t u k → kind_number e.kind ≤ kind_number k
+
+-- the next token is faulty
+pub record Next (xs : List Sign) (t : Sign) (n : Lexeme) (e : TextFault) : Type 0 where
+  pub kind : FaultKind
+  pub broken_is : n.sign ≡ broken kind
+  pub kind_is : e.kind ≡ kind_of kind
+  pub at_is : e.at ≡ n.from
+  pub clear : Clear xs t n.sign
+  pub place : ProtocolCut
+  pub stands : protocol_cut_signs place ≡ xs ++ t ∷ []
+  pub reached : IsInReach place
+
+abbrev pub Verdict : List Sign → Sign → ℕ → Lexeme → Fed → Type 0
+Verdict xs t at n (Ok d) = There (xs ++ t ∷ []) × Clear xs t n.sign
+Verdict xs t at n (Err e) = Here xs t at n.sign e ⊎ Next xs t n e
+
+one_least : (k : TextKind) → 1 ≤ kind_number k
+one_least (kind.Expected w) = omega arith
+one_least kind.UnknownRole = omega arith
+one_least kind.UnboundName = omega arith
+one_least kind.NameTwice = omega arith
+one_least kind.TooDeep = omega arith
+one_least kind.TooManyRoles = omega arith
+one_least kind.TooManyNodes = omega arith
+one_least kind.NoMemory = omega arith
+one_least kind.Unguarded = omega arith
+one_least kind.TooManyLabels = omega arith
+one_least kind.BadByte = omega arith
+one_least kind.NumberTooLarge = omega arith
+one_least kind.NameTooLong = omega arith
+
+least_same : (k j : TextKind) → j ≡ k → kind_number k ≤ kind_number j
+least_same k j e = let n : kind_number j ≡ kind_number k = ap kind_number e in omega arith
+
+no_landing : (x : Fed) (w : Wanted) (seen : Option TextKind) (t : Sign) (at : ℕ) (n : Lexeme) (Q : Reader_data → Type 0) → Steps w seen t at n x → takes w t ≡ false → Lands x Q → ⊥
+no_landing (Ok d) w seen t at n Q s h l = absurd (cc (sym s.0 ∙ h))
+no_landing (Err e) w seen t at n Q s h l = elim s [
+  | inl a ↦ subst NotExpected a.kind_is l
+  | inr (inl m) ↦ absurd (cc (sym m.taken ∙ h))
+  | inr (inr b) ↦ absurd (cc (sym (ap (λ z. takes z (plain b.text)) b.body) ∙ ap (λ z. takes w z) (sym b.word) ∙ h))
+]
+
+-- with an unexpected token the tokens begin no protocol
+stops_there : (xs : List Sign) (t : Sign) (r : Reader_data) (w : Wanted) (seen : Sign → Option TextKind) → Reached xs t r → IsWhole t → takes w t ≡ false → ((n : Lexeme) → Steps w (seen n.sign) t 0 n (feed_at r.mode t 0 n r)) → Begins (xs ++ t ∷ []) → ⊥
+stops_there xs t r w seen reach whole h s b =
+    let rest : List Sign = b.1 in
+    let e : protocol_signs b.0 ≡ xs ++ (t ∷ rest) = b.2 ∙ append_assoc xs (t ∷ []) rest in
+    let l : Leads (xs ++ (t ∷ rest)) finish (λ d. Unit {0}) begin = subst (λ (z : List Sign). Leads z finish (λ d. Unit {0}) begin) e (tree_passes b.0) in
+    let k : Leads (t ∷ rest) finish (λ d. Unit {0}) r = reach (λ d. Leads (t ∷ rest) finish (λ d. Unit {0}) d) (leads_split xs (t ∷ rest) finish (λ d. Unit {0}) begin l) in
+    let n : Lexeme = lexeme (sign_behind rest finish) 0 0 in
+    no_landing (feed_at r.mode t 0 n r) w (seen n.sign) t 0 n (λ d. Leads rest finish (λ d. Unit {0}) d) (s n) h (subst (λ (x : Fed). Lands x (λ d. Leads rest finish (λ d. Unit {0}) d)) (whole_fed t 0 n r whole) (k 0 0 0))
+
+-- the reader isn't behind the protocol
+not_part : (m : Mode) (fs : List Frame) → (IsArrowMode m → ⊥) → (if no_frames fs then behind_body m else false) ≡ false → wanted_by m fs ≡ wanted.PartOrEnd → ⊥
+not_part (mode.Arrow from s) fs a u h = a tt
+not_part mode.Next [] a u h = cc
+not_part mode.Next (f ∷ fs) a u h = cc
+not_part _ fs a u h = cc
+
+here_unexpected : (xs : List Sign) (t : Sign) (at : ℕ) (u : Sign) (r : Reader_data) (e : TextFault) → Reached xs t r → (there : There xs) → IsWhole t → (wanted_by r.mode r.frames ≡ wanted.PartOrEnd → ⊥)
+    → ((n : Lexeme) → Steps (wanted_by r.mode r.frames) (fault_seen r.mode t n.sign r) t 0 n (feed_at r.mode t 0 n r)) → ToldUnexpected (wanted_by r.mode r.frames) t at e → Here xs t at u e
+here_unexpected xs t at u r e reach there whole part s x =
+    let a : PlaceAgrees there.0 t r = agree xs t r reach there.0 there.1 in
+    record {
+      at_is = x.at_is;
+      fault = inl (wanted_by r.mode r.frames, x.kind_is, record { whole = whole; place = there.0; stands = there.1; within = within_of there.0 (λ h. part (a.wanted ∙ h)); wants = sym a.wanted;
+        stops = stops_there xs t r (wanted_by r.mode r.frames) (λ v. fault_seen r.mode t v r) reach whole x.stops s });
+      least = λ k f. subst (λ (z : TextKind). kind_number z ≤ kind_number k) (sym x.kind_is) (one_least k);
+    }
+
+here_misplaced : (xs : List Sign) (t : Sign) (at : ℕ) (u : Sign) (r : Reader_data) (e : TextFault) → Reached xs t r → (there : There xs) → There (xs ++ t ∷ []) → IsWhole t → e.at ≡ at → fault_seen r.mode t u r ≡ Some e.kind → Here xs t at u e
+here_misplaced xs t at u r e reach there on whole at_is seen =
+    let a : PlaceAgrees there.0 t r = agree xs t r reach there.0 there.1 in
+    record {
+      at_is = at_is;
+      fault = inr (inl (record { place = there.0; stands = there.1; fault = a.faults t u ∙ seen }));
+      least = λ k f. elim f [
+        | inl x ↦ absurd (x.2.stops (begins_there (xs ++ t ∷ []) on))
+        | inr (inl m) ↦ least_same e.kind k (cc (sym m.fault ∙ (agree xs t r reach m.place m.stands).faults t u ∙ seen))
+        | inr (inr b) ↦ absurd (subst IsWhole b.2.broken_is whole)
+      ];
+    }
+
+on_steps : (x : Fed) (xs : List Sign) (t : Sign) (at : ℕ) (n : Lexeme) (r : Reader_data) → Reached xs t r → (there : There xs) → IsProper t → IsWhole t → (wanted_by r.mode r.frames ≡ wanted.PartOrEnd → ⊥)
+    → ((n : Lexeme) → Steps (wanted_by r.mode r.frames) (fault_seen r.mode t n.sign r) t 0 n (feed_at r.mode t 0 n r)) → Steps (wanted_by r.mode r.frames) (fault_seen r.mode t n.sign r) t at n x → Verdict xs t at n x
+on_steps (Ok d) xs t at n r reach there proper whole part all s =
+    let a : PlaceAgrees there.0 t r = agree xs t r reach there.0 there.1 in
+    let on : There (xs ++ t ∷ []) = grows_there xs t there.0 there.1 (place_grows there.0 t proper (ap (λ z. takes z t) (sym a.wanted) ∙ s.0)) in
+    (on, clear_of xs t n.sign r reach on whole s.1)
+on_steps (Err e) xs t at n r reach there proper whole part all s =
+    let a : PlaceAgrees there.0 t r = agree xs t r reach there.0 there.1 in
+    elim s [
+      | inl x ↦ inl (here_unexpected xs t at n.sign r e reach there whole part all x)
+      | inr (inl m) ↦ inl (here_misplaced xs t at n.sign r e reach there (grows_there xs t there.0 there.1 (place_grows there.0 t proper (ap (λ z. takes z t) (sym a.wanted) ∙ m.taken))) whole m.at_is m.fault)
+      | inr (inr b) ↦ (
+        let w = word_place there.0 b.text (sym a.wanted ∙ b.body) in
+        let signs : protocol_cut_signs w.0 ≡ xs ++ t ∷ [] = w.1 ∙ ap (λ z. z ++ plain b.text ∷ []) there.1 ∙ ap (λ z. xs ++ z ∷ []) (sym b.word) in
+        inr (record { kind = b.kind; broken_is = b.broken_is; kind_is = b.kind_is; at_is = b.at_is; clear = clear_of xs t n.sign r reach (w.0, signs) whole b.clear; place = w.0; stands = signs; reached = named_reach w.0 w.2 }))
+    ]
+
+-- ---- at an arrow that was seen
+
+arrow_or : (m : Mode) → IsArrowMode m ⊎ (IsArrowMode m → ⊥)
+arrow_or (mode.Arrow from s) = inl tt
+arrow_or _ = inr (λ h. h)
+
+arrow_facts : (m : Mode) (u : Sign) (b : Bool) (r : Reader_data) → IsArrowMode m → NamedBy m u b r → (u ≡ arrow) × (b ≡ true)
+arrow_facts (mode.Arrow from s) u b r a h = h
+arrow_facts _ u b r a h = absurd a
+
+arrow_unseen : (m : Mode) (t u : Sign) (r : Reader_data) → IsArrowMode m → fault_seen m t u r ≡ None
+arrow_unseen (mode.Arrow from s) t u r a = refl
+arrow_unseen _ t u r a = absurd a
+
+arrow_verdict_at : (m : Mode) (xs : List Sign) (at : ℕ) (n : Lexeme) (r : Reader_data) → IsArrowMode m → There (xs ++ arrow ∷ []) → Clear xs arrow n.sign → Verdict xs arrow at n (feed_at m arrow at n r)
+arrow_verdict_at (mode.Arrow from s) xs at n r a on clear = (on, clear)
+arrow_verdict_at _ xs at n r a on clear = absurd a
+
+arrow_verdict : (xs : List Sign) (t : Sign) (at : ℕ) (n : Lexeme) (r : Reader_data) → t ≡ arrow → IsArrowMode r.mode → There (xs ++ t ∷ []) → Clear xs t n.sign → Verdict xs t at n (feed_at r.mode t at n r)
+arrow_verdict xs t at n r e a on clear =
+    subst (λ (z : Sign). Verdict xs z at n (feed_at r.mode z at n r)) (sym e) (arrow_verdict_at r.mode xs at n r a (subst (λ (z : Sign). There (xs ++ z ∷ [])) e on) (subst (λ (z : Sign). Clear xs z n.sign) e clear))
+
+whole_verdict : (xs : List Sign) (t : Sign) (at : ℕ) (n : Lexeme) (r : Reader_data) → Reached xs t r → There xs → IsProper t → IsWhole t → is_read r ≡ false → Verdict xs t at n (feed_sign t at n r)
+whole_verdict xs t at n r reach there proper whole unread =
+    let a : PlaceAgrees there.0 t r = agree xs t r reach there.0 there.1 in
+    subst (λ (z : Fed). Verdict xs t at n z) (sym (whole_fed t at n r whole)) (elim (arrow_or r.mode) [
+      | inl m ↦ (
+        let f = arrow_facts r.mode t (is_named_of there.0) r m a.named in
+        let on : There (xs ++ t ∷ []) = subst (λ (z : Sign). There (xs ++ z ∷ [])) (sym f.0) (grows_there xs arrow there.0 there.1 (word_grows there.0 f.1)) in
+        arrow_verdict xs t at n r f.0 m on (clear_of xs t n.sign r reach on whole (arrow_unseen r.mode t n.sign r m)))
+      | inr m ↦ on_steps (feed_at r.mode t at n r) xs t at n r reach there proper whole (not_part r.mode r.frames m unread)
+          (λ k. steps r.mode t 0 k r t (is_named_of there.0) a.named m) (steps r.mode t at n r t (is_named_of there.0) a.named m)
+    ])
+
+-- ---- a faulty token
+
+broken_unseen : (m : Mode) (j : FaultKind) (u : Sign) (r : Reader_data) → fault_seen m (broken j) u r ≡ None
+broken_unseen mode.Roles j u r = refl
+broken_unseen _ j u r = refl
+
+no_arrow : (m : Mode) (j : FaultKind) (b : Bool) (r : Reader_data) → NamedBy m (broken j) b r → IsArrowMode m → ⊥
+no_arrow m j b r h a = cc (arrow_facts m (broken j) b r a h).0
+
+broken_same : (i j : FaultKind) → broken i ≡ broken j → i ≡ j
+broken_same i j h = cc
+
+broken_verdict : (xs : List Sign) (j : FaultKind) (at : ℕ) (n : Lexeme) (r : Reader_data) → Reached xs (broken j) r → There xs → is_read r ≡ false → Verdict xs (broken j) at n (feed_sign (broken j) at n r)
+broken_verdict xs j at n r reach there unread =
+    let a : PlaceAgrees there.0 (broken j) r = agree xs (broken j) r reach there.0 there.1 in
+    inl (record {
+      at_is = refl;
+      fault = inr (inr (j, refl, record { broken_is = refl; place = there.0; stands = there.1; reached = reach_of there.0 (λ h. not_part r.mode r.frames (no_arrow r.mode j (is_named_of there.0) r a.named) unread (a.wanted ∙ h)) }));
+      least = λ k f. elim f [
+        | inl x ↦ absurd x.2.whole
+        | inr (inl m) ↦ absurd (cc (sym m.fault ∙ (agree xs (broken j) r reach m.place m.stands).faults (broken j) n.sign ∙ broken_unseen r.mode j n.sign r))
+        | inr (inr b) ↦ least_same (kind_of j) k (b.1 ∙ ap kind_of (sym (broken_same j b.0 b.2.broken_is)))
+      ];
+    })
+
+pub data Wholeness : Sign → Type 0 where
+  a_faulty : (k : FaultKind) → Wholeness (broken k)
+  a_whole : (t : Sign) → IsWhole t → Wholeness t
+
+wholeness : (t : Sign) → Wholeness t
+wholeness (broken k) = a_faulty k
+wholeness t = a_whole t tt
+
+verdict_by : (t : Sign) → Wholeness t → (xs : List Sign) (at : ℕ) (n : Lexeme) (r : Reader_data) → Reached xs t r → There xs → IsProper t → is_read r ≡ false → Verdict xs t at n (feed_sign t at n r)
+verdict_by _ (a_faulty k) xs at n r reach there proper unread = broken_verdict xs k at n r reach there unread
+verdict_by _ (a_whole t w) xs at n r reach there proper unread = whole_verdict xs t at n r reach there proper w unread
+
+-- what a token is, and what the reader says of it
+pub verdict : (xs : List Sign) (t : Sign) (at : ℕ) (n : Lexeme) (r : Reader_data) → Reached xs t r → There xs → IsProper t → is_read r ≡ false → Verdict xs t at n (feed_sign t at n r)
+verdict xs t at n r reach there proper unread = verdict_by t (wholeness t) xs at n r reach there proper unread
