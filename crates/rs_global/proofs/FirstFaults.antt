@@ -1,5 +1,5 @@
 -- The fault that the reader tells is the first fault of the text.
-use Rattle.std.proofs.Common.{codes, ◌≡◌, ℕ, suc, ◌≤◌, List, [], ◌∷◌, ◌++◌, map, Bool, true, false, if◌then◌else◌, Option, Some, None, Result, Ok, Err, refl, sym, ap, ◌∙◌, subst, ◌⊎◌, inl, inr, append_assoc, append-nil, arith}
+use Rattle.std.proofs.Common.{codes, ◌≡◌, ℕ, suc, ◌≤◌, List, [], ◌∷◌, ◌++◌, length, map, Bool, true, false, if◌then◌else◌, Option, Some, None, Result, Ok, Err, refl, sym, ap, ◌∙◌, subst, ◌⊎◌, inl, inr, append_assoc, append-nil, arith}
 use Rattle.rs_text.specs.declared.tokens.FaultKind.{FaultKind}
 use Rattle.rs_text.specs.declared.faults.TextFault.{TextFault}
 use Rattle.rs_text.specs.declared.faults.TextKind.{TextKind}
@@ -20,7 +20,7 @@ use Rattle.rs_global.specs.Data.{Reader_data}
 use Rattle.rs_global.specs.Trees.{ProtocolTree, protocol_signs, arm_signs, body_signs}
 use Rattle.rs_global.specs.Cuts.{Cut, at_body, behind_end, behind_name, behind_rec, behind_rec_name, in_binds, behind_arrow, behind_receiver, in_arm, in_talks, in_offers, behind_brace, BranchCut, in_head, in_branch, later, ProtocolCut, at_begin, at_first, behind_first, at_further, behind_further, in_body, cut_signs, branch_cut_signs, line_signs, protocol_cut_signs, wanted_in_arm, wanted_at, wanted_in, wanted_of, IsBehind}
 use Rattle.rs_global.specs.Cuts.{ArmCut, at_label, behind_label, behind_paren, behind_sort, behind_head}
-use Rattle.rs_global.specs.Scenes.{fault_of}
+use Rattle.rs_global.specs.Scenes.{Scene, fault_by, fault_of}
 use Rattle.rs_global.specs.Faults.{Begins, IsWhole, IsWithin, EndsByName, IsInReach, IsUnexpected, IsMisplaced, IsBroken, FaultAt, next_of, AllClear, FirstFault}
 use Rattle.rs_global.specs.Feeding.{Fed, Reading, Answer, begin, feed_at, feed_next, feed_sign, is_read, no_frames, behind_body, next_lexeme_of, read_all, answered, ReadsAs}
 use Rattle.rs_global.proofs.FaultRuns.{NotExpected, Lands, sign_behind, lexeme, Leads}
@@ -329,3 +329,160 @@ verdict_by _ (a_whole t w) xs at n r reach there proper unread = whole_verdict x
 -- what a token is, and what the reader says of it
 pub verdict : (xs : List Sign) (t : Sign) (at : ℕ) (n : Lexeme) (r : Reader_data) → Reached xs t r → There xs → IsProper t → is_read r ≡ false → Verdict xs t at n (feed_sign t at n r)
 verdict xs t at n r reach there proper unread = verdict_by t (wholeness t) xs at n r reach there proper unread
+
+-- ---- all tokens
+
+-- the end and a faulty token are never taken, and what stands behind them doesn't count
+end_next : (fs : List Frame) (at : ℕ) (r d : Reader_data) → feed_next fs finish at r ≡ Ok d → ⊥
+end_next [] at r d h = cc
+end_next (f ∷ fs) at r d h = cc
+
+end_stops : (m : Mode) (at : ℕ) (next : Lexeme) (r d : Reader_data) → feed_at m finish at next r ≡ Ok d → ⊥
+end_stops mode.Next at next r d h = end_next r.frames at r d h
+end_stops _ at next r d h = cc
+
+end_same : (m : Mode) (at : ℕ) (n k : Lexeme) (r : Reader_data) → feed_at m finish at n r ≡ feed_at m finish at k r
+end_same mode.Next at n k r = refl
+end_same _ at n k r = refl
+
+last_same : (t : Sign) (at : ℕ) (n k : Lexeme) (r : Reader_data) → is_last t ≡ true → feed_sign t at n r ≡ feed_sign t at k r
+last_same finish at n k r h = end_same r.mode at n k r
+last_same (broken j) at n k r h = refl
+last_same _ at n k r h = cc
+
+pub last_faulty : (t : Sign) (at : ℕ) (n : Lexeme) (r d : Reader_data) → is_last t ≡ true → feed_sign t at n r ≡ Ok d → ⊥
+last_faulty finish at n r d h e = end_stops r.mode at n r d e
+last_faulty (broken j) at n r d h e = cc
+last_faulty _ at n r d h e = cc
+
+pub proper_sign : (s : Sign) → ((name : List ℕ) → s ≡ plain name → is_role_word name ≡ true) → IsProper s
+proper_sign (plain text) h = proper_word text (h text refl)
+proper_sign _ h = tt
+
+pub proper_of : (bytes : List ℕ) (now : ℕ) (l : Lexeme) → l ≡ next_lexeme bytes now → IsProper l.sign
+proper_of bytes now l h = proper_sign l.sign (λ name e. plain_law bytes now l name (subst (λ (z : Lexeme). IsNext bytes now z) (sym h) (next_is_next bytes now)) e)
+
+pub unread_if : (c : Bool) (x : Reading) (y : Result Reading TextFault) (e : TextFault) → (if c then Ok x else y) ≡ Err e → (c ≡ false) × (y ≡ Err e)
+unread_if true x y e h = cc
+unread_if false x y e h = (refl, h)
+
+pub signs_append : (xs ys : List Lexeme) → signs_of (xs ++ ys) ≡ signs_of xs ++ signs_of ys
+signs_append [] ys = refl
+signs_append (x ∷ xs) ys = ap (λ z. x.sign ∷ z) (signs_append xs ys)
+
+-- the first fault among the tokens behind these
+record Found (before : List Sign) (ls : List Lexeme) (kind : TextKind) (offset : ℕ) : Type 0 where
+  xs : List Lexeme
+  t : Lexeme
+  ys : List Lexeme
+  split : ls ≡ xs ++ t ∷ ys
+  stands : t.from ≡ offset
+  fault : FaultAt (before ++ signs_of xs) t.sign (next_of (signs_of ys)) kind
+  clear : AllClear before (signs_of xs) (signs_of (t ∷ ys))
+  least : (k : TextKind) → FaultAt (before ++ signs_of xs) t.sign (next_of (signs_of ys)) k → kind_number kind ≤ kind_number k
+
+found_here : (xs : List Sign) (l : Lexeme) (ls : List Lexeme) (g e : TextFault) → g ≡ e → Here xs l.sign l.from (next_of (signs_of ls)) g → Found xs (l ∷ ls) e.kind e.at
+found_here xs l ls g e same h = subst (λ (z : TextFault). Found xs (l ∷ ls) z.kind z.at) same (record {
+  xs = [];
+  t = l;
+  ys = ls;
+  split = refl;
+  stands = sym h.at_is;
+  fault = subst (λ (z : List Sign). FaultAt z l.sign (next_of (signs_of ls)) g.kind) (sym (append-nil xs)) h.fault;
+  clear = tt;
+  least = λ k f. h.least k (subst (λ (z : List Sign). FaultAt z l.sign (next_of (signs_of ls)) k) (append-nil xs) f);
+})
+
+found_later : (xs : List Sign) (l : Lexeme) (ls : List Lexeme) (kind : TextKind) (at : ℕ) → Clear xs l.sign (next_of (signs_of ls)) → Found (xs ++ l.sign ∷ []) ls kind at → Found xs (l ∷ ls) kind at
+found_later xs l ls kind at c h =
+    let signs : signs_of ls ≡ signs_of h.xs ++ signs_of (h.t ∷ h.ys) = ap signs_of h.split ∙ signs_append h.xs (h.t ∷ h.ys) in
+    let shape : (xs ++ l.sign ∷ []) ++ signs_of h.xs ≡ xs ++ (l.sign ∷ signs_of h.xs) = append_assoc xs (l.sign ∷ []) (signs_of h.xs) in
+    record {
+      xs = l ∷ h.xs;
+      t = h.t;
+      ys = h.ys;
+      split = ap (λ z. l ∷ z) h.split;
+      stands = h.stands;
+      fault = subst (λ (z : List Sign). FaultAt z h.t.sign (next_of (signs_of h.ys)) kind) shape h.fault;
+      clear = ((λ j f. c j (subst (λ (z : List Sign). FaultAt xs l.sign (next_of z) j) (sym signs) f)), h.clear);
+      least = λ j f. h.least j (subst (λ (z : List Sign). FaultAt z h.t.sign (next_of (signs_of h.ys)) j) (sym shape) f);
+    }
+
+err_same : (g e : TextFault) (ls : List Lexeme) → read_all (Err g) ls ≡ Err e → g ≡ e
+err_same g e ls h = cc
+
+end_found : (x : Fed) (xs : List Sign) (l : Lexeme) (r : Reader_data) (e : TextFault) → feed_sign l.sign l.from (lexeme finish 0 0) r ≡ x → Verdict xs l.sign l.from (lexeme finish 0 0) x → is_last l.sign ≡ true → read_all x [] ≡ Err e → Found xs (l ∷ []) e.kind e.at
+end_found (Ok d) xs l r e g v h f = absurd (last_faulty l.sign l.from (lexeme finish 0 0) r d h g)
+end_found (Err g) xs l r e q v h f = elim v [
+  | inl x ↦ found_here xs l [] g e (err_same g e [] f) x
+  | inr x ↦ absurd (cc x.broken_is)
+]
+
+-- no place sees a faulty token
+unfaulty_by : (w : Wanted) (j : FaultKind) (n : Sign) (s : Scene) → fault_by w (broken j) n s ≡ None
+unfaulty_by wanted.Body j n s = refl
+unfaulty_by wanted.Role j n s = refl
+unfaulty_by wanted.ColonOrBrace j n s = refl
+unfaulty_by wanted.Label j n s = refl
+unfaulty_by _ j n s = refl
+
+pub unfaulty : (c : ProtocolCut) (j : FaultKind) (n : Sign) → fault_of c (broken j) n ≡ None
+unfaulty at_begin j n = refl
+unfaulty at_first j n = refl
+unfaulty (behind_first x) j n = refl
+unfaulty (at_further x xs) j n = refl
+unfaulty (behind_further x y xs) j n = refl
+unfaulty (in_body x y xs body) j n = unfaulty_by _ j n _
+
+next_here : (xs : List Sign) (t : Sign) (x : Lexeme) (u : Sign) (g : TextFault) → Next xs t x g → Here (xs ++ t ∷ []) x.sign x.from u g
+next_here xs t x u g h = record {
+  at_is = h.at_is;
+  fault = inr (inr (h.kind, h.kind_is, record { broken_is = h.broken_is; place = h.place; stands = h.stands; reached = h.reached }));
+  least = λ k f. elim f [
+    | inl y ↦ absurd (subst IsWhole h.broken_is y.2.whole)
+    | inr (inl m) ↦ absurd (cc (sym m.fault ∙ ap (λ z. fault_of m.place z u) h.broken_is ∙ unfaulty m.place h.kind u))
+    | inr (inr b) ↦ least_same g.kind k (b.1 ∙ ap kind_of (broken_same b.0 h.kind (sym b.2.broken_is ∙ h.broken_is)) ∙ sym h.kind_is)
+  ];
+}
+
+more_found : (y : Fed) (xs : List Sign) (l x : Lexeme) (ls : List Lexeme) (r : Reader_data) (e : TextFault) → Reached xs l.sign r → feed_sign l.sign l.from x r ≡ y → Verdict xs l.sign l.from x y → read_all y (x ∷ ls) ≡ Err e
+    → ((d : Reader_data) → Reached (xs ++ l.sign ∷ []) x.sign d → There (xs ++ l.sign ∷ []) → read_all (Ok d) (x ∷ ls) ≡ Err e → Found (xs ++ l.sign ∷ []) (x ∷ ls) e.kind e.at) → Found xs (l ∷ x ∷ ls) e.kind e.at
+more_found (Ok d) xs l x ls r e reach g v f k = found_later xs l (x ∷ ls) e.kind e.at v.1 (k d (reach_on xs l.sign x.sign l.from x.from x.until r d reach g) v.0 f)
+more_found (Err g) xs l x ls r e reach q v f k = elim v [
+  | inl h ↦ found_here xs l (x ∷ ls) g e (err_same g e (x ∷ ls) f) h
+  | inr h ↦ found_later xs l (x ∷ ls) e.kind e.at h.clear (found_here (xs ++ l.sign ∷ []) x ls g e (err_same g e (x ∷ ls) f) (next_here xs l.sign x (next_of (signs_of ls)) g h))
+]
+
+go : (ls : List Lexeme) (l : Lexeme) (xs : List Sign) (r : Reader_data) (e : TextFault) (bytes : List ℕ) (now : ℕ) → Lexed bytes now (l ∷ ls) → Reached xs l.sign r → There xs → read_all (Ok r) (l ∷ ls) ≡ Err e → Found xs (l ∷ ls) e.kind e.at
+go [] l xs r e bytes now h reach there f =
+    let u = unread_if (is_read r) _ _ e f in
+    elim (true_or_false (is_last l.sign)) [
+      | inl last ↦ end_found (feed_sign l.sign l.from (lexeme finish 0 0) r) xs l r e refl (verdict xs l.sign l.from (lexeme finish 0 0) r reach there (proper_of bytes now l h.0) u.0) last
+          (ap (λ z. read_all z []) (last_same l.sign l.from (lexeme finish 0 0) l r last) ∙ u.1)
+      | inr more ↦ absurd (h.2 more)
+    ]
+go (x ∷ ls) l xs r e bytes now h reach there f =
+    let u = unread_if (is_read r) _ _ e f in
+    elim (true_or_false (is_last l.sign)) [
+      | inl last ↦ absurd (cc (h.1 last))
+      | inr more ↦ more_found (feed_sign l.sign l.from x r) xs l x ls r e reach refl (verdict xs l.sign l.from x r reach there (proper_of bytes now l h.0) u.0) u.1
+          (λ d k p q. go ls x (xs ++ l.sign ∷ []) d e bytes l.until (h.2 more) k p q)
+    ]
+
+-- the fault that the reading of these tokens gives is the first one
+pub told : (bytes : List ℕ) (at : ℕ) (ls : List Lexeme) (e : TextFault) → Lexed bytes at ls → read_all (Ok begin) ls ≡ Err e → FirstFault bytes at e.kind e.at
+told bytes at [] e h f = absurd h
+told bytes at (l ∷ ls) e h f =
+    let x : Found [] (l ∷ ls) e.kind e.at = go ls l [] begin e bytes at h (λ Q k. k) (at_begin, refl) f in
+    record { before = x.xs; token = x.t; others = x.ys; lexed = subst (λ (z : List Lexeme). Lexed bytes at z) x.split h; stands = x.stands; fault = x.fault; clear = x.clear; least = x.least }
+
+pub answered_err : (x : Result Reading TextFault) (e : TextFault) → answered x ≡ Err e → x ≡ Err e
+answered_err (Ok x) e h = cc
+answered_err (Err g) e h = cc
+
+-- whatever fault the reader tells is the first fault of the text
+pub first_fault : (bytes : List ℕ) (at : ℕ) (e : TextFault) → at ≤ length bytes → ReadsAs bytes at (Err e) → FirstFault bytes at e.kind e.at
+first_fault bytes at e within h =
+    let x = exists bytes at within in
+    let lexed : Lexed bytes at x.0 = are_lexed bytes x.0 at x.1 in
+    told bytes at x.0 e lexed (answered_err (read_all (Ok begin) x.0) e (h x.0 lexed))
