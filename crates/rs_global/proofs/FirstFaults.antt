@@ -154,7 +154,7 @@ clear_of xs t u r reach there whole seen k f = elim f [
 pub record Here (xs : List Sign) (t : Sign) (at : ℕ) (u : Sign) (e : TextFault) : Type 0 where
   pub at_is : e.at ≡ at
   pub fault : FaultAt xs t u e.kind
-  pub least : (k : TextKind) → FaultAt xs t u k → kind_number e.kind ≤ kind_number k
+  pub only : (k : TextKind) → FaultAt xs t u k → k ≡ e.kind
 
 -- the next token is faulty
 pub record Next (xs : List Sign) (t : Sign) (n : Lexeme) (e : TextFault) : Type 0 where
@@ -170,21 +170,6 @@ pub record Next (xs : List Sign) (t : Sign) (n : Lexeme) (e : TextFault) : Type 
 abbrev pub Verdict : List Sign → Sign → ℕ → Lexeme → Fed → Type 0
 Verdict xs t at n (Ok d) = There (xs ++ t ∷ []) × Clear xs t n.sign
 Verdict xs t at n (Err e) = Here xs t at n.sign e ⊎ Next xs t n e
-
-one_least : (k : TextKind) → 1 ≤ kind_number k
-one_least (kind.Expected w) = omega arith
-one_least kind.UnknownRole = omega arith
-one_least kind.UnboundName = omega arith
-one_least kind.NameTwice = omega arith
-one_least kind.TooDeep = omega arith
-one_least kind.TooManyRoles = omega arith
-one_least kind.TooManyNodes = omega arith
-one_least kind.NoMemory = omega arith
-one_least kind.Unguarded = omega arith
-one_least kind.TooManyLabels = omega arith
-one_least kind.BadByte = omega arith
-one_least kind.NumberTooLarge = omega arith
-one_least kind.NameTooLong = omega arith
 
 least_same : (k j : TextKind) → j ≡ k → kind_number k ≤ kind_number j
 least_same k j e = let n : kind_number j ≡ kind_number k = ap kind_number e in omega arith
@@ -215,14 +200,18 @@ not_part mode.Next (f ∷ fs) a u h = cc
 not_part _ fs a u h = cc
 
 here_unexpected : (xs : List Sign) (t : Sign) (at : ℕ) (u : Sign) (r : Reader_data) (e : TextFault) → Reached xs t r → (there : There xs) → IsWhole t → (wanted_by r.mode r.frames ≡ wanted.PartOrEnd → ⊥)
-    → ((n : Lexeme) → Steps (wanted_by r.mode r.frames) (fault_seen r.mode t n.sign r) t 0 n (feed_at r.mode t 0 n r)) → ToldUnexpected (wanted_by r.mode r.frames) t at e → Here xs t at u e
+    → ((n : Lexeme) → Steps (wanted_by r.mode r.frames) (fault_seen r.mode t n.sign r) t 0 n (feed_at r.mode t 0 n r)) → ToldUnexpected (wanted_by r.mode r.frames) (fault_seen r.mode t u r) t at e → Here xs t at u e
 here_unexpected xs t at u r e reach there whole part s x =
     let a : PlaceAgrees there.0 t r = agree xs t r reach there.0 there.1 in
     record {
       at_is = x.at_is;
       fault = inl (wanted_by r.mode r.frames, x.kind_is, record { whole = whole; place = there.0; stands = there.1; within = within_of there.0 (λ h. part (a.wanted ∙ h)); wants = sym a.wanted;
         stops = stops_there xs t r (wanted_by r.mode r.frames) (λ v. fault_seen r.mode t v r) reach whole x.stops s });
-      least = λ k f. subst (λ (z : TextKind). kind_number z ≤ kind_number k) (sym x.kind_is) (one_least k);
+      only = λ k f. elim f [
+        | inl y ↦ y.1 ∙ ap (λ z. kind.Expected z) (sym y.2.wants ∙ sym (agree xs t r reach y.2.place y.2.stands).wanted) ∙ sym x.kind_is
+        | inr (inl m) ↦ absurd (cc (sym m.fault ∙ (agree xs t r reach m.place m.stands).faults t u ∙ x.unseen))
+        | inr (inr b) ↦ absurd (subst IsWhole b.2.broken_is whole)
+      ];
     }
 
 here_misplaced : (xs : List Sign) (t : Sign) (at : ℕ) (u : Sign) (r : Reader_data) (e : TextFault) → Reached xs t r → (there : There xs) → There (xs ++ t ∷ []) → IsWhole t → e.at ≡ at → fault_seen r.mode t u r ≡ Some e.kind → Here xs t at u e
@@ -231,9 +220,9 @@ here_misplaced xs t at u r e reach there on whole at_is seen =
     record {
       at_is = at_is;
       fault = inr (inl (record { place = there.0; stands = there.1; fault = a.faults t u ∙ seen }));
-      least = λ k f. elim f [
+      only = λ k f. elim f [
         | inl x ↦ absurd (x.2.stops (begins_there (xs ++ t ∷ []) on))
-        | inr (inl m) ↦ least_same e.kind k (cc (sym m.fault ∙ (agree xs t r reach m.place m.stands).faults t u ∙ seen))
+        | inr (inl m) ↦ cc (sym m.fault ∙ (agree xs t r reach m.place m.stands).faults t u ∙ seen)
         | inr (inr b) ↦ absurd (subst IsWhole b.2.broken_is whole)
       ];
     }
@@ -307,10 +296,10 @@ broken_verdict xs j at n r reach there unread =
     inl (record {
       at_is = refl;
       fault = inr (inr (j, refl, record { broken_is = refl; place = there.0; stands = there.1; reached = reach_of there.0 (λ h. not_part r.mode r.frames (no_arrow r.mode j (is_named_of there.0) r a.named) unread (a.wanted ∙ h)) }));
-      least = λ k f. elim f [
+      only = λ k f. elim f [
         | inl x ↦ absurd x.2.whole
         | inr (inl m) ↦ absurd (cc (sym m.fault ∙ (agree xs (broken j) r reach m.place m.stands).faults (broken j) n.sign ∙ broken_unseen r.mode j n.sign r))
-        | inr (inr b) ↦ least_same (kind_of j) k (b.1 ∙ ap kind_of (sym (broken_same j b.0 b.2.broken_is)))
+        | inr (inr b) ↦ b.1 ∙ ap kind_of (sym (broken_same j b.0 b.2.broken_is))
       ];
     })
 
@@ -370,16 +359,16 @@ pub signs_append : (xs ys : List Lexeme) → signs_of (xs ++ ys) ≡ signs_of xs
 signs_append [] ys = refl
 signs_append (x ∷ xs) ys = ap (λ z. x.sign ∷ z) (signs_append xs ys)
 
--- the first fault among the tokens behind these
-record Found (before : List Sign) (ls : List Lexeme) (kind : TextKind) (offset : ℕ) : Type 0 where
-  xs : List Lexeme
-  t : Lexeme
-  ys : List Lexeme
-  split : ls ≡ xs ++ t ∷ ys
-  stands : t.from ≡ offset
-  fault : FaultAt (before ++ signs_of xs) t.sign (next_of (signs_of ys)) kind
-  clear : AllClear before (signs_of xs) (signs_of (t ∷ ys))
-  least : (k : TextKind) → FaultAt (before ++ signs_of xs) t.sign (next_of (signs_of ys)) k → kind_number kind ≤ kind_number k
+-- the first fault among the tokens behind these, the only one of its token
+pub record Found (before : List Sign) (ls : List Lexeme) (kind : TextKind) (offset : ℕ) : Type 0 where
+  pub xs : List Lexeme
+  pub t : Lexeme
+  pub ys : List Lexeme
+  pub split : ls ≡ xs ++ t ∷ ys
+  pub stands : t.from ≡ offset
+  pub fault : FaultAt (before ++ signs_of xs) t.sign (next_of (signs_of ys)) kind
+  pub clear : AllClear before (signs_of xs) (signs_of (t ∷ ys))
+  pub only : (k : TextKind) → FaultAt (before ++ signs_of xs) t.sign (next_of (signs_of ys)) k → k ≡ kind
 
 found_here : (xs : List Sign) (l : Lexeme) (ls : List Lexeme) (g e : TextFault) → g ≡ e → Here xs l.sign l.from (next_of (signs_of ls)) g → Found xs (l ∷ ls) e.kind e.at
 found_here xs l ls g e same h = subst (λ (z : TextFault). Found xs (l ∷ ls) z.kind z.at) same (record {
@@ -390,7 +379,7 @@ found_here xs l ls g e same h = subst (λ (z : TextFault). Found xs (l ∷ ls) z
   stands = sym h.at_is;
   fault = subst (λ (z : List Sign). FaultAt z l.sign (next_of (signs_of ls)) g.kind) (sym (append-nil xs)) h.fault;
   clear = tt;
-  least = λ k f. h.least k (subst (λ (z : List Sign). FaultAt z l.sign (next_of (signs_of ls)) k) (append-nil xs) f);
+  only = λ k f. h.only k (subst (λ (z : List Sign). FaultAt z l.sign (next_of (signs_of ls)) k) (append-nil xs) f);
 })
 
 found_later : (xs : List Sign) (l : Lexeme) (ls : List Lexeme) (kind : TextKind) (at : ℕ) → Clear xs l.sign (next_of (signs_of ls)) → Found (xs ++ l.sign ∷ []) ls kind at → Found xs (l ∷ ls) kind at
@@ -405,7 +394,7 @@ found_later xs l ls kind at c h =
       stands = h.stands;
       fault = subst (λ (z : List Sign). FaultAt z h.t.sign (next_of (signs_of h.ys)) kind) shape h.fault;
       clear = ((λ j f. c j (subst (λ (z : List Sign). FaultAt xs l.sign (next_of z) j) (sym signs) f)), h.clear);
-      least = λ j f. h.least j (subst (λ (z : List Sign). FaultAt z h.t.sign (next_of (signs_of h.ys)) j) (sym shape) f);
+      only = λ j f. h.only j (subst (λ (z : List Sign). FaultAt z h.t.sign (next_of (signs_of h.ys)) j) (sym shape) f);
     }
 
 err_same : (g e : TextFault) (ls : List Lexeme) → read_all (Err g) ls ≡ Err e → g ≡ e
@@ -438,10 +427,10 @@ next_here : (xs : List Sign) (t : Sign) (x : Lexeme) (u : Sign) (g : TextFault) 
 next_here xs t x u g h = record {
   at_is = h.at_is;
   fault = inr (inr (h.kind, h.kind_is, record { broken_is = h.broken_is; place = h.place; stands = h.stands; reached = h.reached }));
-  least = λ k f. elim f [
+  only = λ k f. elim f [
     | inl y ↦ absurd (subst IsWhole h.broken_is y.2.whole)
     | inr (inl m) ↦ absurd (cc (sym m.fault ∙ ap (λ z. fault_of m.place z u) h.broken_is ∙ unfaulty m.place h.kind u))
-    | inr (inr b) ↦ least_same g.kind k (b.1 ∙ ap kind_of (broken_same b.0 h.kind (sym b.2.broken_is ∙ h.broken_is)) ∙ sym h.kind_is)
+    | inr (inr b) ↦ b.1 ∙ ap kind_of (broken_same b.0 h.kind (sym b.2.broken_is ∙ h.broken_is)) ∙ sym h.kind_is
   ];
 }
 
@@ -470,11 +459,14 @@ go (x ∷ ls) l xs r e bytes now h reach there f =
     ]
 
 -- the fault that the reading of these tokens gives is the first one
+pub found : (bytes : List ℕ) (at : ℕ) (ls : List Lexeme) (e : TextFault) → Lexed bytes at ls → read_all (Ok begin) ls ≡ Err e → Found [] ls e.kind e.at
+found bytes at [] e h f = absurd h
+found bytes at (l ∷ ls) e h f = go ls l [] begin e bytes at h (λ Q k. k) (at_begin, refl) f
+
 pub told : (bytes : List ℕ) (at : ℕ) (ls : List Lexeme) (e : TextFault) → Lexed bytes at ls → read_all (Ok begin) ls ≡ Err e → FirstFault bytes at e.kind e.at
-told bytes at [] e h f = absurd h
-told bytes at (l ∷ ls) e h f =
-    let x : Found [] (l ∷ ls) e.kind e.at = go ls l [] begin e bytes at h (λ Q k. k) (at_begin, refl) f in
-    record { before = x.xs; token = x.t; others = x.ys; lexed = subst (λ (z : List Lexeme). Lexed bytes at z) x.split h; stands = x.stands; fault = x.fault; clear = x.clear; least = x.least }
+told bytes at ls e h f =
+    let x : Found [] ls e.kind e.at = found bytes at ls e h f in
+    record { before = x.xs; token = x.t; others = x.ys; lexed = subst (λ (z : List Lexeme). Lexed bytes at z) x.split h; stands = x.stands; fault = x.fault; clear = x.clear; least = λ k g. least_same e.kind k (x.only k g) }
 
 pub answered_err : (x : Result Reading TextFault) (e : TextFault) → answered x ≡ Err e → x ≡ Err e
 answered_err (Ok x) e h = cc
