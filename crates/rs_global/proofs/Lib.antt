@@ -6,3 +6,4 @@ pub mod FaultPlaces
 pub mod FaultCuts
 pub mod FaultSteps
 pub mod FirstFaults
+pub mod OneFault
