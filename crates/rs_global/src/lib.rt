@@ -5,5 +5,7 @@ mod drafts;
 mod protocols;
 mod reading;
 mod seen;
+#[cfg(test)]
+mod tests;
 
 pub use protocols::read_protocol;
