@@ -1,3 +1,5 @@
 pub mod Numbers
 pub mod Bindings
 pub mod Standing
+pub mod Answers
+pub mod Sounding

@@ -2,6 +2,7 @@
 #![tactic(auto)]
 
 mod drafts;
+pub mod laws;
 mod protocols;
 mod reading;
 mod seen;

@@ -85,7 +85,7 @@ fn shown(alloc: Global, bytes: &[u8]) -> Result<Text, NoMemory> {
 fn counted(alloc: Global, bytes: &[u8]) -> Result<Text, NoMemory> {
     let mut text = Text::new(alloc);
     match read_protocol(alloc, bytes, 0) {
-        Ok((_, protocol, _)) => text.push_number(protocol.nodes.len() as u64)?,
+        Ok((_names, protocol, _until)) => text.push_number(protocol.nodes.len() as u64)?,
         Err(fault) => show_fault(&mut text, bytes, fault)?,
     }
     Ok(text)
