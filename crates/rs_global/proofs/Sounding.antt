@@ -1,5 +1,6 @@
-use Rattle.std.proofs.Common.{◌≡◌, ◌≢◌, ℕ, suc, ◌+◌, ◌<◌, ◌≤◌, List, [], ◌∷◌, ◌++◌, length, Bool, true, false, ◌&&◌, if◌then◌else◌, Option, Some, None, Result, Ok, Err, IfOk, inl, inr, refl, sym, ap, ◌∙◌, subst, arith, cond, nat_le, length-append}
+use Rattle.std.proofs.Common.{◌≡◌, ◌≢◌, ℕ, suc, ◌+◌, ◌<◌, ◌≤◌, List, [], ◌∷◌, ◌++◌, length, Bool, true, false, ◌&&◌, if◌then◌else◌, Option, Some, None, Result, Ok, Err, IfOk, inl, inr, refl, sym, ap, ◌∙◌, subst, arith, cond, nat_le, nat_lt, length-append}
 use Rattle.std.specs.List.{list_all}
+use Rattle.std.proofs.lemmas.Bool.{leb-false}
 use Rattle.std.specs.Prelude.{codes}
 use Rattle.rs_model.specs.declared.graph.Role.{Role}
 use Rattle.rs_model.specs.declared.graph.Label.{Label}
@@ -19,8 +20,10 @@ use Rattle.rs_global.specs.declared.reading.Frame.{Frame}
 use Rattle.rs_global.specs.declared.reading.Link.{Link}
 use Rattle.rs_global.specs.declared.reading.Mode.{Mode}
 use Rattle.rs_global.specs.declared.reading.Mode.TheVariants as mode
+use Rattle.rs_model.specs.Data.{Names_data}
+use Rattle.rs_global.specs.Drafts.{names_read, protocol_of}
 use Rattle.rs_global.specs.Data.{Reader_data}
-use Rattle.rs_global.specs.Feeding.{Fed, Reading, Answer, ReadsAs, answered, begin, feed_at, feed_of, feed_sign, feed_roles, new_role, feed_line, feed_word, feed_body, sent_by, named, feed_next, feed_receiver, met_by, feed_mark, feed_label, labelled_by, feed_sort, sort_word, sorted_by, sort_named, plain_text, word_text, is_text, is_read, next_lexeme_of, read_all}
+use Rattle.rs_global.specs.Feeding.{Fed, Reading, Answer, Reads, ReadsAs, answered, begin, in_mode, linked, feed_at, feed_of, feed_sign, feed_roles, new_role, feed_line, feed_word, feed_body, sent_by, named, feed_next, feed_receiver, met_by, feed_mark, feed_label, labelled_by, feed_sort, sort_word, sorted_by, sort_named, plain_text, word_text, is_text, is_read, next_lexeme_of, read_all}
 use Rattle.rs_global.proofs.Answers.{tokens}
 
 -- names that texts can have, as many as there may be
@@ -48,7 +51,7 @@ keep_unless true e x h = h
 keep_unless false e x h = tt
 
 below : (m n : ℕ) → nat_le m n ≡ false → n < m
-below m n h = omega arith
+below m n h = leb-false m n h
 
 new_differ : (names : List (List ℕ)) (w : List ℕ) → is_among w names ≡ false → differ names ≡ true → differ (names ++ w ∷ []) ≡ true
 new_differ names w e h = rw e at (grown_differ (w ∷ []) names h)
@@ -60,7 +63,7 @@ new_length : (names : List (List ℕ)) (w : List ℕ) (m : ℕ) → length names
 new_length names w m h = let e : length (names ++ w ∷ []) ≡ length names + 1 = length-append names (w ∷ []) in omega arith
 
 role_pushed : (a c : Bool) (m : Mode) (w : List ℕ) (at : ℕ) (r : Reader_data) → is_among w r.roles ≡ a → nat_le 16 (length r.roles) ≡ c → is_role_word w ≡ true → Keeps r
-    → IfOk (cond a (Err (record { kind = kind.NameTwice; at = at })) (cond c (Err (record { kind = kind.TooManyRoles; at = at })) (Ok (record r { roles = r.roles ++ w ∷ []; mode = m })))) Keeps
+    → IfOk {E = TextFault} (cond a (Err (record { kind = kind.NameTwice; at = at })) (cond c (Err (record { kind = kind.TooManyRoles; at = at })) (Ok (record r { roles = r.roles ++ w ∷ []; mode = m })))) Keeps
 role_pushed true c m w at r e f k h = tt
 role_pushed false true m w at r e f k h = tt
 role_pushed false false m w at r e f k h = record {
@@ -94,7 +97,7 @@ word_named (plain x) n w h = and_first (is_word w) _ (n w (ap plain (some_is x w
 word_named _ n w h = absurd (cc h)
 
 label_pushed : (c : Bool) (node : ℕ) (w : List ℕ) (at : ℕ) (r : Reader_data) (m : Mode) → nat_le 256 (length r.labels) ≡ c → is_among w r.labels ≡ false → is_word w ≡ true → Keeps r
-    → IfOk (cond c (Err (record { kind = kind.TooManyLabels; at = at })) (Ok (record r { labels = r.labels ++ w ∷ []; mode = m }))) Keeps
+    → IfOk {E = TextFault} (cond c (Err (record { kind = kind.TooManyLabels; at = at })) (Ok (record r { labels = r.labels ++ w ∷ []; mode = m }))) Keeps
 label_pushed true node w at r m f e k h = tt
 label_pushed false node w at r m f e k h = record {
   roles_differ = h.roles_differ;
@@ -119,7 +122,7 @@ keep_sent (Some k) from at r h = keep_if (nat_le 1024 (length r.drafts)) _ _ h
 
 keep_named : (o : Option ℕ) (from : Link) (at : ℕ) (r : Reader_data) → Keeps r → IfOk (named o from at r) Keeps
 keep_named None from at r h = tt
-keep_named (Some k) from at r h = keep_unless _ _ _ h
+keep_named (Some k) from at r h = keep_unless (nat_lt k (length r.drafts)) (record { kind = kind.Unguarded; at = at }) (in_mode mode.Next (linked from (Some k) r)) h
 
 keep_word : (from : Link) (w : List ℕ) (s : Sign) (at next : ℕ) (r : Reader_data) → Keeps r → IfOk (feed_word from w s at next r) Keeps
 keep_word from w arrow at next r h = keep_sent (place_of w r.roles) from at r h
@@ -234,3 +237,8 @@ sound_answer bytes at a h p =
 
 pub is_sound : (bytes : List ℕ) (at : ℕ) (a : Answer) → at ≤ length bytes → ReadsAs bytes at (Ok a) → IsSound a.names
 is_sound bytes at a h p = let s = sound_answer bytes at a h p in (decides_sound a.names).0 (rw (s.roles_differ, s.roles_are_words, s.labels_differ, s.labels_are_words) refl)
+
+pub names_sound : (bytes : List ℕ) (at : ℕ) (r : Reader_data) (until : ℕ) (names : Names_data) → at ≤ length bytes → Reads bytes at (Ok (record { reader = r; until = until })) → names ≡ names_read r → IsSound names
+names_sound bytes at r until names h p e =
+    let a : Answer = record { names = names_read r; protocol = protocol_of r; until = until } in
+    subst IsSound (sym e) (is_sound bytes at a h (λ ls lexed. ap answered (p ls lexed)))

@@ -13,7 +13,7 @@ use Rattle.rs_text.specs.Bytes.{is_letter, is_digit}
 use Rattle.rs_text.specs.Words.{begins}
 use Rattle.rs_text.specs.Tokens.{IsToken, IsNext}
 use Rattle.rs_text.specs.Data.{Lexer_data}
-use Rattle.rs_text.proofs.Nexts.{next_is_next}
+use Rattle.rs_text.proofs.Nexts.{next_is_next, within}
 use Rattle.rs_global.specs.declared.reading.Frame.{Frame}
 use Rattle.rs_global.specs.declared.reading.Stop.{Stop}
 use Rattle.rs_global.specs.declared.reading.Stop.TheVariants as stops
@@ -180,3 +180,10 @@ goes_on bytes at old new t r d same s moved e within u f =
 pub fails_in : (bytes : List ℕ) (at : ℕ) (old : Lexer_data) (t : Token) (r : Reader_data) (s : Stop) → old.bytes ≡ bytes → Stands bytes at r old.at → next_lexeme old.bytes old.at ≡ lexeme_of old.bytes t → is_read r ≡ false
     → Fails s (feed_of (sign_of t.kind (text_of bytes t)) t.from (next_lexeme bytes t.until) r) → StopsAs s bytes at
 fails_in bytes at old t r s same st e u f = stops_at bytes at old.at t r s st (subst (λ (z : List ℕ). next_lexeme z old.at ≡ lexeme_of z t) same e) u f
+
+pub from_within : (bytes : List ℕ) (at : ℕ) → at ≤ length bytes → (next_lexeme bytes at).from ≤ length bytes
+from_within bytes at h =
+    let w = within bytes at (next_lexeme bytes at) h (next_is_next bytes at) in
+    let order = w.order in
+    let inside = w.inside in
+    omega arith

@@ -3,6 +3,7 @@ ghost use Rattle.rs_text.specs.declared.faults.TextKind.TheVariants as kind;
 ghost use Rattle.rs_global.specs.Drafts.{names_read, protocol_of};
 ghost use Rattle.rs_global.specs.Feeding.{Reads, ReadsAs, StopsAs};
 ghost use Rattle.rs_text.specs.Lexemes.{next_lexeme};
+ghost use Rattle.rs_text.specs.Sound.{IsSound};
 
 use crate::drafts::{nodes, settled_number};
 use crate::reading::{Reader, Stop};
@@ -16,6 +17,11 @@ pub fn read_protocol(alloc: Global, bytes: &[u8], at: usize) -> Result<(Names, P
     requires { at ≤ length bytes.now }
     ensures ok { IfOk result (λ r. ReadsAs bytes.now at (Ok (record { names = r.0; protocol = r.1; until = r.2 }))) }
     ensures err { IfErr result (λ e. (e.kind ≡ kind.NoMemory) ⊎ ReadsAs bytes.now at (Err e)) }
+    ensures sound { IfOk result (λ r. IsSound r.0) }
+    ensures roles { IfOk result (λ r. length r.0.roles ≤ 16) }
+    ensures labels { IfOk result (λ r. length r.0.labels ≤ 256) }
+    ensures talks { IfOk result (λ r. length r.1.nodes ≤ 1025) }
+    ensures within { IfOk result (λ r. r.2 ≤ length bytes.now) }
 {
     match read(alloc, bytes, at) {
         Ok((reader, until)) => match graph(alloc, reader) {
@@ -40,6 +46,7 @@ fn no_memory(at: usize) -> TextFault
 fn graph(alloc: Global, reader: Reader) -> Result<(Names, Protocol), NoMemory>
     ensures names { IfOk result (λ r. r.0 ≡ names_read reader.entry) }
     ensures protocol { IfOk result (λ r. r.1 ≡ protocol_of reader.entry) }
+    ensures talks { IfOk result (λ r. length r.1.nodes ≤ 1025) }
 {
     let last = reader.drafts.len() as u32;
     let protocol = Protocol {
@@ -57,6 +64,7 @@ fn graph(alloc: Global, reader: Reader) -> Result<(Names, Protocol), NoMemory>
 fn read<'a>(alloc: Global, bytes: &'a [u8], at: usize) -> Result<(Reader<'a>, usize), Stop>
     requires { at ≤ length bytes.now }
     ensures ok { IfOk result (λ r. Reads bytes.now at (Ok (record { reader = r.0; until = r.1 }))) }
+    ensures within { IfOk result (λ r. r.1 ≤ length bytes.now) }
     ensures err { IfErr result (λ e. StopsAs e bytes.now at) }
 {
     let mut reader = Reader::new(alloc);
@@ -69,8 +77,10 @@ fn read<'a>(alloc: Global, bytes: &'a [u8], at: usize) -> Result<(Reader<'a>, us
 }
 
 /// The offset of the next token, or of the faulty one there.
+#[tactic(auto, using(crate::proofs::Standing::from_within))]
 fn behind(lexer: Lexer) -> usize
-    ensures { result ≡ (next_lexeme lexer.entry.bytes lexer.entry.at).from }
+    ensures offset { result ≡ (next_lexeme lexer.entry.bytes lexer.entry.at).from }
+    ensures within { result ≤ length lexer.entry.bytes }
 {
     let mut lexer = lexer;
     match lexer.next() {
