@@ -3,3 +3,4 @@ pub mod Bindings
 pub mod Standing
 pub mod Answers
 pub mod Sounding
+pub mod Examples

@@ -1,0 +1,6 @@
+use Rattle.std.proofs.Common.{refl}
+use Rattle.rs_global.proofs.Examples.{spelt}
+use Rattle.rs_global.proofs.laws.example_is_spelt.Goals as goal
+
+pub returns-clause-tree : goal.returns-clause-tree
+returns-clause-tree c = spelt
