@@ -1,9 +1,15 @@
-use Rattle.std.proofs.Common.{◌≡◌, ℕ, List, [], ◌∷◌, ◌++◌, true, false, refl, arith, Option, Some, None}
+use Rattle.std.proofs.Common.{◌≡◌, ◌≤◌, ℕ, inl, inr, List, [], ◌∷◌, ◌++◌, true, false, refl, arith, Option, Some, None}
 use Rattle.std.specs.Prelude.{codes}
 use Rattle.rs_text.specs.Lexemes.{Lexeme, Lexed, next_lexeme, is_last}
 use Rattle.rs_text.specs.Signs.{Sign, rec_word, end_word, plain, arrow, dot, comma, open_brace, close_brace, open_paren, close_paren, finish}
 use Rattle.rs_model.specs.declared.values.Sort.TheVariants as sort
-use Rattle.rs_global.specs.Trees.{ProtocolTree, binds, offers, one, again, ends}
+use Rattle.rs_text.specs.Faults.{kind_number}
+use Rattle.rs_text.specs.declared.faults.TextKind.{TextKind}
+use Rattle.rs_text.specs.declared.faults.TextKind.TheVariants as kind
+use Rattle.rs_text.specs.declared.faults.Wanted.TheVariants as wanted
+use Rattle.rs_global.specs.Cuts.{at_begin}
+use Rattle.rs_global.specs.Faults.{FirstFault}
+use Rattle.rs_global.specs.Trees.{protocol_signs, ProtocolTree, binds, offers, one, again, ends}
 use Rattle.rs_global.specs.Graph.{graph_of, names_of}
 use Rattle.rs_global.specs.Examples.{text, tree}
 use Rattle.rs_global.specs.Spells.{SpellsProtocol}
@@ -61,4 +67,24 @@ spelt = record {
   names_are = refl;
   graph_is = refl;
   goes_on = refl;
+}
+
+-- every kind has a number of at least 1
+one_least : (k : TextKind) → 1 ≤ kind_number k
+one_least (kind.Expected w) = omega arith
+one_least _ = omega arith
+
+no_begin : (tree : ProtocolTree) (rest : List Sign) → protocol_signs tree ≡ finish ∷ rest → ⊥
+no_begin tree rest h = cc
+
+pub lacks : FirstFault [] 0 (kind.Expected wanted.Roles) 0
+lacks = record {
+  before = [];
+  token = lexeme finish 0 0;
+  others = [];
+  lexed = (refl, (λ _. refl), λ k. absurd (cc k));
+  stands = refl;
+  fault = inl (wanted.Roles, refl, record { whole = tt; place = at_begin; stands = refl; within = tt; wants = refl; stops = λ b. no_begin b.0 b.1 b.2 });
+  clear = tt;
+  least = λ k f. one_least k;
 }
