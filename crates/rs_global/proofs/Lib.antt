@@ -4,3 +4,4 @@ pub mod Standing
 pub mod Answers
 pub mod Sounding
 pub mod Examples
+pub mod Placing
