@@ -1,4 +1,4 @@
-use Rattle.std.proofs.Common.{◌≡◌, ℕ, suc, ◌+◌, ◌<◌, ◌≤◌, List, [], ◌∷◌, ◌++◌, length, Bool, true, false, if◌then◌else◌, Option, Some, None, Result, Ok, Err, IfErr, inl, inr, refl, sym, ap, ◌∙◌, subst, arith, cond, nat_le, nat_lt}
+use Rattle.std.proofs.Common.{◌≡◌, ℕ, suc, ◌+◌, ◌<◌, ◌≤◌, List, [], ◌∷◌, ◌++◌, length, Bool, true, false, if◌then◌else◌, Option, Some, None, Result, Ok, Err, IfErr, ◌⊎◌, inl, inr, refl, sym, ap, ◌∙◌, subst, arith, cond, nat_le, nat_lt}
 use Rattle.std.specs.Prelude.{codes}
 use Rattle.rs_model.specs.declared.graph.Role.{Role}
 use Rattle.rs_model.specs.declared.graph.Label.{Label}
@@ -17,8 +17,10 @@ use Rattle.rs_global.specs.declared.reading.Link.{Link}
 use Rattle.rs_global.specs.declared.reading.Link.TheVariants as link
 use Rattle.rs_global.specs.declared.reading.Mode.{Mode}
 use Rattle.rs_global.specs.declared.reading.Mode.TheVariants as mode
+use Rattle.rs_global.specs.declared.reading.Stop.{Stop}
+use Rattle.rs_global.specs.declared.reading.Stop.TheVariants as stops
 use Rattle.rs_global.specs.Data.{Reader_data}
-use Rattle.rs_global.specs.Feeding.{Fed, Reading, Reads, begin, in_mode, linked, placed, opened, feed_at, feed_sign, new_role, feed_line, feed_word, feed_body, sent_by, named, feed_next, feed_receiver, met_by, feed_label, labelled_by, feed_sort, sorted_by, sort_named, plain_text, word_text, is_text, is_read, next_lexeme_of, read_all}
+use Rattle.rs_global.specs.Feeding.{Fed, Reading, Reads, ReadsAs, StopsAs, told, answered, begin, in_mode, linked, placed, opened, feed_at, feed_sign, new_role, feed_line, feed_word, feed_body, sent_by, named, feed_next, feed_receiver, met_by, feed_label, labelled_by, feed_sort, sorted_by, sort_named, plain_text, word_text, is_text, is_read, next_lexeme_of, read_all}
 use Rattle.rs_global.proofs.Answers.{tokens}
 
 -- the fault stands at an offset of at most n
@@ -157,3 +159,7 @@ pub fault_within : (bytes : List ℕ) (at : ℕ) (f : TextFault) → at ≤ leng
 fault_within bytes at f h p =
     let t = tokens bytes at h in
     subst (λ (z : Result Reading TextFault). IfErr z (Below (length bytes))) (p t.0 t.1) (at_all (length bytes) t.0 (Ok begin) (all_below bytes t.0 at h t.1) tt)
+
+pub told_within : (s : Stop) (bytes : List ℕ) (at : ℕ) (f : TextFault) → f ≡ told s at → at ≤ length bytes → StopsAs s bytes at → f.at ≤ length bytes
+told_within stops.Memory bytes at f e h p = subst (λ (k : ℕ). k ≤ length bytes) (sym (ap (λ z. z.at) e)) h
+told_within (stops.Fault g) bytes at f e h p = subst (λ (k : ℕ). k ≤ length bytes) (sym (ap (λ z. z.at) e)) (fault_within bytes at g h p)

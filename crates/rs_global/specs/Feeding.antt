@@ -285,6 +285,11 @@ abbrev pub StopsAs : Stop → List ℕ → ℕ → Type 0
 StopsAs stops.Memory bytes at = Unit {0}
 StopsAs (stops.Fault f) bytes at = Reads bytes at (Err f)
 
+-- a refusal of memory is told at the offset where the reading began
+abbrev pub told : Stop → ℕ → TextFault
+told stops.Memory at = record { kind = kind.NoMemory; at = at }
+told (stops.Fault f) at = f
+
 -- the last number that a name is bound to, by bindings in order
 abbrev pub last_bound : List ℕ → Bound → Option ℕ → Option ℕ
 last_bound name [] found = found

@@ -1,6 +1,7 @@
 ghost use Rattle.std.specs.Prelude.{◌≡◌, ◌≤◌, length, IfOk, IfErr, ◌⊎◌, Ok, Err};
 ghost use Rattle.rs_text.specs.declared.faults.TextKind.TheVariants as kind;
 ghost use Rattle.rs_global.specs.Drafts.{names_read, protocol_of};
+ghost use Rattle.rs_global.specs.Feeding as spec;
 ghost use Rattle.rs_global.specs.Feeding.{Reads, ReadsAs, StopsAs};
 ghost use Rattle.rs_text.specs.Lexemes.{next_lexeme};
 ghost use Rattle.rs_text.specs.Sound.{IsSound};
@@ -22,23 +23,26 @@ pub fn read_protocol(alloc: Global, bytes: &[u8], at: usize) -> Result<(Names, P
     ensures labels { IfOk result (λ r. length r.0.labels ≤ 256) }
     ensures talks { IfOk result (λ r. length r.1.nodes ≤ 1025) }
     ensures within { IfOk result (λ r. r.2 ≤ length bytes.now) }
+    ensures place { IfErr result (λ e. e.at ≤ length bytes.now) }
 {
     match read(alloc, bytes, at) {
         Ok((reader, until)) => match graph(alloc, reader) {
             Ok((names, protocol)) => Ok((names, protocol, until)),
-            Err(_) => Err(no_memory(at)),
+            Err(_) => Err(told(Stop::Memory, at)),
         },
-        Err(Stop::Fault(fault)) => Err(fault),
-        Err(Stop::Memory) => Err(no_memory(at)),
+        Err(stop) => Err(told(stop, at)),
     }
 }
 
-fn no_memory(at: usize) -> TextFault
-    ensures { result ≡ record { kind = kind.NoMemory; at = at } }
+fn told(stop: Stop, at: usize) -> TextFault
+    ensures { result ≡ spec.told stop at }
 {
-    TextFault {
-        kind: TextKind::NoMemory,
-        at,
+    match stop {
+        Stop::Fault(fault) => fault,
+        Stop::Memory => TextFault {
+            kind: TextKind::NoMemory,
+            at,
+        },
     }
 }
 
