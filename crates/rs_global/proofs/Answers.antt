@@ -1,8 +1,7 @@
-use Rattle.std.proofs.Common.{◌≡◌, ◌≤◌, ℕ, List, Result, length, refl, sym, ap, ◌∙◌}
+use Rattle.std.proofs.Common.{◌≡◌, ◌≤◌, ℕ, List, Result, length, sym, ap, ◌∙◌}
 use Rattle.rs_text.specs.declared.faults.TextFault.{TextFault}
 use Rattle.rs_text.specs.Lexemes.{Lexeme, Lexed}
 use Rattle.rs_text.proofs.Nexts.{exists, are_lexed, one_list}
-use Rattle.rs_global.specs.Data.{Reader_data}
 use Rattle.rs_global.specs.Feeding.{Answer, ReadsAs, answered, read_all, begin}
 use Rattle.std.specs.Prelude.{Ok}
 

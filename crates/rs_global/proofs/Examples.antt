@@ -1,15 +1,14 @@
-use Rattle.std.proofs.Common.{◌≡◌, ◌≤◌, ℕ, inl, inr, List, [], ◌∷◌, ◌++◌, true, false, refl, arith, Option, Some, None}
+use Rattle.std.proofs.Common.{◌≡◌, ◌≤◌, ℕ, inl, List, [], ◌∷◌, ◌++◌, false, refl, arith}
 use Rattle.std.specs.Prelude.{codes}
 use Rattle.rs_text.specs.Lexemes.{Lexeme, Lexed, next_lexeme, is_last}
 use Rattle.rs_text.specs.Signs.{Sign, rec_word, end_word, plain, arrow, dot, comma, open_brace, close_brace, open_paren, close_paren, finish}
-use Rattle.rs_model.specs.declared.values.Sort.TheVariants as sort
 use Rattle.rs_text.specs.Faults.{kind_number}
 use Rattle.rs_text.specs.declared.faults.TextKind.{TextKind}
 use Rattle.rs_text.specs.declared.faults.TextKind.TheVariants as kind
 use Rattle.rs_text.specs.declared.faults.Wanted.TheVariants as wanted
 use Rattle.rs_global.specs.Cuts.{at_begin}
 use Rattle.rs_global.specs.Faults.{FirstFault}
-use Rattle.rs_global.specs.Trees.{protocol_signs, ProtocolTree, binds, offers, one, again, ends}
+use Rattle.rs_global.specs.Trees.{protocol_signs, ProtocolTree}
 use Rattle.rs_global.specs.Graph.{graph_of, names_of}
 use Rattle.rs_global.specs.Examples.{text, tree}
 use Rattle.rs_global.specs.Spells.{SpellsProtocol}

@@ -1,4 +1,4 @@
-use Rattle.std.proofs.Common.{◌≡◌, ℕ, suc, ◌+◌, ◌-◌, ◌<◌, ◌≤◌, List, [], ◌∷◌, ◌++◌, length, Bool, true, false, Result, Ok, Err, refl, sym, ap, ◌∙◌, subst, arith, cond, Option, Some, None}
+use Rattle.std.proofs.Common.{◌≡◌, ℕ, ◌+◌, ◌-◌, ◌<◌, ◌≤◌, List, [], ◌∷◌, length, Bool, true, false, Ok, Err, refl, sym, ap, ◌∙◌, subst, arith, cond}
 use Rattle.std.specs.Str.{bytes_eq}
 use Rattle.std.specs.Prelude.{codes}
 use Rattle.rs_text.specs.declared.tokens.Kind.{Kind}
@@ -20,7 +20,7 @@ use Rattle.rs_global.specs.declared.reading.Stop.TheVariants as stops
 use Rattle.rs_global.specs.declared.reading.Mode.{Mode}
 use Rattle.rs_global.specs.declared.reading.Mode.TheVariants as mode
 use Rattle.rs_global.specs.Data.{Reader_data}
-use Rattle.rs_global.specs.Feeding.{Fed, Reading, begin, feed_of, feed_at, feed_sign, feed_next, feed_word, is_read, next_lexeme_of, read_all, Reads, StopsAs, Fails}
+use Rattle.rs_global.specs.Feeding.{begin, feed_of, feed_at, feed_sign, feed_next, is_read, next_lexeme_of, read_all, Reads, StopsAs, Fails}
 
 -- the reader stands before the tokens from `now` on
 abbrev pub Stands : List ℕ → ℕ → Reader_data → ℕ → Type 0
@@ -81,7 +81,7 @@ step_from bytes now t r d (l ∷ ls) e u f h =
     let k : (is_last (lexeme_of bytes t).sign ≡ false → Lexed bytes (lexeme_of bytes t).until ls) = subst (λ (z : Lexeme). is_last z.sign ≡ false → Lexed bytes z.until ls) l_is h.2 in
     let rest : Lexed bytes t.until ls = k more in
     let fed : feed_sign (sign_of t.kind (text_of bytes t)) t.from (next_lexeme_of (lexeme_of bytes t) ls) r ≡ Ok d =
-      ap (λ z. feed_sign (sign_of t.kind (text_of bytes t)) t.from z r) (next_is bytes t.until (lexeme_of bytes t) ls rest) ∙ whole t.kind (text_of bytes t) t.from (next_lexeme bytes t.until) r ∙ f in
+    ap (λ z. feed_sign (sign_of t.kind (text_of bytes t)) t.from z r) (next_is bytes t.until (lexeme_of bytes t) ls rest) ∙ whole t.kind (text_of bytes t) t.from (next_lexeme bytes t.until) r ∙ f in
     (ls, rest, ap (λ z. read_all (Ok r) (z ∷ ls)) l_is ∙ goes r (lexeme_of bytes t) ls u ∙ ap (λ z. read_all z ls) fed)
 
 pub step : (bytes : List ℕ) (at now : ℕ) (t : Token) (r d : Reader_data) → Stands bytes at r now → next_lexeme bytes now ≡ lexeme_of bytes t → is_read r ≡ false → feed_of (sign_of t.kind (text_of bytes t)) t.from (next_lexeme bytes t.until) r ≡ Ok d
@@ -109,7 +109,7 @@ faulty_from bytes now t r g (l ∷ ls) e u f h =
     let l_is : l ≡ lexeme_of bytes t = h.0 ∙ e in
     let k : (is_last (lexeme_of bytes t).sign ≡ false → Lexed bytes (lexeme_of bytes t).until ls) = subst (λ (z : Lexeme). is_last z.sign ≡ false → Lexed bytes z.until ls) l_is h.2 in
     let fed : feed_sign (sign_of t.kind (text_of bytes t)) t.from (next_lexeme_of (lexeme_of bytes t) ls) r ≡ Err g =
-      whole t.kind (text_of bytes t) t.from (next_lexeme_of (lexeme_of bytes t) ls) r ∙ behind_same bytes t.kind (text_of bytes t) r.mode t.from t.until (lexeme_of bytes t) ls r k ∙ f in
+    whole t.kind (text_of bytes t) t.from (next_lexeme_of (lexeme_of bytes t) ls) r ∙ behind_same bytes t.kind (text_of bytes t) r.mode t.from t.until (lexeme_of bytes t) ls r k ∙ f in
     ap (λ z. read_all (Ok r) (z ∷ ls)) l_is ∙ goes r (lexeme_of bytes t) ls u ∙ ap (λ z. read_all z ls) fed ∙ stopped g ls
 
 pub stops_at : (bytes : List ℕ) (at now : ℕ) (t : Token) (r : Reader_data) (s : Stop) → Stands bytes at r now → next_lexeme bytes now ≡ lexeme_of bytes t → is_read r ≡ false → Fails s (feed_of (sign_of t.kind (text_of bytes t)) t.from (next_lexeme bytes t.until) r)

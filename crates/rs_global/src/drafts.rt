@@ -2,7 +2,7 @@ ghost use Rattle.std.specs.Prelude.{◌≡◌, ◌≤◌, ◌+◌, ◌++◌, ◌
 ghost use Rattle.rs_global.specs.Drafts.{settled, settled_arm, settled_target, with_arm};
 ghost use Rattle.rs_global.specs.Graph.{finish_of};
 
-use rs_model::{Arm, Arms, Label, Node, NoMemory, Role, Sort};
+use rs_model::{Arm, Arms, Label, NoMemory, Node, Role, Sort};
 use std::alloc::Global;
 use std::marker::Model;
 
@@ -54,7 +54,12 @@ pub(crate) fn settled_number(last: u32, target: Option<u32>) -> u32
 }
 
 /// The nodes of a protocol, with the end behind the talks where it has one.
-pub(crate) fn nodes(alloc: Global, drafts: &[Draft], last: u32, ended: bool) -> Result<Vec<Node>, NoMemory>
+pub(crate) fn nodes(
+    alloc: Global,
+    drafts: &[Draft],
+    last: u32,
+    ended: bool,
+) -> Result<Vec<Node>, NoMemory>
     ensures nodes { IfOk result (λ nodes. nodes.items ≡ map (settled last) drafts.now ++ finish_of ended) }
     ensures count { IfOk result (λ nodes. length nodes.items ≤ length drafts.now + 1) }
 {

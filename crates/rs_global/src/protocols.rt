@@ -14,7 +14,11 @@ use std::alloc::Global;
 
 /// Reads a roles line and a protocol from the offset `at` on, and gives the names, the protocol and the offset of the
 /// first byte behind them that is neither a blank nor in a comment, or the length.
-pub fn read_protocol(alloc: Global, bytes: &[u8], at: usize) -> Result<(Names, Protocol, usize), TextFault>
+pub fn read_protocol(
+    alloc: Global,
+    bytes: &[u8],
+    at: usize,
+) -> Result<(Names, Protocol, usize), TextFault>
     requires { at ≤ length bytes.now }
     ensures ok { IfOk result (λ r. ReadsAs bytes.now at (Ok (record { names = r.0; protocol = r.1; until = r.2 }))) }
     ensures err { IfErr result (λ e. (e.kind ≡ kind.NoMemory) ⊎ ReadsAs bytes.now at (Err e)) }

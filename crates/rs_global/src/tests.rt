@@ -56,7 +56,12 @@ fn show_node(text: &mut Text, node: &Node) -> Result<(), NoMemory> {
     }
 }
 
-fn show_graph(text: &mut Text, names: &Names, protocol: &Protocol, until: usize) -> Result<(), NoMemory> {
+fn show_graph(
+    text: &mut Text,
+    names: &Names,
+    protocol: &Protocol,
+    until: usize,
+) -> Result<(), NoMemory> {
     text.push_number(until as u64)?;
     text.push(b": roles")?;
     for name in &names.roles {
@@ -112,7 +117,10 @@ fn reads_or_faults(rt: HostRuntime) -> Result<(), Fail> {
         (b"roles A, B\nprotocol Q :", "2:10 unbound name"),
         (b"roles A, B\nprotocol X", "2:10 unbound name"),
         (b"roles A, B\nprotocol rec X. X", "2:17 unguarded name"),
-        (b"roles A, B\nprotocol rec X. rec Y. X", "2:24 unguarded name"),
+        (
+            b"roles A, B\nprotocol rec X. rec Y. X",
+            "2:24 unguarded name",
+        ),
         (b"roles A, B\nprotocol rec end", "2:14 name"),
         (b"roles A, B\nprotocol rec X end", "2:16 ."),
         (b"roles A, B\nprotocol Q->A:x(). end", "2:10 unknown role"),
@@ -127,11 +135,20 @@ fn reads_or_faults(rt: HostRuntime) -> Result<(), Fail> {
         (b"roles A, B\nprotocol A->B:x()", "2:18 ."),
         (b"roles A, B\nprotocol A->B{x(). end.", "2:23 , or }"),
         (b"roles A, B\nprotocol rec A. A->B:x(). A ->", "2:31 role"),
-        (b"roles A, B\nprotocol rec X. A->B:x(). X $", "2:29 bad byte"),
+        (
+            b"roles A, B\nprotocol rec X. A->B:x(). X $",
+            "2:29 bad byte",
+        ),
         (b"roles A, B\nprotocol end $", "24: roles A B root 0 end"),
         (b"roles A, B\nprotocol end ->", "24: roles A B root 0 end"),
-        (b"roles A, B # .\n protocol end # $\n", "33: roles A B root 0 end"),
-        (b"roles A, B\nprotocol A->A:x(unit). end", "37: roles A B root 0 0>0 l0:1 end"),
+        (
+            b"roles A, B # .\n protocol end # $\n",
+            "33: roles A B root 0 end",
+        ),
+        (
+            b"roles A, B\nprotocol A->A:x(unit). end",
+            "37: roles A B root 0 0>0 l0:1 end",
+        ),
         (
             b"roles A, B protocol rec X. A->B{x(nat). X, y(). rec X. B->A:x(). X}",
             "67: roles A B root 0 0>1 l0:0 l1:1 1>0 l0:1",
@@ -160,8 +177,14 @@ fn reads_or_faults(rt: HostRuntime) -> Result<(), Fail> {
             b"roles a,b,c,d,e,f,g,h,i,j,k,l,m,n,o,p protocol end",
             "50: roles a b c d e f g h i j k l m n o p root 0 end",
         ),
-        (b"roles a,b,c,d,e,f,g,h,i,j,k,l,m,n,o,p,q protocol end", "1:39 too many roles"),
-        (b"roles a,b,c,d,e,f,g,h,i,j,k,l,m,n,o,p,a protocol end", "1:39 name twice"),
+        (
+            b"roles a,b,c,d,e,f,g,h,i,j,k,l,m,n,o,p,q protocol end",
+            "1:39 too many roles",
+        ),
+        (
+            b"roles a,b,c,d,e,f,g,h,i,j,k,l,m,n,o,p,a protocol end",
+            "1:39 name twice",
+        ),
     ];
     for (bytes, want) in cases {
         let text = shown(rt.alloc(), bytes)?;

@@ -1,4 +1,3 @@
-use Rattle.std.proofs.Common.{refl}
 use Rattle.rs_global.proofs.Examples.{spelt}
 use Rattle.rs_global.proofs.laws.example_is_spelt.Goals as goal
 
