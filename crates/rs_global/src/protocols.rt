@@ -14,6 +14,13 @@ use std::alloc::Global;
 
 /// Reads a roles line and a protocol from the offset `at` on, and gives the names, the protocol and the offset of the
 /// first byte behind them that is neither a blank nor in a comment, or the length.
+///
+/// Talks are numbered in order of text. All ends are one node behind the last talk, which is there exactly where the
+/// text has an end. A recursion name stands for the first node of its body.
+///
+/// A fault has the offset of its token: what was wanted instead, an unknown role, a name that is unbound or unguarded,
+/// a role that is there already, one too many of nesting, roles, talks or labels, or a faulty token. Refused memory has
+/// the offset `at`.
 pub fn read_protocol(
     alloc: Global,
     bytes: &[u8],
