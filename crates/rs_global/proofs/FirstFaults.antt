@@ -307,7 +307,7 @@ pub data Wholeness : Sign → Type 0 where
   a_faulty : (k : FaultKind) → Wholeness (broken k)
   a_whole : (t : Sign) → IsWhole t → Wholeness t
 
-wholeness : (t : Sign) → Wholeness t
+pub wholeness : (t : Sign) → Wholeness t
 wholeness (broken k) = a_faulty k
 wholeness t = a_whole t tt
 

@@ -7,3 +7,8 @@ pub mod FaultCuts
 pub mod FaultSteps
 pub mod FirstFaults
 pub mod OneFault
+pub mod Fitting
+pub mod Answers
+pub mod Sounding
+pub mod Examples
+pub mod Placing

@@ -3,8 +3,11 @@
 
 mod drafts;
 pub mod fault_laws;
+pub mod laws;
 mod protocols;
 mod reading;
 mod seen;
+#[cfg(test)]
+mod tests;
 
 pub use protocols::read_protocol;
