@@ -24,7 +24,8 @@ use Rattle.rs_global.specs.declared.reading.Mode.{Mode}
 use Rattle.rs_global.specs.declared.reading.Mode.TheVariants as mode
 use Rattle.rs_global.specs.declared.drafts.DraftArm.{DraftArm}
 use Rattle.rs_global.specs.Data.{Reader_data, Draft_data}
-use Rattle.rs_global.specs.Drafts.{with_arm}
+use Rattle.rs_global.specs.Drafts.{with_arm, names_read, protocol_of}
+use Rattle.rs_model.specs.Data.{Names_data, Protocol_data}
 use Rattle.rs_global.specs.Trees.{ProtocolTree, protocol_signs, roles_of, further_signs, ends_by_name, Body, ends, again, binds, talks, offers, Branches, one, more, sort_text, sort_signs, arm_signs, body_signs, branch_signs, ends_a_name}
 use Rattle.rs_global.specs.Graph.{labels_of, labels_of_arms, talks_in, talks_in_arms}
 use Rattle.rs_global.specs.Feeding.{begin, feed_at, feed_next, new_role, is_read, read_all, answered, Answer, Reading, ReadsAs, next_lexeme_of, Fed, fault, in_mode, linked, linked_root, linked_drafts, sent_by, named, feed_word, placed, met_by, opened, label_of_number, labelled_by, feed_sign}
@@ -196,3 +197,114 @@ mutual
                 (branches_run arms m back m fs ts u Q (ap (λ z. arms_fit arms z) there ∙ p2.1) h (λ labels' drafts' root' ended' bound' inner' depth' g' d' b'. k labels' drafts' root' ended' bound' inner' depth'
                   (g' ∙ ap (λ z. grown z (labels_of_arms arms)) g ∙ sym (grown_append (labels_of body) (labels_of_arms arms) (grown r.labels (l ∷ []))))
                   (d' ∙ ap (λ z. z + talks_in_arms arms) d ∙ omega arith) b')))))
+
+-- ---- the roles line
+
+if_differ : (c b : Bool) → (if c then false else b) ≡ true → (c ≡ false) × (b ≡ true)
+if_differ true b h = cc
+if_differ false b h = (refl, h)
+
+or_split : (a b : Bool) → (a || b) ≡ false → (a ≡ false) × (b ≡ false)
+or_split true b h = cc
+or_split false b h = (refl, h)
+
+or_none : (a b : Bool) → a ≡ false → b ≡ false → (a || b) ≡ false
+or_none true b h e = cc
+or_none false b h e = e
+
+among_at : (ps : List (List ℕ)) (p w : List ℕ) (ws : List (List ℕ)) → is_among p (ps ++ w ∷ ws) ≡ false → bytes_eq w p ≡ false
+among_at [] p w ws h = (or_split (bytes_eq w p) (is_among p ws) h).0
+among_at (x ∷ ps) p w ws h = among_at ps p w ws (or_split (bytes_eq x p) (is_among p (ps ++ w ∷ ws)) h).1
+
+differs_back : (p w : List ℕ) → bytes_eq w p ≡ false → bytes_eq p w ≡ false
+differs_back p w h = elim (true_or_false (bytes_eq p w)) [
+  | inl e ↦ absurd (cc (sym h ∙ (bytes_eq-Decides w p).1 (sym ((bytes_eq-Decides p w).0 e))))
+  | inr e ↦ e
+]
+
+differ_new : (ps : List (List ℕ)) (w : List ℕ) (ws : List (List ℕ)) → differ (ps ++ w ∷ ws) ≡ true → is_among w ps ≡ false
+differ_new [] w ws h = refl
+differ_new (p ∷ ps) w ws h =
+    let s = if_differ (is_among p (ps ++ w ∷ ws)) (differ (ps ++ w ∷ ws)) h in
+    or_none (bytes_eq p w) (is_among w ps) (differs_back p w (among_at ps p w ws s.0)) (differ_new ps w ws s.1)
+
+few : (ps : List (List ℕ)) (w : List ℕ) (ws : List (List ℕ)) → length (ps ++ w ∷ ws) ≤ 16 → nat_le 16 (length ps) ≡ false
+few ps w ws h = elim (leb_tells 16 (length ps)) [
+  | inl x ↦ (let n : length (ps ++ w ∷ ws) ≡ length ps + suc (length ws) = length-append ps (w ∷ ws) in let m : 16 ≤ length ps = x.1 in absurd (omega arith))
+  | inr x ↦ x.0
+]
+
+role_found : (after : Mode) (word : List ℕ) (at : ℕ) (r : Reader_data) (Q : Reader_data → Type 0) → is_among word r.roles ≡ false → nat_le 16 (length r.roles) ≡ false → Q (record r { roles = r.roles ++ word ∷ []; mode = after }) → Strict (new_role after (Some word) at r) Q
+role_found after word at r Q new room h =
+    strict_if (is_among word r.roles) kind.NameTwice at (if nat_le 16 (length r.roles) then fault kind.TooManyRoles at else Ok (record r { roles = r.roles ++ word ∷ []; mode = after })) Q new
+      (strict_if (nat_le 16 (length r.roles)) kind.TooManyRoles at (Ok (record r { roles = r.roles ++ word ∷ []; mode = after })) Q room h)
+
+line_runs : (xs : List (List ℕ)) (r : Reader_data) (ts : List Sign) (u : Sign) (Q : Reader_data → Type 0) → differ (r.roles ++ xs) ≡ true → length (r.roles ++ xs) ≤ 16 → Runs ts u Q (record r { roles = r.roles ++ xs; mode = mode.Line }) → Runs (flat_map further_signs xs ++ ts) u Q (record r { mode = mode.Line })
+line_runs [] r ts u Q d l h = subst (λ (z : List (List ℕ)). Runs ts u Q (record r { roles = z; mode = mode.Line })) (append-nil r.roles) h
+line_runs (x ∷ xs) r ts u Q d l h =
+    let shape : r.roles ++ x ∷ xs ≡ (r.roles ++ x ∷ []) ++ xs = sym (append_assoc r.roles (x ∷ []) xs) in
+    λ a f n. λ a f n. role_found mode.Line x a (record r { mode = mode.FurtherRole }) (λ d. Runs (flat_map further_signs xs ++ ts) u Q d) (differ_new r.roles x xs d) (few r.roles x xs l)
+      (line_runs xs (record r { roles = r.roles ++ x ∷ [] }) ts u Q (ap differ (sym shape) ∙ d) (subst (λ (z : List (List ℕ)). length z ≤ 16) shape l)
+        (subst (λ (z : List (List ℕ)). Runs ts u Q (record r { roles = z; mode = mode.Line })) shape h))
+
+-- a tree whose names and limits fit is read to its end
+pub tree_runs : (t : ProtocolTree) (u : Sign) → Fits t → (ends_by_name t.body ≡ true → ends_a_name u ≡ true) → Runs (protocol_signs t) u (λ d. is_read d ≡ true) begin
+tree_runs t u fits h = λ a f n. λ a f n. role_found mode.FirstComma t.first a (record begin { mode = mode.FirstRole }) (λ d. Runs (comma ∷ plain t.second ∷ (flat_map further_signs t.further ++ plain (codes "protocol") ∷ body_signs t.body)) u (λ d. is_read d ≡ true) d) refl refl
+    (λ a f n. λ a f n. role_found mode.Line t.second a (record begin { roles = t.first ∷ []; mode = mode.FurtherRole }) (λ d. Runs (flat_map further_signs t.further ++ plain (codes "protocol") ∷ body_signs t.body) u (λ d. is_read d ≡ true) d)
+      (differ_new (t.first ∷ []) t.second t.further fits.roles_differ) refl
+      (line_runs t.further (record begin { roles = t.first ∷ t.second ∷ [] }) (plain (codes "protocol") ∷ body_signs t.body) u (λ d. is_read d ≡ true) fits.roles_differ fits.few_roles
+        (λ a f n. subst (λ (z : List Sign). Runs z u (λ d. is_read d ≡ true) (record begin { roles = roles_of t; mode = mode.Body link.Root })) (append-nil (body_signs t.body))
+          (body_runs t.body link.Root (record begin { roles = roles_of t }) [] u (λ d. is_read d ≡ true) fits.body h (λ labels drafts root ended bound inner depth g d b. refl)))))
+
+-- ---- as the tokens of a text
+
+next_strict : (fs : List Frame) (t : Sign) (at : ℕ) (r : Reader_data) (Q : Reader_data → Type 0) → fs ≡ [] → Strict (feed_next fs t at r) Q → ⊥
+next_strict [] t at r Q e h = h
+next_strict (f ∷ fs) t at r Q e h = cc
+
+-- behind a protocol no token is taken
+over_strict : (t : Sign) → Wholeness t → (at : ℕ) (n : Lexeme) (r : Reader_data) (Q : Reader_data → Type 0) → is_read r ≡ true → Strict (feed_sign t at n r) Q → ⊥
+over_strict _ (a_faulty k) at n r Q e h = h
+over_strict _ (a_whole t w) at n r Q e h =
+    let m = read_facts r.mode r.frames e in
+    let o : Strict (feed_at r.mode t at n r) Q = subst (λ (x : Fed). Strict x Q) (whole_fed t at n r w) h in
+    let p : Strict (feed_at mode.Next t at n r) Q = subst (λ (z : Mode). Strict (feed_at z t at n r) Q) m.0 o in
+    next_strict r.frames t at r Q m.1 p
+
+read_goes : (r : Reader_data) (l : Lexeme) (ls : List Lexeme) → is_read r ≡ false → read_all (Ok r) (l ∷ ls) ≡ read_all (feed_sign l.sign l.from (next_lexeme_of l ls) r) ls
+read_goes r l ls e = rw e refl
+
+read_over : (r : Reader_data) (l : Lexeme) (ls : List Lexeme) → is_read r ≡ true → read_all (Ok r) (l ∷ ls) ≡ Ok (record { reader = r; until = l.from })
+read_over r l ls e = rw e refl
+
+on_fed : (z : Fed) (rest : List Lexeme) (P : Reader_data → Type 0) → Strict z P → ((d : Reader_data) → P d → (y : Reading) × (read_all (Ok d) rest ≡ Ok y)) → (y : Reading) × (read_all z rest ≡ Ok y)
+on_fed (Ok d) rest P h k = k d h
+on_fed (Err e) rest P h k = absurd h
+
+runs_read : (ls : List Lexeme) (b : Lexeme) (os : List Lexeme) (r : Reader_data) → Runs (signs_of ls) b.sign (λ d. is_read d ≡ true) r → (y : Reading) × (read_all (Ok r) (ls ++ b ∷ os) ≡ Ok y)
+runs_read [] b os r h = (record { reader = r; until = b.from }, read_over r b os h)
+runs_read (l ∷ []) b os r h = elim (true_or_false (is_read r)) [
+  | inl u ↦ absurd (over_strict l.sign (wholeness l.sign) l.from (lexeme b.sign b.from b.until) r (λ d. is_read d ≡ true) u (h l.from b.from b.until))
+  | inr u ↦ (let y = on_fed (feed_sign l.sign l.from b r) (b ∷ os) (λ d. is_read d ≡ true) (h l.from b.from b.until) (λ d k. runs_read [] b os d k) in (y.0, read_goes r l (b ∷ os) u ∙ y.1))
+]
+runs_read (l ∷ x ∷ ls) b os r h = elim (true_or_false (is_read r)) [
+  | inl u ↦ absurd (over_strict l.sign (wholeness l.sign) l.from (lexeme x.sign x.from x.until) r (λ d. Runs (signs_of (x ∷ ls)) b.sign (λ d. is_read d ≡ true) d) u (h l.from x.from x.until))
+  | inr u ↦ (let y = on_fed (feed_sign l.sign l.from x r) (x ∷ (ls ++ b ∷ os)) (λ d. Runs (signs_of (x ∷ ls)) b.sign (λ d. is_read d ≡ true) d) (h l.from x.from x.until) (λ d k. runs_read (x ∷ ls) b os d k) in (y.0, read_goes r l (x ∷ (ls ++ b ∷ os)) u ∙ y.1))
+]
+
+-- a text that a tree spells is read ..
+pub spelt_reads : (bytes : List ℕ) (at : ℕ) (names : Names_data) (protocol : Protocol_data) (until : ℕ) (s : SpellsProtocol bytes at names protocol until) → (y : Reading) × (read_all (Ok begin) (s.lexemes ++ s.behind ∷ s.others) ≡ Ok y)
+spelt_reads bytes at names protocol until s =
+    runs_read s.lexemes s.behind s.others begin (subst (λ (z : List Sign). Runs z s.behind.sign (λ d. is_read d ≡ true) begin) (sym s.spelt) (tree_runs s.tree s.behind.sign s.fits s.settled))
+
+pub spelt_is_read : (bytes : List ℕ) (at : ℕ) (names : Names_data) (protocol : Protocol_data) (until : ℕ) → SpellsProtocol bytes at names protocol until → (answer : Answer) × ReadsAs bytes at (Ok answer)
+spelt_is_read bytes at names protocol until s =
+    let y = spelt_reads bytes at names protocol until s in
+    (record { names = names_read y.0.reader; protocol = protocol_of y.0.reader; until = y.0.until },
+      λ ls h. ap (λ z. answered (read_all (Ok begin) z)) (one_list bytes ls (s.lexemes ++ s.behind ∷ s.others) at h s.lexed) ∙ ap answered y.1)
+
+-- .. and has no first fault
+pub spelt_no_fault : (bytes : List ℕ) (at : ℕ) (names : Names_data) (protocol : Protocol_data) (until : ℕ) (k : TextKind) (offset : ℕ) → SpellsProtocol bytes at names protocol until → FirstFault bytes at k offset → ⊥
+spelt_no_fault bytes at names protocol until k offset s f =
+    let y = spelt_reads bytes at names protocol until s in
+    read_no_fault bytes at y.0 k offset f (ap (λ z. read_all (Ok begin) z) (one_list bytes (f.before ++ f.token ∷ f.others) (s.lexemes ++ s.behind ∷ s.others) at f.lexed s.lexed) ∙ y.1)
