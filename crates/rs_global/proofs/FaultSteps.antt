@@ -89,7 +89,7 @@ named_step : (found : Option ℕ) (word : List ℕ) (from : Link) (at : ℕ) (n 
 named_step None word from at n r = misplaced wanted.Body (Some kind.UnboundName) (plain word) at n kind.UnboundName refl tt refl
 named_step (Some k) word from at n r = guarded_step (nat_lt k (length r.drafts)) k word from at n r
 
-by_name_fault : (v : Sign) (word : List ℕ) (s : Scene) → ends_a_name v ≡ true → fault_of_word word v s ≡ fault_of_name (bound_to word s.bound) s.talks
+pub by_name_fault : (v : Sign) (word : List ℕ) (s : Scene) → ends_a_name v ≡ true → fault_of_word word v s ≡ fault_of_name (bound_to word s.bound) s.talks
 by_name_fault arrow word s h = cc
 by_name_fault (broken k) word s h = cc
 by_name_fault _ word s h = refl

@@ -20,13 +20,15 @@ use Rattle.rs_global.specs.Data.{Reader_data}
 use Rattle.rs_global.specs.Trees.{ProtocolTree, protocol_signs, arm_signs, body_signs, ends_a_name}
 use Rattle.rs_global.specs.Cuts.{Cut, at_body, behind_end, behind_name, behind_rec, behind_rec_name, in_binds, behind_arrow, behind_receiver, in_arm, in_talks, in_offers, behind_brace, BranchCut, in_head, in_branch, later, ProtocolCut, at_begin, at_first, behind_first, at_further, behind_further, in_body, cut_signs, branch_cut_signs, line_signs, protocol_cut_signs, wanted_in_arm, wanted_at, wanted_in, wanted_of, IsBehind}
 use Rattle.rs_global.specs.Cuts.{ArmCut, at_label, behind_label, behind_paren, behind_sort, behind_head}
-use Rattle.rs_global.specs.Scenes.{Scene, fault_by, fault_of}
+use Rattle.rs_text.specs.Names.{is_among, bound_to}
+use Rattle.std.proofs.Common.{nat_le, nat_lt}
+use Rattle.rs_global.specs.Scenes.{Scene, fault_by, fault_of, fault_of_name, fault_of_word, fault_of_label, fault_in_line}
 use Rattle.rs_global.specs.Faults.{Begins, IsWhole, IsWithin, EndsByName, IsInReach, IsUnexpected, IsMisplaced, IsBroken, FaultAt, next_of, AllClear, FirstFault}
 use Rattle.rs_global.specs.Feeding.{Fed, Reading, Answer, begin, feed_at, feed_next, feed_sign, is_read, no_frames, behind_body, next_lexeme_of, read_all, answered, ReadsAs}
-use Rattle.rs_global.proofs.FaultRuns.{NotExpected, Lands, sign_behind, lexeme, Leads}
+use Rattle.rs_global.proofs.FaultRuns.{NotExpected, Lands, sign_behind, lexeme, Leads, Follower, an_arrow, a_broken, a_name, follower, faulty_calm}
 use Rattle.rs_global.proofs.FaultPlaces.{wanted_behind, wanted_by, fault_seen, is_named, is_named_in, is_named_of, NamedBy, PlaceAgrees, place_passes, tree_passes, leads_split}
 use Rattle.rs_global.proofs.FaultCuts.{takes, IsProper, proper_word, Grows, place_grows, word_grows, place_begins}
-use Rattle.rs_global.proofs.FaultSteps.{ToldUnexpected, ToldMisplaced, ToldBroken, Steps, IsArrowMode, steps, whole_fed}
+use Rattle.rs_global.proofs.FaultSteps.{ToldUnexpected, ToldMisplaced, ToldBroken, Steps, IsArrowMode, steps, whole_fed, by_name_fault}
 
 use Rattle.rs_global.proofs.FirstFaults.{Reached, reach_on, There, agree, begins_there, Clear, Here, Next, Verdict, verdict, last_faulty, proper_of, unread_if, signs_append, Found, found, first_fault, answered_err}
 
@@ -282,3 +284,70 @@ one_fault bytes at j k n o f g =
 -- the tokens before the first fault begin a protocol
 pub begins_before : (bytes : List ℕ) (at : ℕ) (k : TextKind) (offset : ℕ) (f : FirstFault bytes at k offset) → Begins (signs_of f.before)
 begins_before bytes at k offset f = begins_there (signs_of f.before) (there_of (signs_of f.before) f.token.sign (next_of (signs_of f.others)) k f.fault)
+
+-- ---- what is expected
+
+calm_if : (c : Bool) (k j : TextKind) (o : Option TextKind) → NotExpected k → (o ≡ Some j → NotExpected j) → (if c then Some k else o) ≡ Some j → NotExpected j
+calm_if true k j o n h e = let same : k ≡ j = cc in subst NotExpected same n
+calm_if false k j o n h e = h e
+
+calm_not : (c : Bool) (k j : TextKind) (o : Option TextKind) → NotExpected k → (o ≡ Some j → NotExpected j) → (if c then o else Some k) ≡ Some j → NotExpected j
+calm_not true k j o n h e = h e
+calm_not false k j o n h e = let same : k ≡ j = cc in subst NotExpected same n
+
+calm_none : (c : Bool) {j : TextKind} {o : Option TextKind} → (o ≡ Some j → NotExpected j) → (if c then None else o) ≡ Some j → NotExpected j
+calm_none true h e = absurd (cc e)
+calm_none false h e = h e
+
+calm_name : (found : Option ℕ) (count : ℕ) (j : TextKind) → fault_of_name found count ≡ Some j → NotExpected j
+calm_name None count j e = let same : kind.UnboundName ≡ j = cc in subst NotExpected same tt
+calm_name (Some k) count j e = calm_not (nat_lt k count) kind.Unguarded j None tt (λ f. absurd (cc f)) e
+
+calm_word : (v : Sign) (f : Follower v) (word : List ℕ) (s : Scene) (j : TextKind) → fault_of_word word v s ≡ Some j → NotExpected j
+calm_word _ an_arrow word s j e = calm_not (is_among word s.roles) kind.UnknownRole j (if nat_le 1024 s.talks then Some kind.TooManyNodes else None) tt (λ f. calm_if (nat_le 1024 s.talks) kind.TooManyNodes j None tt (λ g. absurd (cc g)) f) e
+calm_word _ (a_broken k) word s j e = absurd (cc e)
+calm_word _ (a_name v h) word s j e = calm_name (bound_to word s.bound) s.talks j (sym (by_name_fault v word s h) ∙ e)
+
+calm_label : (l : List ℕ) (s : Scene) (j : TextKind) → fault_of_label l s ≡ Some j → NotExpected j
+calm_label l s j e = calm_none (is_among l s.labels) (λ f. calm_if (nat_le 256 (length s.labels)) kind.TooManyLabels j None tt (λ g. absurd (cc g)) f) e
+
+calm_by : (w : Wanted) (t n : Sign) (s : Scene) (j : TextKind) → fault_by w t n s ≡ Some j → NotExpected j
+calm_by wanted.Body rec_word n s j e = calm_if (nat_le 200 s.depth) kind.TooDeep j None tt (λ g. absurd (cc g)) e
+calm_by wanted.Body (plain word) n s j e = calm_word n (follower n) word s j e
+calm_by wanted.Body _ n s j e = absurd (cc e)
+calm_by wanted.Role (plain word) n s j e = calm_not (is_among word s.roles) kind.UnknownRole j None tt (λ g. absurd (cc g)) e
+calm_by wanted.Role _ n s j e = absurd (cc e)
+calm_by wanted.ColonOrBrace open_brace n s j e = calm_if (nat_le 200 s.depth) kind.TooDeep j None tt (λ g. absurd (cc g)) e
+calm_by wanted.ColonOrBrace _ n s j e = absurd (cc e)
+calm_by wanted.Label rec_word n s j e = calm_label (codes "rec") s j e
+calm_by wanted.Label end_word n s j e = calm_label (codes "end") s j e
+calm_by wanted.Label (plain word) n s j e = calm_label word s j e
+calm_by wanted.Label _ n s j e = absurd (cc e)
+calm_by _ t n s j e = absurd (cc e)
+
+calm_line : (t : Sign) (roles : List (List ℕ)) (j : TextKind) → fault_in_line t roles ≡ Some j → NotExpected j
+calm_line (plain word) roles j e = calm_if (is_among word roles) kind.NameTwice j (if nat_le 16 (length roles) then Some kind.TooManyRoles else None) tt (λ f. calm_if (nat_le 16 (length roles)) kind.TooManyRoles j None tt (λ g. absurd (cc g)) f) e
+calm_line _ roles j e = absurd (cc e)
+
+-- names and limits never make another token expected
+calm_of : (c : ProtocolCut) (t n : Sign) (j : TextKind) → fault_of c t n ≡ Some j → NotExpected j
+calm_of at_begin t n j e = absurd (cc e)
+calm_of at_first t n j e = calm_line t [] j e
+calm_of (behind_first x) t n j e = absurd (cc e)
+calm_of (at_further x xs) t n j e = calm_line t (x ∷ xs) j e
+calm_of (behind_further x y xs) t n j e = absurd (cc e)
+calm_of (in_body x y xs body) t n j e = calm_by _ t n _ j e
+
+same_wanted : (v w : Wanted) → kind.Expected v ≡ kind.Expected w → v ≡ w
+same_wanted v w h = cc
+
+pub expected_at : (xs : List Sign) (t u : Sign) (w : Wanted) → FaultAt xs t u (kind.Expected w) → IsUnexpected xs t w
+expected_at xs t u w f = elim f [
+  | inl x ↦ subst (λ (z : Wanted). IsUnexpected xs t z) (sym (same_wanted w x.0 x.1)) x.2
+  | inr (inl m) ↦ absurd (calm_of m.place t u (kind.Expected w) m.fault)
+  | inr (inr b) ↦ absurd (subst NotExpected (sym b.1) (faulty_calm b.0))
+]
+
+-- another token is expected only where the tokens begin no protocol with this one
+pub expected : (bytes : List ℕ) (at : ℕ) (w : Wanted) (offset : ℕ) (f : FirstFault bytes at (kind.Expected w) offset) → IsUnexpected (signs_of f.before) f.token.sign w
+expected bytes at w offset f = expected_at (signs_of f.before) f.token.sign (next_of (signs_of f.others)) w f.fault

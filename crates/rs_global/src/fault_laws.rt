@@ -1,10 +1,14 @@
 // What the first fault of a text is, and that the reader tells it. The functions do nothing: each states a law.
 ghost use Rattle.std.specs.Prelude.{◌≡◌, ◌≤◌, ℕ, List, Ok, Err, length};
+ghost use Rattle.rs_model.specs.Data.{Names_data, Protocol_data};
 ghost use Rattle.rs_text.specs.declared.faults.TextFault.{TextFault};
 ghost use Rattle.rs_text.specs.declared.faults.TextKind.{TextKind};
+ghost use Rattle.rs_text.specs.declared.faults.TextKind.TheVariants as kind;
+ghost use Rattle.rs_text.specs.declared.faults.Wanted.{Wanted};
 ghost use Rattle.rs_text.specs.Lexemes.{signs_of};
-ghost use Rattle.rs_global.specs.Faults.{Begins, FirstFault};
+ghost use Rattle.rs_global.specs.Faults.{Begins, FirstFault, IsUnexpected};
 ghost use Rattle.rs_global.specs.Feeding.{Answer, ReadsAs};
+ghost use Rattle.rs_global.specs.Spells.{SpellsProtocol};
 
 /// Whatever fault the reader tells is the first fault of the text ..
 pub fn told_fault_is_the_first()
@@ -29,4 +33,20 @@ pub fn read_text_has_no_fault()
 /// The tokens before the first fault begin a protocol.
 pub fn tokens_before_the_fault_begin_a_protocol()
     ensures { (bytes : List ℕ) (at : ℕ) (kind : TextKind) (offset : ℕ) (fault : FirstFault bytes at kind offset) → Begins (signs_of fault.before) }
+{}
+
+/// Where another token is expected, the tokens up to that one begin a protocol and with it they begin none, and what is
+/// wanted is what its place wants.
+pub fn expected_is_unexpected()
+    ensures { (bytes : List ℕ) (at : ℕ) (wanted : Wanted) (offset : ℕ) (fault : FirstFault bytes at (kind.Expected wanted) offset) → IsUnexpected (signs_of fault.before) fault.token.sign wanted }
+{}
+
+/// A text that a tree spells is read ..
+pub fn spelt_text_is_read()
+    ensures { (bytes : List ℕ) (at : ℕ) (names : Names_data) (protocol : Protocol_data) (until : ℕ) → SpellsProtocol bytes at names protocol until → (answer : Answer) × ReadsAs bytes at (Ok answer) }
+{}
+
+/// .. and has no first fault.
+pub fn spelt_text_has_no_fault()
+    ensures { (bytes : List ℕ) (at : ℕ) (names : Names_data) (protocol : Protocol_data) (until : ℕ) (kind : TextKind) (offset : ℕ) → SpellsProtocol bytes at names protocol until → FirstFault bytes at kind offset → ⊥ }
 {}
