@@ -1,5 +1,5 @@
 -- What a token is where the reader stands: taken and not at fault, or unexpected, or at fault by names or limits, or before a faulty one.
-use Rattle.std.proofs.Common.{◌≡◌, ℕ, suc, List, [], ◌∷◌, ◌++◌, length, codes, Bool, true, false, if◌then◌else◌, nat_le, nat_lt, Option, Some, None, is_some, Ok, Err, refl, sym, ap, ◌∙◌, subst, ◌⊎◌, inl, inr}
+use Rattle.std.proofs.Common.{◌≡◌, ℕ, suc, List, [], ◌∷◌, ◌++◌, length, codes, Bool, true, false, if◌then◌else◌, nat_le, nat_lt, Option, Some, None, is_some, Ok, Err, refl, sym, ap, subst, ◌⊎◌, inl, inr}
 use Rattle.std.specs.Str.{bytes_eq}
 use Rattle.rs_model.specs.declared.graph.Role.{Role}
 use Rattle.rs_model.specs.declared.graph.Label.{Label}
@@ -13,7 +13,7 @@ use Rattle.rs_text.specs.declared.faults.Wanted.TheVariants as wanted
 use Rattle.rs_text.specs.Faults.{kind_of}
 use Rattle.rs_text.specs.Lexemes.{Lexeme}
 use Rattle.rs_text.specs.Names.{place_of, is_among, bound_to}
-use Rattle.rs_text.specs.Signs.{Sign, rec_word, end_word, plain, arrow, colon, dot, comma, open_brace, close_brace, open_paren, close_paren, broken, finish}
+use Rattle.rs_text.specs.Signs.{Sign, rec_word, end_word, plain, arrow, colon, dot, comma, open_brace, close_brace, open_paren, close_paren, broken}
 use Rattle.rs_text.proofs.Naming.{among, not_among}
 use Rattle.rs_global.specs.declared.reading.Frame.{Frame}
 use Rattle.rs_global.specs.declared.reading.Link.{Link}
@@ -23,7 +23,7 @@ use Rattle.rs_global.specs.Data.{Reader_data}
 use Rattle.rs_global.specs.Trees.{ends_a_name}
 use Rattle.rs_global.specs.Faults.{IsWhole}
 use Rattle.rs_global.specs.Scenes.{Scene, fault_of_name, fault_of_word, fault_of_sender}
-use Rattle.rs_global.specs.Feeding.{Fed, fault, expected, in_mode, linked, sort_named, new_role, sent_by, named, feed_word, feed_body, placed, met_by, feed_receiver, feed_mark, opened, label_of_number, labelled_by, feed_label, sorted_by, feed_sort, feed_next, feed_line, feed_roles, feed_at, feed_of, feed_sign}
+use Rattle.rs_global.specs.Feeding.{Fed, fault, expected, in_mode, linked, sort_named, new_role, sent_by, named, feed_word, feed_body, placed, met_by, feed_mark, opened, label_of_number, labelled_by, sorted_by, feed_sort, feed_next, feed_line, feed_roles, feed_at, feed_sign}
 use Rattle.rs_global.proofs.FaultRuns.{NotExpected, Follower, an_arrow, a_broken, a_name, follower, by_name}
 use Rattle.rs_global.proofs.FaultPlaces.{wanted_behind, wanted_by, scene_of, fault_seen, NamedBy}
 use Rattle.rs_global.proofs.FaultCuts.{takes}
@@ -73,7 +73,7 @@ step_guard false k w seen t at n x h calm s = s
 role_step : (after : Mode) (word : List ℕ) (at : ℕ) (n : Lexeme) (r : Reader_data) → Steps wanted.Role (if is_among word r.roles then Some kind.NameTwice else if nat_le 16 (length r.roles) then Some kind.TooManyRoles else None) (plain word) at n (new_role after (Some word) at r)
 role_step after word at n r =
     step_guard (is_among word r.roles) kind.NameTwice wanted.Role (if nat_le 16 (length r.roles) then Some kind.TooManyRoles else None) (plain word) at n (if nat_le 16 (length r.roles) then fault kind.TooManyRoles at else Ok (record r { roles = r.roles ++ word ∷ []; mode = after })) refl tt
-      (step_guard (nat_le 16 (length r.roles)) kind.TooManyRoles wanted.Role None (plain word) at n (Ok (record r { roles = r.roles ++ word ∷ []; mode = after })) refl tt (refl, refl))
+    (step_guard (nat_le 16 (length r.roles)) kind.TooManyRoles wanted.Role None (plain word) at n (Ok (record r { roles = r.roles ++ word ∷ []; mode = after })) refl tt (refl, refl))
 
 sent_step : (found : Option ℕ) (word : List ℕ) (from : Link) (at : ℕ) (n : Lexeme) (r : Reader_data) → place_of word r.roles ≡ found → Steps wanted.Body (fault_of_sender word (scene_of r)) (plain word) at n (sent_by found from at r)
 sent_step None word from at n r e = misplaced wanted.Body (fault_of_sender word (scene_of r)) (plain word) at n kind.UnknownRole refl tt
@@ -99,7 +99,7 @@ word_step _ an_arrow from word at n r e = sent_step (place_of word r.roles) word
 word_step _ (a_broken k) from word at n r e = inr (inr (record { kind = k; broken_is = e; kind_is = refl; at_is = refl; text = word; word = refl; body = refl; clear = refl }))
 word_step _ (a_name v h) from word at n r e =
     subst (λ (z : Fed). Steps wanted.Body (fault_of_word word v (scene_of r)) (plain word) at n z) (sym (by_name v from word at n.from r h))
-      (subst (λ (z : Option TextKind). Steps wanted.Body z (plain word) at n (named (bound_to word r.bound) from at r)) (sym (by_name_fault v word (scene_of r) h)) (named_step (bound_to word r.bound) word from at n r))
+    (subst (λ (z : Option TextKind). Steps wanted.Body z (plain word) at n (named (bound_to word r.bound) from at r)) (sym (by_name_fault v word (scene_of r) h)) (named_step (bound_to word r.bound) word from at n r))
 
 body_step : (from : Link) (t : Sign) (at : ℕ) (n : Lexeme) (r : Reader_data) → Steps wanted.Body (fault_seen (mode.Body from) t n.sign r) t at n (feed_body from t at n r)
 body_step from rec_word at n r = step_guard (nat_le 200 r.depth) kind.TooDeep wanted.Body None rec_word at n (Ok (record r { depth = suc r.depth; mode = mode.RecName from })) refl tt (refl, refl)
@@ -112,7 +112,7 @@ met_step : (found : Option ℕ) (c : Bool) (word : List ℕ) (from : Link) (s : 
 met_step None c word from s at n r e room = misplaced wanted.Role (if is_among word r.roles then None else Some kind.UnknownRole) (plain word) at n kind.UnknownRole refl tt (ap (λ z. if z then None else Some kind.UnknownRole) (not_among r.roles word 0 e))
 met_step (Some q) c word from s at n r e room =
     subst (λ (z : Bool). Steps wanted.Role (if is_among word r.roles then None else Some kind.UnknownRole) (plain word) at n (if z then fault kind.TooManyNodes at else Ok (placed from s q r))) (sym room)
-      (refl, ap (λ z. if z then None else Some kind.UnknownRole) (among r.roles word 0 q e))
+    (refl, ap (λ z. if z then None else Some kind.UnknownRole) (among r.roles word 0 q e))
 
 receiver_step : (from : Link) (s : Role) (t : Sign) (at : ℕ) (n : Lexeme) (r : Reader_data) → nat_le 1024 (length r.drafts) ≡ false → Steps wanted.Role (fault_seen (mode.Receiver from s) t n.sign r) t at n (feed_at (mode.Receiver from s) t at n r)
 receiver_step from s (plain word) at n r room = met_step (place_of word r.roles) true word from s at n r refl room
@@ -128,7 +128,7 @@ labelled_step : (found : Option ℕ) (node : ℕ) (word : List ℕ) (t : Sign) (
 labelled_step (Some k) node word t at n r h e = (h, ap (λ z. if z then None else if nat_le 256 (length r.labels) then Some kind.TooManyLabels else None) (among r.labels word 0 k e))
 labelled_step None node word t at n r h e =
     subst (λ (z : Bool). Steps wanted.Label (if z then None else if nat_le 256 (length r.labels) then Some kind.TooManyLabels else None) t at n (labelled_by None node word at r)) (sym (not_among r.labels word 0 e))
-      (step_guard (nat_le 256 (length r.labels)) kind.TooManyLabels wanted.Label None t at n (Ok (record r { labels = r.labels ++ word ∷ []; mode = mode.Paren node (label_of_number (length r.labels)) })) h tt (h, refl))
+    (step_guard (nat_le 256 (length r.labels)) kind.TooManyLabels wanted.Label None t at n (Ok (record r { labels = r.labels ++ word ∷ []; mode = mode.Paren node (label_of_number (length r.labels)) })) h tt (h, refl))
 
 label_step : (node : ℕ) (t : Sign) (at : ℕ) (n : Lexeme) (r : Reader_data) → Steps wanted.Label (fault_seen (mode.AtLabel node) t n.sign r) t at n (feed_at (mode.AtLabel node) t at n r)
 label_step node rec_word at n r = labelled_step (place_of (codes "rec") r.labels) node (codes "rec") rec_word at n r refl refl

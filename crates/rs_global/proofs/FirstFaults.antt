@@ -1,5 +1,5 @@
 -- The fault that the reader tells is the first fault of the text.
-use Rattle.std.proofs.Common.{codes, ◌≡◌, ℕ, suc, ◌≤◌, List, [], ◌∷◌, ◌++◌, length, map, Bool, true, false, if◌then◌else◌, Option, Some, None, Result, Ok, Err, refl, sym, ap, ◌∙◌, subst, ◌⊎◌, inl, inr, append_assoc, append-nil, arith}
+use Rattle.std.proofs.Common.{codes, ◌≡◌, ℕ, ◌≤◌, List, [], ◌∷◌, ◌++◌, length, Bool, true, false, if◌then◌else◌, Option, Some, None, Result, Ok, Err, refl, sym, ap, ◌∙◌, subst, ◌⊎◌, inl, inr, append_assoc, append-nil, arith}
 use Rattle.rs_text.specs.declared.tokens.FaultKind.{FaultKind}
 use Rattle.rs_text.specs.declared.faults.TextFault.{TextFault}
 use Rattle.rs_text.specs.declared.faults.TextKind.{TextKind}
@@ -8,7 +8,7 @@ use Rattle.rs_text.specs.declared.faults.Wanted.{Wanted}
 use Rattle.rs_text.specs.declared.faults.Wanted.TheVariants as wanted
 use Rattle.rs_text.specs.Faults.{kind_of, kind_number}
 use Rattle.rs_text.specs.Lexemes.{Lexeme, Lexed, signs_of, is_last, next_lexeme}
-use Rattle.rs_text.specs.Signs.{Sign, rec_word, end_word, plain, arrow, colon, dot, comma, open_brace, close_brace, open_paren, close_paren, broken, finish}
+use Rattle.rs_text.specs.Signs.{Sign, rec_word, plain, arrow, colon, dot, comma, open_brace, broken, finish}
 use Rattle.rs_text.specs.Tokens.{IsNext}
 use Rattle.rs_text.specs.Words.{is_role_word}
 use Rattle.rs_text.proofs.Gaps.{true_or_false}
@@ -17,16 +17,16 @@ use Rattle.rs_global.specs.declared.reading.Frame.{Frame}
 use Rattle.rs_global.specs.declared.reading.Mode.{Mode}
 use Rattle.rs_global.specs.declared.reading.Mode.TheVariants as mode
 use Rattle.rs_global.specs.Data.{Reader_data}
-use Rattle.rs_global.specs.Trees.{ProtocolTree, protocol_signs, arm_signs, body_signs}
+use Rattle.rs_global.specs.Trees.{protocol_signs, arm_signs, body_signs}
 use Rattle.rs_global.specs.Cuts.{Cut, at_body, behind_end, behind_name, behind_rec, behind_rec_name, in_binds, behind_arrow, behind_receiver, in_arm, in_talks, in_offers, behind_brace, BranchCut, in_head, in_branch, later, ProtocolCut, at_begin, at_first, behind_first, at_further, behind_further, in_body, cut_signs, branch_cut_signs, line_signs, protocol_cut_signs, wanted_in_arm, wanted_at, wanted_in, wanted_of, IsBehind}
 use Rattle.rs_global.specs.Cuts.{ArmCut, at_label, behind_label, behind_paren, behind_sort, behind_head}
 use Rattle.rs_global.specs.Scenes.{Scene, fault_by, fault_of}
-use Rattle.rs_global.specs.Faults.{Begins, IsWhole, IsWithin, EndsByName, IsInReach, IsUnexpected, IsMisplaced, IsBroken, FaultAt, next_of, AllClear, FirstFault}
-use Rattle.rs_global.specs.Feeding.{Fed, Reading, Answer, begin, feed_at, feed_next, feed_sign, is_read, no_frames, behind_body, next_lexeme_of, read_all, answered, ReadsAs}
+use Rattle.rs_global.specs.Faults.{Begins, IsWhole, IsWithin, EndsByName, IsInReach, FaultAt, next_of, AllClear, FirstFault}
+use Rattle.rs_global.specs.Feeding.{Fed, Reading, begin, feed_at, feed_next, feed_sign, is_read, no_frames, behind_body, read_all, answered, ReadsAs}
 use Rattle.rs_global.proofs.FaultRuns.{NotExpected, Lands, sign_behind, lexeme, Leads}
-use Rattle.rs_global.proofs.FaultPlaces.{wanted_behind, wanted_by, fault_seen, is_named, is_named_in, is_named_of, NamedBy, PlaceAgrees, place_passes, tree_passes, leads_split}
+use Rattle.rs_global.proofs.FaultPlaces.{wanted_by, fault_seen, is_named, is_named_in, is_named_of, NamedBy, PlaceAgrees, place_passes, tree_passes, leads_split}
 use Rattle.rs_global.proofs.FaultCuts.{takes, IsProper, proper_word, Grows, place_grows, word_grows, place_begins}
-use Rattle.rs_global.proofs.FaultSteps.{ToldUnexpected, ToldMisplaced, ToldBroken, Steps, IsArrowMode, steps, whole_fed}
+use Rattle.rs_global.proofs.FaultSteps.{ToldUnexpected, Steps, IsArrowMode, steps, whole_fed}
 
 -- these tokens lead the reader to r, with u behind them
 abbrev pub Reached : List Sign → Sign → Reader_data → Type 1
@@ -205,8 +205,18 @@ here_unexpected xs t at u r e reach there whole part s x =
     let a : PlaceAgrees there.0 t r = agree xs t r reach there.0 there.1 in
     record {
       at_is = x.at_is;
-      fault = inl (wanted_by r.mode r.frames, x.kind_is, record { whole = whole; place = there.0; stands = there.1; within = within_of there.0 (λ h. part (a.wanted ∙ h)); wants = sym a.wanted;
-        stops = stops_there xs t r (wanted_by r.mode r.frames) (λ v. fault_seen r.mode t v r) reach whole x.stops s });
+      fault = inl (
+        wanted_by r.mode r.frames,
+        x.kind_is,
+        record {
+          whole = whole;
+          place = there.0;
+          stands = there.1;
+          within = within_of there.0 (λ h. part (a.wanted ∙ h));
+          wants = sym a.wanted;
+          stops = stops_there xs t r (wanted_by r.mode r.frames) (λ v. fault_seen r.mode t v r) reach whole x.stops s;
+        },
+      );
       only = λ k f. elim f [
         | inl y ↦ y.1 ∙ ap (λ z. kind.Expected z) (sym y.2.wants ∙ sym (agree xs t r reach y.2.place y.2.stands).wanted) ∙ sym x.kind_is
         | inr (inl m) ↦ absurd (cc (sym m.fault ∙ (agree xs t r reach m.place m.stands).faults t u ∙ x.unseen))
@@ -239,9 +249,9 @@ on_steps (Err e) xs t at n r reach there proper whole part all s =
       | inl x ↦ inl (here_unexpected xs t at n.sign r e reach there whole part all x)
       | inr (inl m) ↦ inl (here_misplaced xs t at n.sign r e reach there (grows_there xs t there.0 there.1 (place_grows there.0 t proper (ap (λ z. takes z t) (sym a.wanted) ∙ m.taken))) whole m.at_is m.fault)
       | inr (inr b) ↦ (
-        let w = word_place there.0 b.text (sym a.wanted ∙ b.body) in
-        let signs : protocol_cut_signs w.0 ≡ xs ++ t ∷ [] = w.1 ∙ ap (λ z. z ++ plain b.text ∷ []) there.1 ∙ ap (λ z. xs ++ z ∷ []) (sym b.word) in
-        inr (record { kind = b.kind; broken_is = b.broken_is; kind_is = b.kind_is; at_is = b.at_is; clear = clear_of xs t n.sign r reach (w.0, signs) whole b.clear; place = w.0; stands = signs; reached = named_reach w.0 w.2 }))
+          let w = word_place there.0 b.text (sym a.wanted ∙ b.body) in
+          let signs : protocol_cut_signs w.0 ≡ xs ++ t ∷ [] = w.1 ∙ ap (λ z. z ++ plain b.text ∷ []) there.1 ∙ ap (λ z. xs ++ z ∷ []) (sym b.word) in
+          inr (record { kind = b.kind; broken_is = b.broken_is; kind_is = b.kind_is; at_is = b.at_is; clear = clear_of xs t n.sign r reach (w.0, signs) whole b.clear; place = w.0; stands = signs; reached = named_reach w.0 w.2 }))
     ]
 
 -- ---- at an arrow that was seen
@@ -271,9 +281,9 @@ whole_verdict xs t at n r reach there proper whole unread =
     let a : PlaceAgrees there.0 t r = agree xs t r reach there.0 there.1 in
     subst (λ (z : Fed). Verdict xs t at n z) (sym (whole_fed t at n r whole)) (elim (arrow_or r.mode) [
       | inl m ↦ (
-        let f = arrow_facts r.mode t (is_named_of there.0) r m a.named in
-        let on : There (xs ++ t ∷ []) = subst (λ (z : Sign). There (xs ++ z ∷ [])) (sym f.0) (grows_there xs arrow there.0 there.1 (word_grows there.0 f.1)) in
-        arrow_verdict xs t at n r f.0 m on (clear_of xs t n.sign r reach on whole (arrow_unseen r.mode t n.sign r m)))
+          let f = arrow_facts r.mode t (is_named_of there.0) r m a.named in
+          let on : There (xs ++ t ∷ []) = subst (λ (z : Sign). There (xs ++ z ∷ [])) (sym f.0) (grows_there xs arrow there.0 there.1 (word_grows there.0 f.1)) in
+          arrow_verdict xs t at n r f.0 m on (clear_of xs t n.sign r reach on whole (arrow_unseen r.mode t n.sign r m)))
       | inr m ↦ on_steps (feed_at r.mode t at n r) xs t at n r reach there proper whole (not_part r.mode r.frames m unread)
           (λ k. steps r.mode t 0 k r t (is_named_of there.0) a.named m) (steps r.mode t at n r t (is_named_of there.0) a.named m)
     ])

@@ -1,44 +1,35 @@
 -- A text that a tree spells is read, so it has no first fault.
-use Rattle.std.proofs.Common.{◌≡◌, ℕ, zero, suc, ◌+◌, ◌-◌, List, [], ◌∷◌, ◌++◌, length, drop, codes, Bool, true, false, if◌then◌else◌, nat_le, nat_lt, Option, Some, None, Result, Ok, Err, refl, sym, ap, ◌∙◌, subst, arith, append_assoc, append-nil, length-append, slice_get}
-use Rattle.std.proofs.lemmas.List.{length-set}
-use Rattle.std.proofs.Math.Seq.{drop-append_seam}
+use Rattle.std.proofs.Common.{◌≡◌, ℕ, suc, ◌+◌, ◌-◌, List, [], ◌∷◌, ◌++◌, length, drop, codes, Bool, true, false, if◌then◌else◌, nat_le, nat_lt, Option, Some, None, Ok, Err, refl, sym, ap, ◌∙◌, subst, arith, append_assoc, append-nil, length-append}
 use Rattle.std.proofs.lemmas.Slice.Eq.{bytes_eq-Decides}
 use Rattle.std.specs.Str.{bytes_eq}
 use Rattle.rs_model.specs.declared.graph.Role.{Role}
 use Rattle.rs_model.specs.declared.graph.Label.{Label}
 use Rattle.rs_model.specs.declared.values.Sort.{Sort}
 use Rattle.rs_model.specs.declared.values.Sort.TheVariants as sort
-use Rattle.rs_text.specs.declared.tokens.FaultKind.{FaultKind}
-use Rattle.rs_text.specs.declared.tokens.FaultKind.TheVariants as faulty
 use Rattle.rs_text.specs.declared.faults.TextKind.{TextKind}
 use Rattle.rs_text.specs.declared.faults.TextKind.TheVariants as kind
-use Rattle.rs_text.specs.Faults.{kind_of}
-use Rattle.rs_text.specs.Lexemes.{Lexeme, Lexed, signs_of}
+use Rattle.rs_text.specs.Lexemes.{Lexeme, signs_of}
 use Rattle.rs_text.specs.Names.{place_of, is_among, grown, Bound, bound_to}
-use Rattle.rs_text.specs.Signs.{Sign, rec_word, end_word, plain, number, arrow, bang, question, colon, dot, comma, open_brace, close_brace, open_paren, close_paren, open_bracket, close_bracket, broken, finish, word_sign}
+use Rattle.rs_text.specs.Signs.{Sign, plain, arrow, colon, dot, comma, open_brace, close_brace, open_paren, close_paren, word_sign}
 use Rattle.rs_text.proofs.Naming.{among, not_among, grown_append}
 use Rattle.rs_global.specs.declared.reading.Frame.{Frame}
 use Rattle.rs_global.specs.declared.reading.Link.{Link}
 use Rattle.rs_global.specs.declared.reading.Link.TheVariants as link
 use Rattle.rs_global.specs.declared.reading.Mode.{Mode}
 use Rattle.rs_global.specs.declared.reading.Mode.TheVariants as mode
-use Rattle.rs_global.specs.declared.drafts.DraftArm.{DraftArm}
-use Rattle.rs_global.specs.Data.{Reader_data, Draft_data}
-use Rattle.rs_global.specs.Drafts.{with_arm, names_read, protocol_of}
+use Rattle.rs_global.specs.Data.{Reader_data}
+use Rattle.rs_global.specs.Drafts.{names_read, protocol_of}
 use Rattle.rs_model.specs.Data.{Names_data, Protocol_data}
-use Rattle.rs_global.specs.Trees.{ProtocolTree, protocol_signs, roles_of, further_signs, ends_by_name, Body, ends, again, binds, talks, offers, Branches, one, more, sort_text, sort_signs, arm_signs, body_signs, branch_signs, ends_a_name}
+use Rattle.rs_global.specs.Trees.{ProtocolTree, protocol_signs, roles_of, further_signs, ends_by_name, Body, ends, again, binds, talks, offers, Branches, one, more, sort_signs, arm_signs, body_signs, branch_signs, ends_a_name}
 use Rattle.rs_global.specs.Graph.{labels_of, labels_of_arms, talks_in, talks_in_arms}
 use Rattle.rs_global.specs.Feeding.{begin, feed_at, feed_next, new_role, is_read, read_all, answered, Answer, Reading, ReadsAs, next_lexeme_of, Fed, fault, in_mode, linked, linked_root, linked_drafts, sent_by, named, feed_word, placed, met_by, opened, label_of_number, labelled_by, feed_sign}
-
-use Rattle.std.proofs.Common.{◌&&◌, ◌||◌, ◌≤◌, ◌<◌, inl, inr}
+use Rattle.std.proofs.Common.{◌&&◌, ◌||◌, ◌≤◌, inl, inr}
 use Rattle.std.proofs.lemmas.Bool.Decides.{leb_tells}
-use Rattle.std.specs.List.{flat_map, list_any}
-use Rattle.rs_text.specs.declared.faults.TextFault.{TextFault}
+use Rattle.std.specs.List.{flat_map}
 use Rattle.rs_text.specs.Sound.{differ}
 use Rattle.rs_text.proofs.Gaps.{true_or_false}
 use Rattle.rs_text.proofs.Nexts.{one_list}
-use Rattle.rs_global.specs.Cuts.{line_signs}
-use Rattle.rs_global.specs.Faults.{FirstFault, IsWhole}
+use Rattle.rs_global.specs.Faults.{FirstFault}
 use Rattle.rs_global.specs.Scenes.{Scene, with_label, in_talk, behind}
 use Rattle.rs_global.specs.Spells.{is_guarded, has_room_for, body_fits, arms_fit, Fits, SpellsProtocol}
 use Rattle.rs_global.proofs.FaultRuns.{sign_behind, lexeme, by_name, linked_length, placed_length, label_fed, Goes, frame_at, restored_bound}
@@ -106,7 +97,7 @@ labelled_found (Some k) l node at r Q e room h = h (label_of_number k) r.labels 
 labelled_found None l node at r Q e room h =
     let new : is_among l r.labels ≡ false = not_among r.labels l 0 e in
     strict_if (nat_le 256 (length r.labels)) kind.TooManyLabels at (Ok (record r { labels = r.labels ++ l ∷ []; mode = mode.Paren node (label_of_number (length r.labels)) })) Q (not_above (length r.labels) 256 (room_or (is_among l r.labels) (nat_lt (length r.labels) 256) room new))
-      (h (label_of_number (length r.labels)) (r.labels ++ l ∷ []) (sym (ap (λ z. if z then r.labels else r.labels ++ l ∷ []) new)))
+    (h (label_of_number (length r.labels)) (r.labels ++ l ∷ []) (sym (ap (λ z. if z then r.labels else r.labels ++ l ∷ []) new)))
 
 label_found : (l : List ℕ) (node at : ℕ) (n : Lexeme) (r : Reader_data) (Q : Reader_data → Type 0) → has_room_for l (scene_of r) ≡ true → ((k : Label) → Q (record r { labels = grown r.labels (l ∷ []); mode = mode.Paren node k }))
     → Strict (feed_sign (word_sign l) at n (record r { mode = mode.AtLabel node })) Q
@@ -134,12 +125,12 @@ mutual
   body_runs : (b : Body) (from : Link) (r : Reader_data) (ts : List Sign) (u : Sign) (Q : Reader_data → Type 0) → body_fits b (scene_of r) ≡ true → (ends_by_name b ≡ true → ends_a_name (sign_behind ts u) ≡ true) → Goes (labels_of b) (talks_in b) r (λ e. Runs ts u Q e) → Runs (body_signs b ++ ts) u Q (record r { mode = mode.Body from })
   body_runs ends from r ts u Q fits h k = λ at f n. k r.labels (linked_drafts from None r.drafts) (linked_root from None r.root) true r.bound [] r.depth refl (linked_length from None r.drafts ∙ omega arith) refl
   body_runs (again name) from r ts u Q fits h k = λ at f n. name_found (sign_behind ts u) from name at f (record r { mode = mode.Body from }) (λ e. Runs ts u Q e) (h refl) fits
-    (λ j. k r.labels (linked_drafts from (Some j) r.drafts) (linked_root from (Some j) r.root) r.ended r.bound [] r.depth refl (linked_length from (Some j) r.drafts ∙ omega arith) refl)
+      (λ j. k r.labels (linked_drafts from (Some j) r.drafts) (linked_root from (Some j) r.root) r.ended r.bound [] r.depth refl (linked_length from (Some j) r.drafts ∙ omega arith) refl)
   body_runs (binds name body) from r ts u Q fits h k =
       let p = and_split (nat_lt r.depth 200) (body_fits body (record (scene_of r) { bound = (name, length r.drafts) ∷ r.bound; depth = suc r.depth })) fits in
       λ at f n. strict_if (nat_le 200 r.depth) kind.TooDeep at (Ok (record r { depth = suc r.depth; mode = mode.RecName from })) (λ e. Runs (plain name ∷ dot ∷ (body_signs body ++ ts)) u Q e) (not_above r.depth 200 p.0)
-        (λ a f n. λ a f n. body_runs body from (record r { depth = suc r.depth; bound = (name, length r.drafts) ∷ r.bound }) ts u Q p.1 h
-          (λ labels drafts root ended bound inner depth l d b. k labels drafts root ended bound (inner ++ (name, length r.drafts) ∷ []) depth l d (b ∙ sym (append_assoc inner ((name, length r.drafts) ∷ []) r.bound))))
+      (λ a f n. λ a f n. body_runs body from (record r { depth = suc r.depth; bound = (name, length r.drafts) ∷ r.bound }) ts u Q p.1 h
+      (λ labels drafts root ended bound inner depth l d b. k labels drafts root ended bound (inner ++ (name, length r.drafts) ∷ []) depth l d (b ∙ sym (append_assoc inner ((name, length r.drafts) ∷ []) r.bound))))
   body_runs (talks x y l s body) from r ts u Q fits h k =
       let o : Scene = with_label l (in_talk (scene_of r)) in
       let p4 = and_split (is_among x r.roles && nat_lt (length r.drafts) 1024 && is_among y r.roles && has_room_for l (scene_of r)) (body_fits body o) fits in
@@ -147,14 +138,14 @@ mutual
       let p2 = and_split (is_among x r.roles && nat_lt (length r.drafts) 1024) (is_among y r.roles) p3.0 in
       let p1 = and_split (is_among x r.roles) (nat_lt (length r.drafts) 1024) p2.0 in
       λ at f n. sent_found (place_of x r.roles) x from at (record r { mode = mode.Body from }) (λ e. Runs (arrow ∷ plain y ∷ colon ∷ ((arm_signs l s ++ body_signs body) ++ ts)) u Q e) refl p1.0 p1.1
-        (λ role. λ a f n. λ a f n. met_found (place_of y r.roles) y from role a (record r { mode = mode.Receiver from role }) (λ e. Runs (colon ∷ ((arm_signs l s ++ body_signs body) ++ ts)) u Q e) refl p2.1 p1.1
-          (λ q. λ a f n.
-            let p : Reader_data = placed from role q r in
-            subst (λ (z : List Sign). Runs z u Q (record p { mode = mode.AtLabel (length r.drafts) })) (sym (append_assoc (arm_signs l s) (body_signs body) ts))
-              (arm_runs l s (length r.drafts) p (body_signs body ++ ts) u Q p3.1
-                (λ label sort. body_runs body (link.OfArm (length r.drafts) label sort) (record p { labels = grown r.labels (l ∷ []) }) ts u Q
-                  (ap (λ z. body_fits body (record { roles = r.roles; bound = r.bound; depth = r.depth; talks = z; labels = grown r.labels (l ∷ []) })) (placed_length from role q r) ∙ p4.1) h
-                  (λ labels drafts root ended bound inner depth g d b. k labels drafts root ended bound inner depth g (let c : length p.drafts ≡ suc (length r.drafts) = placed_length from role q r in d ∙ ap (λ z. z + talks_in body) c ∙ omega arith) b)))))
+      (λ role. λ a f n. λ a f n. met_found (place_of y r.roles) y from role a (record r { mode = mode.Receiver from role }) (λ e. Runs (colon ∷ ((arm_signs l s ++ body_signs body) ++ ts)) u Q e) refl p2.1 p1.1
+      (λ q. λ a f n.
+      let p : Reader_data = placed from role q r in
+      subst (λ (z : List Sign). Runs z u Q (record p { mode = mode.AtLabel (length r.drafts) })) (sym (append_assoc (arm_signs l s) (body_signs body) ts))
+      (arm_runs l s (length r.drafts) p (body_signs body ++ ts) u Q p3.1
+      (λ label sort. body_runs body (link.OfArm (length r.drafts) label sort) (record p { labels = grown r.labels (l ∷ []) }) ts u Q
+      (ap (λ z. body_fits body (record { roles = r.roles; bound = r.bound; depth = r.depth; talks = z; labels = grown r.labels (l ∷ []) })) (placed_length from role q r) ∙ p4.1) h
+      (λ labels drafts root ended bound inner depth g d b. k labels drafts root ended bound inner depth g (let c : length p.drafts ≡ suc (length r.drafts) = placed_length from role q r in d ∙ ap (λ z. z + talks_in body) c ∙ omega arith) b)))))
   body_runs (offers x y arms) from r ts u Q fits h k =
       let o : Scene = record (scene_of r) { talks = suc (length r.drafts); depth = suc r.depth } in
       let p4 = and_split (is_among x r.roles && nat_lt (length r.drafts) 1024 && is_among y r.roles && nat_lt r.depth 200) (arms_fit arms o) fits in
@@ -162,15 +153,15 @@ mutual
       let p2 = and_split (is_among x r.roles && nat_lt (length r.drafts) 1024) (is_among y r.roles) p3.0 in
       let p1 = and_split (is_among x r.roles) (nat_lt (length r.drafts) 1024) p2.0 in
       λ at f n. sent_found (place_of x r.roles) x from at (record r { mode = mode.Body from }) (λ e. Runs (arrow ∷ plain y ∷ open_brace ∷ ((branch_signs arms ++ close_brace ∷ []) ++ ts)) u Q e) refl p1.0 p1.1
-        (λ role. λ a f n. λ a f n. met_found (place_of y r.roles) y from role a (record r { mode = mode.Receiver from role }) (λ e. Runs (open_brace ∷ ((branch_signs arms ++ close_brace ∷ []) ++ ts)) u Q e) refl p2.1 p1.1
-          (λ q. λ a f n.
-            let p : Reader_data = placed from role q r in
-            strict_if (nat_le 200 r.depth) kind.TooDeep a (Ok (opened (length r.drafts) p)) (λ e. Runs ((branch_signs arms ++ close_brace ∷ []) ++ ts) u Q e) (not_above r.depth 200 p3.1)
-              (subst (λ (z : List Sign). Runs z u Q (opened (length r.drafts) p)) (sym (append_assoc (branch_signs arms) (close_brace ∷ []) ts))
-                (branches_run arms (length r.drafts) (record p { depth = suc r.depth }) (length r.drafts) r.frames (close_brace ∷ ts) u Q
-                  (ap (λ z. arms_fit arms (record { roles = r.roles; bound = r.bound; depth = suc r.depth; talks = z; labels = r.labels })) (placed_length from role q r) ∙ p4.1) refl
-                  (λ labels drafts root ended bound inner depth g d b. λ a f n.
-                    k labels drafts root ended (drop (length bound - length r.bound) bound) [] (suc r.depth) g (let c : length p.drafts ≡ suc (length r.drafts) = placed_length from role q r in d ∙ ap (λ z. z + talks_in_arms arms) c ∙ omega arith) (restored_bound inner bound r.bound b))))))
+      (λ role. λ a f n. λ a f n. met_found (place_of y r.roles) y from role a (record r { mode = mode.Receiver from role }) (λ e. Runs (open_brace ∷ ((branch_signs arms ++ close_brace ∷ []) ++ ts)) u Q e) refl p2.1 p1.1
+      (λ q. λ a f n.
+      let p : Reader_data = placed from role q r in
+      strict_if (nat_le 200 r.depth) kind.TooDeep a (Ok (opened (length r.drafts) p)) (λ e. Runs ((branch_signs arms ++ close_brace ∷ []) ++ ts) u Q e) (not_above r.depth 200 p3.1)
+      (subst (λ (z : List Sign). Runs z u Q (opened (length r.drafts) p)) (sym (append_assoc (branch_signs arms) (close_brace ∷ []) ts))
+      (branches_run arms (length r.drafts) (record p { depth = suc r.depth }) (length r.drafts) r.frames (close_brace ∷ ts) u Q
+      (ap (λ z. arms_fit arms (record { roles = r.roles; bound = r.bound; depth = suc r.depth; talks = z; labels = r.labels })) (placed_length from role q r) ∙ p4.1) refl
+      (λ labels drafts root ended bound inner depth g d b. λ a f n.
+      k labels drafts root ended (drop (length bound - length r.bound) bound) [] (suc r.depth) g (let c : length p.drafts ≡ suc (length r.drafts) = placed_length from role q r in d ∙ ap (λ z. z + talks_in_arms arms) c ∙ omega arith) (restored_bound inner bound r.bound b))))))
 
   branches_run : (arms : Branches) (node : ℕ) (r : Reader_data) (m : ℕ) (fs : List Frame) (ts : List Sign) (u : Sign) (Q : Reader_data → Type 0) → arms_fit arms (scene_of r) ≡ true → ends_a_name (sign_behind ts u) ≡ true
       → Goes (labels_of_arms arms) (talks_in_arms arms) (record r { frames = frame_at m r.bound r.depth ∷ fs }) (λ e. Runs ts u Q e) → Runs (branch_signs arms ++ ts) u Q (record r { frames = frame_at m r.bound r.depth ∷ fs; mode = mode.AtLabel node })
@@ -178,25 +169,25 @@ mutual
       let o : Reader_data = record r { frames = frame_at m r.bound r.depth ∷ fs } in
       let p = and_split (has_room_for l (scene_of r)) (body_fits body (with_label l (scene_of r))) fits in
       subst (λ (z : List Sign). Runs z u Q (record o { mode = mode.AtLabel node })) (sym (append_assoc (arm_signs l s) (body_signs body) ts))
-        (arm_runs l s node o (body_signs body ++ ts) u Q p.0
-          (λ label sort. body_runs body (link.OfArm node label sort) (record o { labels = grown r.labels (l ∷ []) }) ts u Q p.1 (λ e. h)
-            (λ labels drafts root ended bound inner depth g d b. k labels drafts root ended bound inner depth g d b)))
+      (arm_runs l s node o (body_signs body ++ ts) u Q p.0
+      (λ label sort. body_runs body (link.OfArm node label sort) (record o { labels = grown r.labels (l ∷ []) }) ts u Q p.1 (λ e. h)
+      (λ labels drafts root ended bound inner depth g d b. k labels drafts root ended bound inner depth g d b)))
   branches_run (more l s body arms) node r m fs ts u Q fits h k =
       let o : Reader_data = record r { frames = frame_at m r.bound r.depth ∷ fs } in
       let p2 = and_split (has_room_for l (scene_of r) && body_fits body (with_label l (scene_of r))) (arms_fit arms (behind body (with_label l (scene_of r)))) fits in
       let p1 = and_split (has_room_for l (scene_of r)) (body_fits body (with_label l (scene_of r))) p2.0 in
       let shape : (arm_signs l s ++ (body_signs body ++ comma ∷ branch_signs arms)) ++ ts ≡ arm_signs l s ++ (body_signs body ++ comma ∷ (branch_signs arms ++ ts)) =
-        append_assoc (arm_signs l s) (body_signs body ++ comma ∷ branch_signs arms) ts ∙ ap (λ z. arm_signs l s ++ z) (append_assoc (body_signs body) (comma ∷ branch_signs arms) ts) in
+      append_assoc (arm_signs l s) (body_signs body ++ comma ∷ branch_signs arms) ts ∙ ap (λ z. arm_signs l s ++ z) (append_assoc (body_signs body) (comma ∷ branch_signs arms) ts) in
       subst (λ (z : List Sign). Runs z u Q (record o { mode = mode.AtLabel node })) (sym shape)
-        (arm_runs l s node o (body_signs body ++ comma ∷ (branch_signs arms ++ ts)) u Q p1.0
-          (λ label sort. body_runs body (link.OfArm node label sort) (record o { labels = grown r.labels (l ∷ []) }) (comma ∷ (branch_signs arms ++ ts)) u Q p1.1 (λ e. refl)
-            (λ labels drafts root ended bound inner depth g d b. λ a f n.
-              let back : Reader_data = record o { labels = labels; drafts = drafts; root = root; ended = ended } in
-              let there : scene_of back ≡ behind body (with_label l (scene_of r)) = ap (λ z. record { roles = r.roles; bound = r.bound; depth = r.depth; talks = z; labels = labels }) d ∙ ap (λ z. record { roles = r.roles; bound = r.bound; depth = r.depth; talks = length r.drafts + talks_in body; labels = z }) g in
-              subst (λ (z : Bound). Runs (branch_signs arms ++ ts) u Q (record back { bound = z; mode = mode.AtLabel m })) (sym (restored_bound inner bound r.bound b))
-                (branches_run arms m back m fs ts u Q (ap (λ z. arms_fit arms z) there ∙ p2.1) h (λ labels' drafts' root' ended' bound' inner' depth' g' d' b'. k labels' drafts' root' ended' bound' inner' depth'
-                  (g' ∙ ap (λ z. grown z (labels_of_arms arms)) g ∙ sym (grown_append (labels_of body) (labels_of_arms arms) (grown r.labels (l ∷ []))))
-                  (d' ∙ ap (λ z. z + talks_in_arms arms) d ∙ omega arith) b')))))
+      (arm_runs l s node o (body_signs body ++ comma ∷ (branch_signs arms ++ ts)) u Q p1.0
+      (λ label sort. body_runs body (link.OfArm node label sort) (record o { labels = grown r.labels (l ∷ []) }) (comma ∷ (branch_signs arms ++ ts)) u Q p1.1 (λ e. refl)
+      (λ labels drafts root ended bound inner depth g d b. λ a f n.
+      let back : Reader_data = record o { labels = labels; drafts = drafts; root = root; ended = ended } in
+      let there : scene_of back ≡ behind body (with_label l (scene_of r)) = ap (λ z. record { roles = r.roles; bound = r.bound; depth = r.depth; talks = z; labels = labels }) d ∙ ap (λ z. record { roles = r.roles; bound = r.bound; depth = r.depth; talks = length r.drafts + talks_in body; labels = z }) g in
+      subst (λ (z : Bound). Runs (branch_signs arms ++ ts) u Q (record back { bound = z; mode = mode.AtLabel m })) (sym (restored_bound inner bound r.bound b))
+      (branches_run arms m back m fs ts u Q (ap (λ z. arms_fit arms z) there ∙ p2.1) h (λ labels' drafts' root' ended' bound' inner' depth' g' d' b'. k labels' drafts' root' ended' bound' inner' depth'
+      (g' ∙ ap (λ z. grown z (labels_of_arms arms)) g ∙ sym (grown_append (labels_of body) (labels_of_arms arms) (grown r.labels (l ∷ []))))
+      (d' ∙ ap (λ z. z + talks_in_arms arms) d ∙ omega arith) b')))))
 
 -- ---- the roles line
 
@@ -237,24 +228,24 @@ few ps w ws h = elim (leb_tells 16 (length ps)) [
 role_found : (after : Mode) (word : List ℕ) (at : ℕ) (r : Reader_data) (Q : Reader_data → Type 0) → is_among word r.roles ≡ false → nat_le 16 (length r.roles) ≡ false → Q (record r { roles = r.roles ++ word ∷ []; mode = after }) → Strict (new_role after (Some word) at r) Q
 role_found after word at r Q new room h =
     strict_if (is_among word r.roles) kind.NameTwice at (if nat_le 16 (length r.roles) then fault kind.TooManyRoles at else Ok (record r { roles = r.roles ++ word ∷ []; mode = after })) Q new
-      (strict_if (nat_le 16 (length r.roles)) kind.TooManyRoles at (Ok (record r { roles = r.roles ++ word ∷ []; mode = after })) Q room h)
+    (strict_if (nat_le 16 (length r.roles)) kind.TooManyRoles at (Ok (record r { roles = r.roles ++ word ∷ []; mode = after })) Q room h)
 
 line_runs : (xs : List (List ℕ)) (r : Reader_data) (ts : List Sign) (u : Sign) (Q : Reader_data → Type 0) → differ (r.roles ++ xs) ≡ true → length (r.roles ++ xs) ≤ 16 → Runs ts u Q (record r { roles = r.roles ++ xs; mode = mode.Line }) → Runs (flat_map further_signs xs ++ ts) u Q (record r { mode = mode.Line })
 line_runs [] r ts u Q d l h = subst (λ (z : List (List ℕ)). Runs ts u Q (record r { roles = z; mode = mode.Line })) (append-nil r.roles) h
 line_runs (x ∷ xs) r ts u Q d l h =
     let shape : r.roles ++ x ∷ xs ≡ (r.roles ++ x ∷ []) ++ xs = sym (append_assoc r.roles (x ∷ []) xs) in
     λ a f n. λ a f n. role_found mode.Line x a (record r { mode = mode.FurtherRole }) (λ d. Runs (flat_map further_signs xs ++ ts) u Q d) (differ_new r.roles x xs d) (few r.roles x xs l)
-      (line_runs xs (record r { roles = r.roles ++ x ∷ [] }) ts u Q (ap differ (sym shape) ∙ d) (subst (λ (z : List (List ℕ)). length z ≤ 16) shape l)
-        (subst (λ (z : List (List ℕ)). Runs ts u Q (record r { roles = z; mode = mode.Line })) shape h))
+    (line_runs xs (record r { roles = r.roles ++ x ∷ [] }) ts u Q (ap differ (sym shape) ∙ d) (subst (λ (z : List (List ℕ)). length z ≤ 16) shape l)
+    (subst (λ (z : List (List ℕ)). Runs ts u Q (record r { roles = z; mode = mode.Line })) shape h))
 
 -- a tree whose names and limits fit is read to its end
 pub tree_runs : (t : ProtocolTree) (u : Sign) → Fits t → (ends_by_name t.body ≡ true → ends_a_name u ≡ true) → Runs (protocol_signs t) u (λ d. is_read d ≡ true) begin
 tree_runs t u fits h = λ a f n. λ a f n. role_found mode.FirstComma t.first a (record begin { mode = mode.FirstRole }) (λ d. Runs (comma ∷ plain t.second ∷ (flat_map further_signs t.further ++ plain (codes "protocol") ∷ body_signs t.body)) u (λ d. is_read d ≡ true) d) refl refl
     (λ a f n. λ a f n. role_found mode.Line t.second a (record begin { roles = t.first ∷ []; mode = mode.FurtherRole }) (λ d. Runs (flat_map further_signs t.further ++ plain (codes "protocol") ∷ body_signs t.body) u (λ d. is_read d ≡ true) d)
-      (differ_new (t.first ∷ []) t.second t.further fits.roles_differ) refl
-      (line_runs t.further (record begin { roles = t.first ∷ t.second ∷ [] }) (plain (codes "protocol") ∷ body_signs t.body) u (λ d. is_read d ≡ true) fits.roles_differ fits.few_roles
-        (λ a f n. subst (λ (z : List Sign). Runs z u (λ d. is_read d ≡ true) (record begin { roles = roles_of t; mode = mode.Body link.Root })) (append-nil (body_signs t.body))
-          (body_runs t.body link.Root (record begin { roles = roles_of t }) [] u (λ d. is_read d ≡ true) fits.body h (λ labels drafts root ended bound inner depth g d b. refl)))))
+    (differ_new (t.first ∷ []) t.second t.further fits.roles_differ) refl
+    (line_runs t.further (record begin { roles = t.first ∷ t.second ∷ [] }) (plain (codes "protocol") ∷ body_signs t.body) u (λ d. is_read d ≡ true) fits.roles_differ fits.few_roles
+    (λ a f n. subst (λ (z : List Sign). Runs z u (λ d. is_read d ≡ true) (record begin { roles = roles_of t; mode = mode.Body link.Root })) (append-nil (body_signs t.body))
+    (body_runs t.body link.Root (record begin { roles = roles_of t }) [] u (λ d. is_read d ≡ true) fits.body h (λ labels drafts root ended bound inner depth g d b. refl)))))
 
 -- ---- as the tokens of a text
 
@@ -299,9 +290,10 @@ spelt_reads bytes at names protocol until s =
 
 pub spelt_is_read : (bytes : List ℕ) (at : ℕ) (names : Names_data) (protocol : Protocol_data) (until : ℕ) → SpellsProtocol bytes at names protocol until → (answer : Answer) × ReadsAs bytes at (Ok answer)
 spelt_is_read bytes at names protocol until s =
-    let y = spelt_reads bytes at names protocol until s in
-    (record { names = names_read y.0.reader; protocol = protocol_of y.0.reader; until = y.0.until },
-      λ ls h. ap (λ z. answered (read_all (Ok begin) z)) (one_list bytes ls (s.lexemes ++ s.behind ∷ s.others) at h s.lexed) ∙ ap answered y.1)
+    let y = spelt_reads bytes at names protocol until s in (
+      record { names = names_read y.0.reader; protocol = protocol_of y.0.reader; until = y.0.until },
+      λ ls h. ap (λ z. answered (read_all (Ok begin) z)) (one_list bytes ls (s.lexemes ++ s.behind ∷ s.others) at h s.lexed) ∙ ap answered y.1,
+    )
 
 -- .. and has no first fault
 pub spelt_no_fault : (bytes : List ℕ) (at : ℕ) (names : Names_data) (protocol : Protocol_data) (until : ℕ) (k : TextKind) (offset : ℕ) → SpellsProtocol bytes at names protocol until → FirstFault bytes at k offset → ⊥

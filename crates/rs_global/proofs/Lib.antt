@@ -7,6 +7,7 @@ pub mod FaultCuts
 pub mod FaultSteps
 pub mod FirstFaults
 pub mod OneFault
+pub mod Refusals
 pub mod Fitting
 pub mod Answers
 pub mod Sounding

@@ -1,36 +1,30 @@
 -- A text that is read to the end of its protocol has no first fault, and any text has one at most.
-use Rattle.std.proofs.Common.{codes, ◌≡◌, ℕ, suc, ◌≤◌, List, [], ◌∷◌, ◌++◌, length, map, Bool, true, false, if◌then◌else◌, Option, Some, None, Result, Ok, Err, refl, sym, ap, ◌∙◌, subst, ◌⊎◌, inl, inr, append_assoc, append-nil, arith}
-use Rattle.rs_text.specs.declared.tokens.FaultKind.{FaultKind}
+use Rattle.std.proofs.Common.{codes, ◌≡◌, ℕ, List, [], ◌∷◌, ◌++◌, length, Bool, true, false, if◌then◌else◌, Option, Some, None, Result, Ok, Err, refl, sym, ap, ◌∙◌, subst, inl, inr, append_assoc, append-nil}
 use Rattle.rs_text.specs.declared.faults.TextFault.{TextFault}
 use Rattle.rs_text.specs.declared.faults.TextKind.{TextKind}
 use Rattle.rs_text.specs.declared.faults.TextKind.TheVariants as kind
 use Rattle.rs_text.specs.declared.faults.Wanted.{Wanted}
 use Rattle.rs_text.specs.declared.faults.Wanted.TheVariants as wanted
-use Rattle.rs_text.specs.Faults.{kind_of, kind_number}
-use Rattle.rs_text.specs.Lexemes.{Lexeme, Lexed, signs_of, is_last, next_lexeme}
-use Rattle.rs_text.specs.Signs.{Sign, rec_word, end_word, plain, arrow, colon, dot, comma, open_brace, close_brace, open_paren, close_paren, broken, finish}
-use Rattle.rs_text.specs.Tokens.{IsNext}
-use Rattle.rs_text.specs.Words.{is_role_word}
+use Rattle.rs_text.specs.Lexemes.{Lexeme, Lexed, signs_of, is_last}
+use Rattle.rs_text.specs.Signs.{Sign, rec_word, end_word, plain, open_brace, broken, finish}
 use Rattle.rs_text.proofs.Gaps.{true_or_false}
-use Rattle.rs_text.proofs.Nexts.{next_is_next, plain_law, exists, are_lexed, one_list}
+use Rattle.rs_text.proofs.Nexts.{one_list}
 use Rattle.rs_global.specs.declared.reading.Frame.{Frame}
 use Rattle.rs_global.specs.declared.reading.Mode.{Mode}
 use Rattle.rs_global.specs.declared.reading.Mode.TheVariants as mode
 use Rattle.rs_global.specs.Data.{Reader_data}
-use Rattle.rs_global.specs.Trees.{ProtocolTree, protocol_signs, arm_signs, body_signs, ends_a_name}
-use Rattle.rs_global.specs.Cuts.{Cut, at_body, behind_end, behind_name, behind_rec, behind_rec_name, in_binds, behind_arrow, behind_receiver, in_arm, in_talks, in_offers, behind_brace, BranchCut, in_head, in_branch, later, ProtocolCut, at_begin, at_first, behind_first, at_further, behind_further, in_body, cut_signs, branch_cut_signs, line_signs, protocol_cut_signs, wanted_in_arm, wanted_at, wanted_in, wanted_of, IsBehind}
+use Rattle.rs_global.specs.Trees.{ends_a_name}
+use Rattle.rs_global.specs.Cuts.{Cut, at_body, behind_end, behind_name, behind_rec, behind_rec_name, in_binds, behind_arrow, behind_receiver, in_arm, in_talks, in_offers, behind_brace, BranchCut, in_head, in_branch, later, ProtocolCut, at_begin, at_first, behind_first, at_further, behind_further, in_body, wanted_in_arm, wanted_at, wanted_in, wanted_of, IsBehind}
 use Rattle.rs_global.specs.Cuts.{ArmCut, at_label, behind_label, behind_paren, behind_sort, behind_head}
 use Rattle.rs_text.specs.Names.{is_among, bound_to}
 use Rattle.std.proofs.Common.{nat_le, nat_lt}
 use Rattle.rs_global.specs.Scenes.{Scene, fault_by, fault_of, fault_of_name, fault_of_word, fault_of_label, fault_in_line}
-use Rattle.rs_global.specs.Faults.{Begins, IsWhole, IsWithin, EndsByName, IsInReach, IsUnexpected, IsMisplaced, IsBroken, FaultAt, next_of, AllClear, FirstFault}
-use Rattle.rs_global.specs.Feeding.{Fed, Reading, Answer, begin, feed_at, feed_next, feed_sign, is_read, no_frames, behind_body, next_lexeme_of, read_all, answered, ReadsAs}
+use Rattle.rs_global.specs.Faults.{Begins, IsWhole, IsWithin, EndsByName, IsInReach, IsUnexpected, FaultAt, next_of, AllClear, FirstFault}
+use Rattle.rs_global.specs.Feeding.{Fed, Reading, Answer, begin, feed_at, feed_next, feed_sign, is_read, no_frames, behind_body, read_all, answered, ReadsAs}
 use Rattle.rs_global.proofs.FaultRuns.{NotExpected, Lands, sign_behind, lexeme, Leads, Follower, an_arrow, a_broken, a_name, follower, faulty_calm}
-use Rattle.rs_global.proofs.FaultPlaces.{wanted_behind, wanted_by, fault_seen, is_named, is_named_in, is_named_of, NamedBy, PlaceAgrees, place_passes, tree_passes, leads_split}
-use Rattle.rs_global.proofs.FaultCuts.{takes, IsProper, proper_word, Grows, place_grows, word_grows, place_begins}
-use Rattle.rs_global.proofs.FaultSteps.{ToldUnexpected, ToldMisplaced, ToldBroken, Steps, IsArrowMode, steps, whole_fed, by_name_fault}
-
-use Rattle.rs_global.proofs.FirstFaults.{Reached, reach_on, There, agree, begins_there, Clear, Here, Next, Verdict, verdict, last_faulty, proper_of, unread_if, signs_append, Found, found, first_fault, answered_err}
+use Rattle.rs_global.proofs.FaultPlaces.{wanted_behind, wanted_by, fault_seen, is_named, is_named_of, NamedBy, PlaceAgrees, place_passes, leads_split}
+use Rattle.rs_global.proofs.FaultSteps.{whole_fed, by_name_fault}
+use Rattle.rs_global.proofs.FirstFaults.{Reached, reach_on, There, agree, begins_there, Clear, Verdict, verdict, proper_of, signs_append, Found, found}
 
 -- ---- places behind the protocol
 
@@ -122,10 +116,10 @@ behind_clear xs t u r k reach h f =
       | inl y ↦ behind_place y.2.place (sym (agree xs t r reach y.2.place y.2.stands).wanted ∙ wants) y.2.within
       | inr (inl x) ↦ absurd (cc (sym x.fault ∙ (agree xs t r reach x.place x.stands).faults t u ∙ unseen))
       | inr (inr b) ↦ (
-        let a : PlaceAgrees b.2.place t r = agree xs t r reach b.2.place b.2.stands in
-        let n : (is_named_of b.2.place ≡ true → ends_a_name t ≡ true) = subst (λ (z : Mode). NamedBy z t (is_named_of b.2.place) r) m.0 a.named in
-        let e : ends_a_name t ≡ true = n (named_place b.2.place (sym a.wanted ∙ wants) b.2.reached) in
-        absurd (cc (sym e ∙ ap ends_a_name b.2.broken_is)))
+          let a : PlaceAgrees b.2.place t r = agree xs t r reach b.2.place b.2.stands in
+          let n : (is_named_of b.2.place ≡ true → ends_a_name t ≡ true) = subst (λ (z : Mode). NamedBy z t (is_named_of b.2.place) r) m.0 a.named in
+          let e : ends_a_name t ≡ true = n (named_place b.2.place (sym a.wanted ∙ wants) b.2.reached) in
+          absurd (cc (sym e ∙ ap ends_a_name b.2.broken_is)))
     ]
 
 landing_next : (fs : List Frame) (t : Sign) (r : Reader_data) (Q : Reader_data → Type 0) → fs ≡ [] → Lands (feed_next fs t 0 r) Q → ⊥
@@ -244,7 +238,7 @@ same_place (x ∷ b) (y ∷ c) t s os ps xs j k h f cf g cg =
     let shape : (zs : List Lexeme) → xs ++ (x.sign ∷ signs_of zs) ≡ (xs ++ x.sign ∷ []) ++ signs_of zs = λ zs. sym (append_assoc xs (x.sign ∷ []) (signs_of zs)) in
     let g' : FaultAt (xs ++ (x.sign ∷ signs_of c)) s.sign (next_of (signs_of ps)) k = subst (λ (z : Lexeme). FaultAt (xs ++ (z.sign ∷ signs_of c)) s.sign (next_of (signs_of ps)) k) one g in
     let z = same_place b c t s os ps (xs ++ x.sign ∷ []) j k more (subst (λ (z : List Sign). FaultAt z t.sign (next_of (signs_of os)) j) (shape b) f) cf.1
-      (subst (λ (z : List Sign). FaultAt z s.sign (next_of (signs_of ps)) k) (shape c) g') (subst (λ (z : Lexeme). AllClear (xs ++ z.sign ∷ []) (signs_of c) (signs_of (s ∷ ps))) one cg.1) in
+    (subst (λ (z : List Sign). FaultAt z s.sign (next_of (signs_of ps)) k) (shape c) g') (subst (λ (z : Lexeme). AllClear (xs ++ z.sign ∷ []) (signs_of c) (signs_of (s ∷ ps))) one cg.1) in
     (ap (λ o. x ∷ o) z.0 ∙ ap (λ o. o ∷ c) (sym one), z.1)
 
 -- a first fault is the one that is found
