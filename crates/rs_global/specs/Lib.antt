@@ -1,0 +1,10 @@
+pub mod Data
+pub mod Trees
+pub mod Graph
+pub mod Cuts
+pub mod Scenes
+pub mod Spells
+pub mod Faults
+pub mod Drafts
+pub mod Feeding
+pub mod Examples

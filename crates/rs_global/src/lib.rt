@@ -1,0 +1,13 @@
+//! The reader of protocols with choice and recursion.
+#![tactic(auto)]
+
+mod drafts;
+pub mod fault_laws;
+pub mod laws;
+mod protocols;
+mod reading;
+mod seen;
+#[cfg(test)]
+mod tests;
+
+pub use protocols::read_protocol;
