@@ -6,3 +6,7 @@ pub mod FaultPlaces
 pub mod FaultCuts
 pub mod FaultSteps
 pub mod FirstFaults
+pub mod Answers
+pub mod Sounding
+pub mod Examples
+pub mod Placing

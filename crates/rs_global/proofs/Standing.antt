@@ -1,4 +1,4 @@
-use Rattle.std.proofs.Common.{◌≡◌, ℕ, suc, ◌+◌, ◌-◌, ◌<◌, ◌≤◌, List, [], ◌∷◌, ◌++◌, length, Bool, true, false, Result, Ok, Err, refl, sym, ap, ◌∙◌, subst, arith, cond, Option, Some, None}
+use Rattle.std.proofs.Common.{◌≡◌, ℕ, ◌+◌, ◌-◌, ◌<◌, ◌≤◌, List, [], ◌∷◌, length, Bool, true, false, Ok, Err, refl, sym, ap, ◌∙◌, subst, arith, cond}
 use Rattle.std.specs.Str.{bytes_eq}
 use Rattle.std.specs.Prelude.{codes}
 use Rattle.rs_text.specs.declared.tokens.Kind.{Kind}
@@ -13,14 +13,14 @@ use Rattle.rs_text.specs.Bytes.{is_letter, is_digit}
 use Rattle.rs_text.specs.Words.{begins}
 use Rattle.rs_text.specs.Tokens.{IsToken, IsNext}
 use Rattle.rs_text.specs.Data.{Lexer_data}
-use Rattle.rs_text.proofs.Nexts.{next_is_next}
+use Rattle.rs_text.proofs.Nexts.{next_is_next, within}
 use Rattle.rs_global.specs.declared.reading.Frame.{Frame}
 use Rattle.rs_global.specs.declared.reading.Stop.{Stop}
 use Rattle.rs_global.specs.declared.reading.Stop.TheVariants as stops
 use Rattle.rs_global.specs.declared.reading.Mode.{Mode}
 use Rattle.rs_global.specs.declared.reading.Mode.TheVariants as mode
 use Rattle.rs_global.specs.Data.{Reader_data}
-use Rattle.rs_global.specs.Feeding.{Fed, Reading, begin, feed_of, feed_at, feed_sign, feed_next, feed_word, is_read, next_lexeme_of, read_all, Reads, StopsAs, Fails}
+use Rattle.rs_global.specs.Feeding.{begin, feed_of, feed_at, feed_sign, feed_next, is_read, next_lexeme_of, read_all, Reads, StopsAs, Fails}
 
 -- the reader stands before the tokens from `now` on
 abbrev pub Stands : List ℕ → ℕ → Reader_data → ℕ → Type 0
@@ -81,7 +81,7 @@ step_from bytes now t r d (l ∷ ls) e u f h =
     let k : (is_last (lexeme_of bytes t).sign ≡ false → Lexed bytes (lexeme_of bytes t).until ls) = subst (λ (z : Lexeme). is_last z.sign ≡ false → Lexed bytes z.until ls) l_is h.2 in
     let rest : Lexed bytes t.until ls = k more in
     let fed : feed_sign (sign_of t.kind (text_of bytes t)) t.from (next_lexeme_of (lexeme_of bytes t) ls) r ≡ Ok d =
-      ap (λ z. feed_sign (sign_of t.kind (text_of bytes t)) t.from z r) (next_is bytes t.until (lexeme_of bytes t) ls rest) ∙ whole t.kind (text_of bytes t) t.from (next_lexeme bytes t.until) r ∙ f in
+    ap (λ z. feed_sign (sign_of t.kind (text_of bytes t)) t.from z r) (next_is bytes t.until (lexeme_of bytes t) ls rest) ∙ whole t.kind (text_of bytes t) t.from (next_lexeme bytes t.until) r ∙ f in
     (ls, rest, ap (λ z. read_all (Ok r) (z ∷ ls)) l_is ∙ goes r (lexeme_of bytes t) ls u ∙ ap (λ z. read_all z ls) fed)
 
 pub step : (bytes : List ℕ) (at now : ℕ) (t : Token) (r d : Reader_data) → Stands bytes at r now → next_lexeme bytes now ≡ lexeme_of bytes t → is_read r ≡ false → feed_of (sign_of t.kind (text_of bytes t)) t.from (next_lexeme bytes t.until) r ≡ Ok d
@@ -109,7 +109,7 @@ faulty_from bytes now t r g (l ∷ ls) e u f h =
     let l_is : l ≡ lexeme_of bytes t = h.0 ∙ e in
     let k : (is_last (lexeme_of bytes t).sign ≡ false → Lexed bytes (lexeme_of bytes t).until ls) = subst (λ (z : Lexeme). is_last z.sign ≡ false → Lexed bytes z.until ls) l_is h.2 in
     let fed : feed_sign (sign_of t.kind (text_of bytes t)) t.from (next_lexeme_of (lexeme_of bytes t) ls) r ≡ Err g =
-      whole t.kind (text_of bytes t) t.from (next_lexeme_of (lexeme_of bytes t) ls) r ∙ behind_same bytes t.kind (text_of bytes t) r.mode t.from t.until (lexeme_of bytes t) ls r k ∙ f in
+    whole t.kind (text_of bytes t) t.from (next_lexeme_of (lexeme_of bytes t) ls) r ∙ behind_same bytes t.kind (text_of bytes t) r.mode t.from t.until (lexeme_of bytes t) ls r k ∙ f in
     ap (λ z. read_all (Ok r) (z ∷ ls)) l_is ∙ goes r (lexeme_of bytes t) ls u ∙ ap (λ z. read_all z ls) fed ∙ stopped g ls
 
 pub stops_at : (bytes : List ℕ) (at now : ℕ) (t : Token) (r : Reader_data) (s : Stop) → Stands bytes at r now → next_lexeme bytes now ≡ lexeme_of bytes t → is_read r ≡ false → Fails s (feed_of (sign_of t.kind (text_of bytes t)) t.from (next_lexeme bytes t.until) r)
@@ -180,3 +180,10 @@ goes_on bytes at old new t r d same s moved e within u f =
 pub fails_in : (bytes : List ℕ) (at : ℕ) (old : Lexer_data) (t : Token) (r : Reader_data) (s : Stop) → old.bytes ≡ bytes → Stands bytes at r old.at → next_lexeme old.bytes old.at ≡ lexeme_of old.bytes t → is_read r ≡ false
     → Fails s (feed_of (sign_of t.kind (text_of bytes t)) t.from (next_lexeme bytes t.until) r) → StopsAs s bytes at
 fails_in bytes at old t r s same st e u f = stops_at bytes at old.at t r s st (subst (λ (z : List ℕ). next_lexeme z old.at ≡ lexeme_of z t) same e) u f
+
+pub from_within : (bytes : List ℕ) (at : ℕ) → at ≤ length bytes → (next_lexeme bytes at).from ≤ length bytes
+from_within bytes at h =
+    let w = within bytes at (next_lexeme bytes at) h (next_is_next bytes at) in
+    let order = w.order in
+    let inside = w.inside in
+    omega arith

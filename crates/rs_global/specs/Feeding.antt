@@ -1,5 +1,5 @@
 -- The reader, token by token.
-use Rattle.std.specs.Prelude.{◌≡◌, ℕ, suc, ◌+◌, ◌-◌, List, [], ◌∷◌, ◌++◌, codes, length, drop, slice_get, Option, Some, None, Result, Ok, Err, Bool, true, false, if◌then◌else◌, nat_lt, nat_le}
+use Rattle.std.specs.Prelude.{◌≡◌, ℕ, suc, ◌-◌, List, [], ◌∷◌, ◌++◌, codes, length, drop, slice_get, Option, Some, None, Result, Ok, Err, Bool, true, false, if◌then◌else◌, nat_lt, nat_le}
 use Rattle.std.specs.Str.{bytes_eq}
 use Rattle.rs_model.specs.declared.graph.Role.{Role}
 use Rattle.rs_model.specs.declared.graph.Label.{Label}
@@ -14,7 +14,7 @@ use Rattle.rs_text.specs.Faults.{kind_of}
 use Rattle.rs_model.specs.Data.{Names_data, Protocol_data}
 use Rattle.rs_text.specs.Lexemes.{Lexeme, Lexed}
 use Rattle.rs_text.specs.Names.{place_of, is_among, Bound, bound_to}
-use Rattle.rs_text.specs.Signs.{Sign, rec_word, end_word, plain, arrow, colon, dot, comma, open_brace, close_brace, open_paren, close_paren, broken, finish}
+use Rattle.rs_text.specs.Signs.{Sign, rec_word, end_word, plain, arrow, colon, dot, comma, open_brace, close_brace, open_paren, close_paren, broken}
 use Rattle.rs_global.specs.declared.reading.Frame.{Frame}
 use Rattle.rs_global.specs.declared.reading.Link.{Link}
 use Rattle.rs_global.specs.declared.reading.Link.TheVariants as link
@@ -22,7 +22,6 @@ use Rattle.rs_global.specs.declared.reading.Mode.{Mode}
 use Rattle.rs_global.specs.declared.reading.Mode.TheVariants as mode
 use Rattle.rs_global.specs.declared.reading.Stop.{Stop}
 use Rattle.rs_global.specs.declared.reading.Stop.TheVariants as stops
-use Rattle.rs_global.specs.declared.drafts.DraftArm.{DraftArm}
 use Rattle.rs_global.specs.Data.{Reader_data, Draft_data}
 use Rattle.rs_global.specs.Drafts.{with_arm, protocol_of, names_read}
 
@@ -284,6 +283,11 @@ Reads bytes at reading = (lexemes : List Lexeme) → Lexed bytes at lexemes → 
 abbrev pub StopsAs : Stop → List ℕ → ℕ → Type 0
 StopsAs stops.Memory bytes at = Unit {0}
 StopsAs (stops.Fault f) bytes at = Reads bytes at (Err f)
+
+-- a refusal of memory is told at the offset where the reading began
+abbrev pub told : Stop → ℕ → TextFault
+told stops.Memory at = record { kind = kind.NoMemory; at = at }
+told (stops.Fault f) at = f
 
 -- the last number that a name is bound to, by bindings in order
 abbrev pub last_bound : List ℕ → Bound → Option ℕ → Option ℕ

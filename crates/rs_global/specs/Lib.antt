@@ -7,3 +7,4 @@ pub mod Spells
 pub mod Faults
 pub mod Drafts
 pub mod Feeding
+pub mod Examples

@@ -1,14 +1,14 @@
 -- What the faults of names and limits hang on.
-use Rattle.std.specs.Prelude.{◌≡◌, ℕ, suc, ◌+◌, List, [], ◌∷◌, ◌++◌, codes, length, Option, Some, None, Bool, true, false, if◌then◌else◌, nat_lt, nat_le, ◌&&◌}
+use Rattle.std.specs.Prelude.{ℕ, suc, ◌+◌, List, [], ◌∷◌, codes, length, Option, Some, None, if◌then◌else◌, nat_lt, nat_le}
 use Rattle.rs_text.specs.declared.faults.TextKind.{TextKind}
 use Rattle.rs_text.specs.declared.faults.TextKind.TheVariants as kind
 use Rattle.rs_text.specs.declared.faults.Wanted.{Wanted}
 use Rattle.rs_text.specs.declared.faults.Wanted.TheVariants as wanted
 use Rattle.rs_text.specs.Signs.{Sign, rec_word, end_word, plain, arrow, open_brace, broken}
 use Rattle.rs_text.specs.Names.{Bound, bound_to, grown, is_among}
-use Rattle.rs_global.specs.Trees.{Body, ends, again, binds, talks, offers, Branches, one, more, ProtocolTree, roles_of}
-use Rattle.rs_global.specs.Graph.{labels_of, labels_of_arms, talks_in, talks_in_arms}
-use Rattle.rs_global.specs.Cuts.{ArmCut, at_label, Cut, at_body, behind_end, behind_name, behind_rec, behind_rec_name, in_binds, behind_arrow, behind_receiver, in_arm, in_talks, in_offers, behind_brace, BranchCut, in_head, in_branch, later, ProtocolCut, at_begin, at_first, behind_first, at_further, behind_further, in_body, wanted_at}
+use Rattle.rs_global.specs.Trees.{Body}
+use Rattle.rs_global.specs.Graph.{labels_of, talks_in}
+use Rattle.rs_global.specs.Cuts.{Cut, in_binds, in_arm, in_talks, in_offers, BranchCut, in_head, in_branch, later, ProtocolCut, at_first, at_further, in_body, wanted_at}
 
 -- the roles, the recursion names round a place, the count of rec and braces round it, the talks and the labels before it
 pub record Scene : Type 0 where

@@ -1,11 +1,11 @@
 -- What a text spells.
-use Rattle.std.specs.Prelude.{◌≡◌, ℕ, suc, ◌+◌, ◌≤◌, List, [], ◌∷◌, ◌++◌, length, true, false, Bool, ◌&&◌, ◌||◌, nat_lt, nat_le, Option, Some, None}
+use Rattle.std.specs.Prelude.{◌≡◌, ℕ, ◌≤◌, List, ◌∷◌, ◌++◌, length, true, false, Bool, ◌&&◌, ◌||◌, nat_lt, Option, Some, None}
 use Rattle.rs_model.specs.Data.{Protocol_data, Names_data}
 use Rattle.rs_text.specs.Lexemes.{Lexeme, Lexed, signs_of}
-use Rattle.rs_text.specs.Names.{Bound, bound_to, is_among, grown}
+use Rattle.rs_text.specs.Names.{bound_to, is_among}
 use Rattle.rs_text.specs.Sound.{differ}
 use Rattle.rs_global.specs.Trees.{Body, ends, again, binds, talks, offers, Branches, one, more, ProtocolTree, protocol_signs, roles_of, ends_by_name, ends_a_name}
-use Rattle.rs_global.specs.Graph.{graph_of, names_of, labels_of, talks_in}
+use Rattle.rs_global.specs.Graph.{graph_of, names_of}
 use Rattle.rs_global.specs.Scenes.{Scene, with_label, in_talk, in_braces, in_rec, behind, first_scene}
 
 -- a recursion name is bound, and a talk stands between its rec and itself

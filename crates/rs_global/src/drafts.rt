@@ -1,8 +1,8 @@
-ghost use Rattle.std.specs.Prelude.{◌≡◌, ◌++◌, ◌∷◌, [], length, map, take, OnOk, OnErr, IfOk, slice_get};
+ghost use Rattle.std.specs.Prelude.{◌≡◌, ◌≤◌, ◌+◌, ◌++◌, ◌∷◌, [], length, map, take, OnOk, OnErr, IfOk, slice_get};
 ghost use Rattle.rs_global.specs.Drafts.{settled, settled_arm, settled_target, with_arm};
 ghost use Rattle.rs_global.specs.Graph.{finish_of};
 
-use rs_model::{Arm, Arms, Label, Node, NoMemory, Role, Sort};
+use rs_model::{Arm, Arms, Label, NoMemory, Node, Role, Sort};
 use std::alloc::Global;
 use std::marker::Model;
 
@@ -54,8 +54,14 @@ pub(crate) fn settled_number(last: u32, target: Option<u32>) -> u32
 }
 
 /// The nodes of a protocol, with the end behind the talks where it has one.
-pub(crate) fn nodes(alloc: Global, drafts: &[Draft], last: u32, ended: bool) -> Result<Vec<Node>, NoMemory>
-    ensures { IfOk result (λ nodes. nodes.items ≡ map (settled last) drafts.now ++ finish_of ended) }
+pub(crate) fn nodes(
+    alloc: Global,
+    drafts: &[Draft],
+    last: u32,
+    ended: bool,
+) -> Result<Vec<Node>, NoMemory>
+    ensures nodes { IfOk result (λ nodes. nodes.items ≡ map (settled last) drafts.now ++ finish_of ended) }
+    ensures count { IfOk result (λ nodes. length nodes.items ≤ length drafts.now + 1) }
 {
     let mut nodes = talks(alloc, drafts, last)?;
     if ended {
@@ -65,7 +71,8 @@ pub(crate) fn nodes(alloc: Global, drafts: &[Draft], last: u32, ended: bool) -> 
 }
 
 fn talks(alloc: Global, drafts: &[Draft], last: u32) -> Result<Vec<Node>, NoMemory>
-    ensures { IfOk result (λ nodes. nodes.items ≡ map (settled last) drafts.now) }
+    ensures count { IfOk result (λ nodes. length nodes.items ≡ length drafts.now) }
+    ensures nodes { IfOk result (λ nodes. nodes.items ≡ map (settled last) drafts.now) }
 {
     let mut nodes = Vec::new(alloc);
     for draft in drafts {

@@ -2,8 +2,11 @@
 #![tactic(auto)]
 
 mod drafts;
+pub mod laws;
 mod protocols;
 mod reading;
 mod seen;
+#[cfg(test)]
+mod tests;
 
 pub use protocols::read_protocol;

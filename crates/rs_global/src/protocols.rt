@@ -1,8 +1,10 @@
 ghost use Rattle.std.specs.Prelude.{◌≡◌, ◌≤◌, length, IfOk, IfErr, ◌⊎◌, Ok, Err};
 ghost use Rattle.rs_text.specs.declared.faults.TextKind.TheVariants as kind;
 ghost use Rattle.rs_global.specs.Drafts.{names_read, protocol_of};
+ghost use Rattle.rs_global.specs.Feeding as spec;
 ghost use Rattle.rs_global.specs.Feeding.{Reads, ReadsAs, StopsAs};
 ghost use Rattle.rs_text.specs.Lexemes.{next_lexeme};
+ghost use Rattle.rs_text.specs.Sound.{IsSound};
 
 use crate::drafts::{nodes, settled_number};
 use crate::reading::{Reader, Stop};
@@ -12,27 +14,46 @@ use std::alloc::Global;
 
 /// Reads a roles line and a protocol from the offset `at` on, and gives the names, the protocol and the offset of the
 /// first byte behind them that is neither a blank nor in a comment, or the length.
-pub fn read_protocol(alloc: Global, bytes: &[u8], at: usize) -> Result<(Names, Protocol, usize), TextFault>
+///
+/// Talks are numbered in order of text. All ends are one node behind the last talk, which is there exactly where the
+/// text has an end. A recursion name stands for the first node of its body.
+///
+/// A fault has the offset of its token: what was wanted instead, an unknown role, a name that is unbound or unguarded,
+/// a role that is there already, one too many of nesting, roles, talks or labels, or a faulty token. Refused memory has
+/// the offset `at`.
+pub fn read_protocol(
+    alloc: Global,
+    bytes: &[u8],
+    at: usize,
+) -> Result<(Names, Protocol, usize), TextFault>
     requires { at ≤ length bytes.now }
     ensures ok { IfOk result (λ r. ReadsAs bytes.now at (Ok (record { names = r.0; protocol = r.1; until = r.2 }))) }
     ensures err { IfErr result (λ e. (e.kind ≡ kind.NoMemory) ⊎ ReadsAs bytes.now at (Err e)) }
+    ensures sound { IfOk result (λ r. IsSound r.0) }
+    ensures roles { IfOk result (λ r. length r.0.roles ≤ 16) }
+    ensures labels { IfOk result (λ r. length r.0.labels ≤ 256) }
+    ensures talks { IfOk result (λ r. length r.1.nodes ≤ 1025) }
+    ensures within { IfOk result (λ r. r.2 ≤ length bytes.now) }
+    ensures place { IfErr result (λ e. e.at ≤ length bytes.now) }
 {
     match read(alloc, bytes, at) {
         Ok((reader, until)) => match graph(alloc, reader) {
             Ok((names, protocol)) => Ok((names, protocol, until)),
-            Err(_) => Err(no_memory(at)),
+            Err(_) => Err(told(Stop::Memory, at)),
         },
-        Err(Stop::Fault(fault)) => Err(fault),
-        Err(Stop::Memory) => Err(no_memory(at)),
+        Err(stop) => Err(told(stop, at)),
     }
 }
 
-fn no_memory(at: usize) -> TextFault
-    ensures { result ≡ record { kind = kind.NoMemory; at = at } }
+fn told(stop: Stop, at: usize) -> TextFault
+    ensures { result ≡ spec.told stop at }
 {
-    TextFault {
-        kind: TextKind::NoMemory,
-        at,
+    match stop {
+        Stop::Fault(fault) => fault,
+        Stop::Memory => TextFault {
+            kind: TextKind::NoMemory,
+            at,
+        },
     }
 }
 
@@ -40,6 +61,7 @@ fn no_memory(at: usize) -> TextFault
 fn graph(alloc: Global, reader: Reader) -> Result<(Names, Protocol), NoMemory>
     ensures names { IfOk result (λ r. r.0 ≡ names_read reader.entry) }
     ensures protocol { IfOk result (λ r. r.1 ≡ protocol_of reader.entry) }
+    ensures talks { IfOk result (λ r. length r.1.nodes ≤ 1025) }
 {
     let last = reader.drafts.len() as u32;
     let protocol = Protocol {
@@ -57,6 +79,7 @@ fn graph(alloc: Global, reader: Reader) -> Result<(Names, Protocol), NoMemory>
 fn read<'a>(alloc: Global, bytes: &'a [u8], at: usize) -> Result<(Reader<'a>, usize), Stop>
     requires { at ≤ length bytes.now }
     ensures ok { IfOk result (λ r. Reads bytes.now at (Ok (record { reader = r.0; until = r.1 }))) }
+    ensures within { IfOk result (λ r. r.1 ≤ length bytes.now) }
     ensures err { IfErr result (λ e. StopsAs e bytes.now at) }
 {
     let mut reader = Reader::new(alloc);
@@ -69,8 +92,10 @@ fn read<'a>(alloc: Global, bytes: &'a [u8], at: usize) -> Result<(Reader<'a>, us
 }
 
 /// The offset of the next token, or of the faulty one there.
+#[tactic(auto, using(crate::proofs::Standing::from_within))]
 fn behind(lexer: Lexer) -> usize
-    ensures { result ≡ (next_lexeme lexer.entry.bytes lexer.entry.at).from }
+    ensures offset { result ≡ (next_lexeme lexer.entry.bytes lexer.entry.at).from }
+    ensures within { result ≤ length lexer.entry.bytes }
 {
     let mut lexer = lexer;
     match lexer.next() {

@@ -5,16 +5,19 @@ ghost use Rattle.rs_text.specs.Names.{is_among, bound_to};
 ghost use Rattle.rs_global.specs.Feeding as spec;
 ghost use Rattle.rs_global.specs.Feeding.{Fails, plain_text, word_text};
 
-use crate::drafts::{add_arm, Draft, DraftArm};
+use crate::drafts::{Draft, DraftArm, add_arm};
 use crate::seen;
 use rs_model::{Label, Name, NoMemory, Role, Sort};
-use rs_text::{find, Fault, Kind, Lexer, TextFault, TextKind, Token, Wanted};
+use rs_text::{Fault, Kind, Lexer, TextFault, TextKind, Token, Wanted, find};
 use std::alloc::{AllocError, AllocFailed, Global};
 use std::marker::Model;
 
 const DEEPEST: u32 = 200;
+
 const MOST_ROLES: usize = 16;
+
 const MOST_TALKS: usize = 1024;
+
 const MOST_LABELS: usize = 256;
 
 /// Why the reading stopped.
@@ -387,7 +390,13 @@ impl<'a> Reader<'a> {
         self.met_by(receiver, from, sender, token.from)
     }
 
-    fn met_by(&mut self, receiver: Option<Role>, from: Link, sender: Role, at: usize) -> Result<(), Stop>
+    fn met_by(
+        &mut self,
+        receiver: Option<Role>,
+        from: Link,
+        sender: Role,
+        at: usize,
+    ) -> Result<(), Stop>
         ensures ok { OnOk result (spec.met_by (option_map (λ role. role.0) receiver) from sender at self.old ≡ Ok self.new) }
         ensures err { IfErr result (λ e. Fails e (spec.met_by (option_map (λ role. role.0) receiver) from sender at self.old)) }
     {
@@ -520,7 +529,14 @@ impl<'a> Reader<'a> {
         Ok(())
     }
 
-    fn close_paren(&mut self, node: u32, label: Label, sort: Sort, bytes: &[u8], token: Token) -> Result<(), Stop>
+    fn close_paren(
+        &mut self,
+        node: u32,
+        label: Label,
+        sort: Sort,
+        bytes: &[u8],
+        token: Token,
+    ) -> Result<(), Stop>
         ensures ok { OnOk result (spec.feed_close_paren node label sort (sign_of token.kind (text_of bytes.now token)) token.from self.old ≡ Ok self.new) }
         ensures err { IfErr result (λ e. Fails e (spec.feed_close_paren node label sort (sign_of token.kind (text_of bytes.now token)) token.from self.old)) }
     {
@@ -533,13 +549,22 @@ impl<'a> Reader<'a> {
         }
     }
 
-    fn arm_dot(&mut self, node: u32, label: Label, sort: Sort, bytes: &[u8], token: Token) -> Result<(), Stop>
+    fn arm_dot(
+        &mut self,
+        node: u32,
+        label: Label,
+        sort: Sort,
+        bytes: &[u8],
+        token: Token,
+    ) -> Result<(), Stop>
         ensures ok { OnOk result (spec.feed_arm_dot node label sort (sign_of token.kind (text_of bytes.now token)) token.from self.old ≡ Ok self.new) }
         ensures err { IfErr result (λ e. Fails e (spec.feed_arm_dot node label sort (sign_of token.kind (text_of bytes.now token)) token.from self.old)) }
     {
         match token.kind {
             Kind::Dot => {
-                self.mode = Mode::Body { from: Link::OfArm { node, label, sort } };
+                self.mode = Mode::Body {
+                    from: Link::OfArm { node, label, sort },
+                };
                 Ok(())
             }
             _ => expected(Wanted::Dot, token.from),
@@ -661,7 +686,9 @@ impl<'a> Reader<'a> {
             Mode::AtLabel { node } => self.label(node, bytes, token),
             Mode::Paren { node, label } => self.paren(node, label, bytes, token),
             Mode::AtSort { node, label } => self.sort(node, label, bytes, token),
-            Mode::CloseParen { node, label, sort } => self.close_paren(node, label, sort, bytes, token),
+            Mode::CloseParen { node, label, sort } => self.close_paren(
+                node, label, sort, bytes, token,
+            ),
             Mode::ArmDot { node, label, sort } => self.arm_dot(node, label, sort, bytes, token),
             Mode::Next => self.next(bytes, token),
         }

@@ -4,7 +4,7 @@ ghost use Rattle.rs_text.specs.Names.{place_of, is_among};
 ghost use Rattle.rs_global.specs.Feeding.{plain_text, word_text, sort_named};
 
 use rs_model::{Label, Name, Role, Sort};
-use rs_text::{find, Kind, Token};
+use rs_text::{Kind, Token, find};
 
 /// The text of a token.
 pub(crate) fn text(bytes: &[u8], token: Token) -> &[u8]

@@ -1,4 +1,4 @@
-use Rattle.std.proofs.Common.{rules, ◌≡◌, ap}
+use Rattle.std.proofs.Common.{rules}
 use Rattle.rs_global.proofs.Standing.{starts_at, shrinks, goes_on, fails_in}
 use Rattle.rs_global.proofs.protocols.read.Goals as goal
 

@@ -1,4 +1,4 @@
-use Rattle.std.proofs.Common.{rules, ◌≡◌, ◌≤◌, length, arith}
+use Rattle.std.proofs.Common.{rules}
 use Rattle.rs_global.proofs.Bindings.{scanned}
 use Rattle.rs_global.proofs.reading.found.Goals as goal
 

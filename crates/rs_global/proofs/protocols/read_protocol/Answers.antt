@@ -1,0 +1,9 @@
+use Rattle.rs_global.proofs.Placing.{told_within}
+use Rattle.rs_global.proofs.Sounding.{names_sound}
+use Rattle.rs_global.proofs.protocols.read_protocol.Goals as goal
+
+pub returns-in-Ok-graph-clause-sound : goal.returns-in-Ok-graph-clause-sound
+returns-in-Ok-graph-clause-sound c = names_sound c.args.bytes.now c.args.at c.in-Ok.reader c.in-Ok.until c.in-Ok-graph.names c.requires c.in-Ok.ensures.ok c.in-Ok-graph.ensures.names
+
+pub returns-in-Err-clause-place : goal.returns-in-Err-clause-place
+returns-in-Err-clause-place c = told_within c.in-Err.stop c.args.bytes.now c.args.at c.told-in-Err.result c.told-in-Err.ensures c.requires c.in-Err.ensures.err

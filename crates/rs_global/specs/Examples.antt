@@ -1,0 +1,15 @@
+-- A text and its tree, to read the definitions by.
+use Rattle.std.specs.Prelude.{ℕ, List, [], codes, Some, None}
+use Rattle.rs_model.specs.declared.values.Sort.TheVariants as sort
+use Rattle.rs_global.specs.Trees.{ProtocolTree, binds, offers, more, one, again, ends}
+
+abbrev pub text : List ℕ
+text = codes "roles A,B protocol rec X. A->B{x(). X, y(nat). end}"
+
+abbrev pub tree : ProtocolTree
+tree = record {
+  first = codes "A";
+  second = codes "B";
+  further = [];
+  body = binds (codes "X") (offers (codes "A") (codes "B") (more (codes "x") None (again (codes "X")) (one (codes "y") (Some sort.Natural) ends)));
+}
