@@ -10,3 +10,5 @@ pub mod Answers
 pub mod Sounding
 pub mod Examples
 pub mod Placing
+mod SpeltSteps
+mod SpeltBodies
