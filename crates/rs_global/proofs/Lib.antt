@@ -12,3 +12,5 @@ pub mod Examples
 pub mod Placing
 mod SpeltSteps
 mod SpeltBodies
+mod SpeltTrees
+mod SpeltCuts
