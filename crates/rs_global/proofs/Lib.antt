@@ -14,3 +14,4 @@ mod SpeltSteps
 mod SpeltBodies
 mod SpeltTrees
 mod SpeltCuts
+mod SpeltRuns
