@@ -7,7 +7,7 @@ use Rattle.rs_model.specs.declared.values.Sort.{Sort}
 use Rattle.rs_model.specs.declared.values.Sort.TheVariants as sort
 use Rattle.rs_text.specs.declared.faults.Wanted.{Wanted}
 use Rattle.rs_text.specs.declared.faults.Wanted.TheVariants as wanted
-use Rattle.rs_text.specs.Signs.{Sign, rec_word, end_word, plain, arrow, colon, dot, comma, open_brace, close_brace, open_paren, close_paren, broken, finish, word_sign}
+use Rattle.rs_text.specs.Signs.{Sign, rec_word, end_word, plain, arrow, colon, dot, comma, open_brace, close_brace, open_paren, close_paren, word_sign}
 use Rattle.rs_text.specs.Words.{is_word, is_role_word}
 use Rattle.rs_global.specs.Trees.{Body, ends, again, binds, talks, offers, Branches, one, more, ProtocolTree, sort_text, sort_signs, arm_signs, body_signs, branch_signs, further_signs, protocol_signs}
 use Rattle.rs_global.specs.Cuts.{ArmCut, at_label, behind_label, behind_paren, behind_sort, behind_head, Cut, at_body, behind_end, behind_name, behind_rec, behind_rec_name, in_binds, behind_arrow, behind_receiver, in_arm, in_talks, in_offers, behind_brace, BranchCut, in_head, in_branch, later, ProtocolCut, at_begin, at_first, behind_first, at_further, behind_further, in_body, arm_cut_signs, cut_signs, branch_cut_signs, line_signs, protocol_cut_signs, wanted_in_arm, wanted_at, wanted_in, wanted_of}
@@ -63,11 +63,11 @@ sort_pick false text a s rest h k e = k e
 sort_text_is : (text : List ℕ) (s : Sort) → sort_named text ≡ Some s → sort_text s ≡ text
 sort_text_is text s e =
     sort_pick (bytes_eq text (codes "unit")) text sort.Unit s _ (λ h. (bytes_eq-Decides text (codes "unit")).0 h)
-      (λ e. sort_pick (bytes_eq text (codes "bool")) text sort.Flag s _ (λ h. (bytes_eq-Decides text (codes "bool")).0 h)
-        (λ e. sort_pick (bytes_eq text (codes "nat")) text sort.Natural s _ (λ h. (bytes_eq-Decides text (codes "nat")).0 h)
-          (λ e. sort_pick (bytes_eq text (codes "int")) text sort.Whole s _ (λ h. (bytes_eq-Decides text (codes "int")).0 h)
-            (λ e. sort_pick (bytes_eq text (codes "bytes")) text sort.Octets s _ (λ h. (bytes_eq-Decides text (codes "bytes")).0 h)
-              (λ e. sort_pick (bytes_eq text (codes "list")) text sort.Numbers s None (λ h. (bytes_eq-Decides text (codes "list")).0 h) (λ e. cc) e) e) e) e) e) e
+    (λ e. sort_pick (bytes_eq text (codes "bool")) text sort.Flag s _ (λ h. (bytes_eq-Decides text (codes "bool")).0 h)
+    (λ e. sort_pick (bytes_eq text (codes "nat")) text sort.Natural s _ (λ h. (bytes_eq-Decides text (codes "nat")).0 h)
+    (λ e. sort_pick (bytes_eq text (codes "int")) text sort.Whole s _ (λ h. (bytes_eq-Decides text (codes "int")).0 h)
+    (λ e. sort_pick (bytes_eq text (codes "bytes")) text sort.Octets s _ (λ h. (bytes_eq-Decides text (codes "bytes")).0 h)
+    (λ e. sort_pick (bytes_eq text (codes "list")) text sort.Numbers s None (λ h. (bytes_eq-Decides text (codes "list")).0 h) (λ e. cc) e) e) e) e) e) e
 
 sort_grows : (found : Option Sort) (l text : List ℕ) → sort_named text ≡ found → is_some found ≡ true → (d : ArmCut) × (arm_cut_signs d ≡ word_sign l ∷ open_paren ∷ plain text ∷ [])
 sort_grows None l text e h = cc
@@ -267,7 +267,10 @@ place_begins at_begin = (simple (codes "x") (codes "x") [] ends, protocol_signs 
 place_begins at_first = (simple (codes "x") (codes "x") [] ends, plain (codes "x") ∷ comma ∷ plain (codes "x") ∷ last_signs, refl)
 place_begins (behind_first x) = (simple x (codes "x") [] ends, comma ∷ plain (codes "x") ∷ last_signs, refl)
 place_begins (at_further x []) = (simple x (codes "x") [] ends, plain (codes "x") ∷ last_signs, refl)
-place_begins (at_further x (y ∷ ys)) = (simple x y (ys ++ codes "x" ∷ []) ends, plain (codes "x") ∷ last_signs,
-    ap (λ o. plain (codes "roles") ∷ plain x ∷ comma ∷ plain y ∷ (o ++ last_signs)) (line_grows ys (codes "x")) ∙ ap (λ o. plain (codes "roles") ∷ plain x ∷ comma ∷ plain y ∷ o) (append_assoc (flat_map further_signs ys ++ comma ∷ []) (plain (codes "x") ∷ []) last_signs))
+place_begins (at_further x (y ∷ ys)) = (
+  simple x y (ys ++ codes "x" ∷ []) ends,
+  plain (codes "x") ∷ last_signs,
+  ap (λ o. plain (codes "roles") ∷ plain x ∷ comma ∷ plain y ∷ (o ++ last_signs)) (line_grows ys (codes "x")) ∙ ap (λ o. plain (codes "roles") ∷ plain x ∷ comma ∷ plain y ∷ o) (append_assoc (flat_map further_signs ys ++ comma ∷ []) (plain (codes "x") ∷ []) last_signs),
+)
 place_begins (behind_further x y xs) = (simple x y xs ends, last_signs, refl)
 place_begins (in_body x y xs body) = let z = completes body in (simple x y xs z.0, z.1, ap (λ o. line_signs x (y ∷ xs) ++ plain (codes "protocol") ∷ o) z.2 ∙ sym (append_assoc (line_signs x (y ∷ xs)) (plain (codes "protocol") ∷ cut_signs body) z.1))

@@ -1,42 +1,30 @@
 -- At every place of the grammar that stands behind the tokens read so far, the reader wants what the place wants and sees its faults.
-use Rattle.std.proofs.Common.{◌≡◌, ℕ, zero, suc, ◌+◌, ◌-◌, List, [], ◌∷◌, ◌++◌, length, drop, codes, Bool, true, false, if◌then◌else◌, nat_le, nat_lt, Option, Some, None, Result, Ok, Err, refl, sym, ap, ◌∙◌, subst, arith, append_assoc, append-nil, length-append, slice_get}
-use Rattle.std.proofs.lemmas.List.{length-set}
-use Rattle.std.proofs.Math.Seq.{drop-append_seam}
-use Rattle.std.proofs.lemmas.Slice.Eq.{bytes_eq-Decides}
-use Rattle.std.specs.Str.{bytes_eq}
+use Rattle.std.proofs.Common.{◌≡◌, ℕ, suc, ◌+◌, List, [], ◌∷◌, ◌++◌, length, codes, Bool, true, false, if◌then◌else◌, nat_le, Option, Some, None, Ok, Err, refl, sym, ap, ◌∙◌, subst, append_assoc, append-nil}
 use Rattle.rs_model.specs.declared.graph.Role.{Role}
 use Rattle.rs_model.specs.declared.graph.Label.{Label}
 use Rattle.rs_model.specs.declared.values.Sort.{Sort}
 use Rattle.rs_model.specs.declared.values.Sort.TheVariants as sort
-use Rattle.rs_text.specs.declared.tokens.FaultKind.{FaultKind}
-use Rattle.rs_text.specs.declared.tokens.FaultKind.TheVariants as faulty
 use Rattle.rs_text.specs.declared.faults.TextKind.{TextKind}
 use Rattle.rs_text.specs.declared.faults.TextKind.TheVariants as kind
-use Rattle.rs_text.specs.Faults.{kind_of}
-use Rattle.rs_text.specs.Lexemes.{Lexeme}
 use Rattle.rs_text.specs.Names.{place_of, is_among, grown, Bound, bound_to}
-use Rattle.rs_text.specs.Signs.{Sign, rec_word, end_word, plain, number, arrow, bang, question, colon, dot, comma, open_brace, close_brace, open_paren, close_paren, open_bracket, close_bracket, broken, finish, word_sign}
-use Rattle.rs_text.proofs.Naming.{among, not_among, grown_append}
+use Rattle.rs_text.specs.Signs.{Sign, rec_word, end_word, plain, arrow, colon, dot, comma, open_brace, close_brace, open_paren, close_paren, finish}
 use Rattle.rs_global.specs.declared.reading.Frame.{Frame}
 use Rattle.rs_global.specs.declared.reading.Link.{Link}
 use Rattle.rs_global.specs.declared.reading.Link.TheVariants as link
 use Rattle.rs_global.specs.declared.reading.Mode.{Mode}
 use Rattle.rs_global.specs.declared.reading.Mode.TheVariants as mode
-use Rattle.rs_global.specs.declared.drafts.DraftArm.{DraftArm}
-use Rattle.rs_global.specs.Data.{Reader_data, Draft_data}
-use Rattle.rs_global.specs.Drafts.{with_arm}
-use Rattle.rs_global.specs.Trees.{Body, ends, again, binds, talks, offers, Branches, one, more, sort_text, sort_signs, arm_signs, body_signs, branch_signs, ends_a_name}
-use Rattle.rs_global.specs.Graph.{labels_of, labels_of_arms, talks_in, talks_in_arms}
-use Rattle.rs_global.specs.Feeding.{Fed, fault, in_mode, linked, linked_root, linked_drafts, sent_by, named, feed_word, placed, met_by, opened, label_of_number, labelled_by, feed_sign}
-
+use Rattle.rs_global.specs.Data.{Reader_data}
+use Rattle.rs_global.specs.Trees.{sort_text, sort_signs, arm_signs, body_signs, branch_signs, ends_a_name}
+use Rattle.rs_global.specs.Graph.{talks_in}
+use Rattle.rs_global.specs.Feeding.{Fed, fault, in_mode, sent_by, feed_word, placed, opened, feed_sign}
 use Rattle.std.specs.List.{flat_map}
 use Rattle.rs_text.specs.declared.faults.Wanted.{Wanted}
 use Rattle.rs_text.specs.declared.faults.Wanted.TheVariants as wanted
 use Rattle.rs_global.specs.Trees.{ProtocolTree, protocol_signs, further_signs, roles_of}
 use Rattle.rs_global.specs.Cuts.{ArmCut, at_label, behind_label, behind_paren, behind_sort, behind_head, Cut, at_body, behind_end, behind_name, behind_rec, behind_rec_name, in_binds, behind_arrow, behind_receiver, in_arm, in_talks, in_offers, behind_brace, BranchCut, in_head, in_branch, later, ProtocolCut, at_begin, at_first, behind_first, at_further, behind_further, in_body, arm_cut_signs, cut_signs, branch_cut_signs, line_signs, protocol_cut_signs, wanted_in_arm, wanted_at, wanted_in, wanted_of}
 use Rattle.rs_global.specs.Scenes.{Scene, with_label, in_talk, behind, scene_at, scene_in, fault_by, fault_in_line, fault_of}
-use Rattle.rs_global.specs.Feeding.{begin, sort_named, sorted_by, new_role, expected}
-use Rattle.rs_global.proofs.FaultRuns.{NotExpected, Lands, sign_behind, lexeme, Leads, IsAfter, lands_if, sent_lands, met_lands, Follower, an_arrow, a_broken, a_name, follower, by_name, faulty_calm, named_lands, placed_length, label_lands, arm_passes, frame_at, restored_bound, passes, branches_pass}
+use Rattle.rs_global.specs.Feeding.{begin, sort_named, sorted_by, new_role}
+use Rattle.rs_global.proofs.FaultRuns.{Lands, sign_behind, lexeme, Leads, lands_if, sent_lands, met_lands, Follower, an_arrow, a_broken, a_name, follower, by_name, faulty_calm, named_lands, placed_length, label_lands, arm_passes, frame_at, restored_bound, passes, branches_pass}
 
 -- what a mode wants
 abbrev pub wanted_behind : List Frame → Wanted
@@ -175,38 +163,38 @@ mutual
   cut_passes (behind_name name) from r u = λ a f n. word_agrees u (follower u) name from a f r (scene_of r)
   cut_passes behind_rec from r u = λ a f n. lands_if (nat_le 200 r.depth) kind.TooDeep a (Ok (record r { depth = suc r.depth; mode = mode.RecName from })) (CutAgrees behind_rec (wanted_behind r.frames) (scene_of r) u) tt (record { wanted = refl; faults = λ t n. refl; named = tt })
   cut_passes (behind_rec_name name) from r u = λ a f n. lands_if (nat_le 200 r.depth) kind.TooDeep a (Ok (record r { depth = suc r.depth; mode = mode.RecName from })) (λ d. Leads (plain name ∷ []) u (CutAgrees (behind_rec_name name) (wanted_behind r.frames) (scene_of r) u) d) tt
-    (λ a f n. record { wanted = refl; faults = λ t n. refl; named = tt })
+      (λ a f n. record { wanted = refl; faults = λ t n. refl; named = tt })
   cut_passes (in_binds name b) from r u = λ a f n. lands_if (nat_le 200 r.depth) kind.TooDeep a (Ok (record r { depth = suc r.depth; mode = mode.RecName from })) (λ d. Leads (plain name ∷ dot ∷ cut_signs b) u (CutAgrees (in_binds name b) (wanted_behind r.frames) (scene_of r) u) d) tt
-    (λ a f n. λ a f n. cut_passes b from (record r { depth = suc r.depth; bound = (name, length r.drafts) ∷ r.bound }) u)
+      (λ a f n. λ a f n. cut_passes b from (record r { depth = suc r.depth; bound = (name, length r.drafts) ∷ r.bound }) u)
   cut_passes (behind_arrow x) from r u = λ a f n. sent_in_room (place_of x r.roles) from a (record r { mode = mode.Body from }) (λ d. Leads (arrow ∷ []) u (CutAgrees (behind_arrow x) (wanted_behind r.frames) (scene_of r) u) d)
-    (λ role room. λ a f n. record { wanted = refl; faults = λ t n. refl; named = room })
+      (λ role room. λ a f n. record { wanted = refl; faults = λ t n. refl; named = room })
   cut_passes (behind_receiver x y) from r u = λ a f n. sent_lands (place_of x r.roles) from a (record r { mode = mode.Body from }) (λ d. Leads (arrow ∷ plain y ∷ []) u (CutAgrees (behind_receiver x y) (wanted_behind r.frames) (scene_of r) u) d)
-    (λ role. λ a f n. λ a f n. met_lands (place_of y r.roles) from role a (record r { mode = mode.Receiver from role }) (CutAgrees (behind_receiver x y) (wanted_behind r.frames) (scene_of r) u)
+      (λ role. λ a f n. λ a f n. met_lands (place_of y r.roles) from role a (record r { mode = mode.Receiver from role }) (CutAgrees (behind_receiver x y) (wanted_behind r.frames) (scene_of r) u)
       (λ q. record { wanted = refl; faults = λ t n. mark_same t n (scene_of r) (scene_of (placed from role q r)) refl; named = tt }))
   cut_passes (in_arm x y arm) from r u = λ a f n. sent_lands (place_of x r.roles) from a (record r { mode = mode.Body from }) (λ d. Leads (arrow ∷ plain y ∷ colon ∷ arm_cut_signs arm) u (CutAgrees (in_arm x y arm) (wanted_behind r.frames) (scene_of r) u) d)
-    (λ role. λ a f n. λ a f n. met_lands (place_of y r.roles) from role a (record r { mode = mode.Receiver from role }) (λ d. Leads (colon ∷ arm_cut_signs arm) u (CutAgrees (in_arm x y arm) (wanted_behind r.frames) (scene_of r) u) d)
+      (λ role. λ a f n. λ a f n. met_lands (place_of y r.roles) from role a (record r { mode = mode.Receiver from role }) (λ d. Leads (colon ∷ arm_cut_signs arm) u (CutAgrees (in_arm x y arm) (wanted_behind r.frames) (scene_of r) u) d)
       (λ q. λ a f n. arm_cut_passes arm (length r.drafts) (placed from role q r) (in_talk (scene_of r)) u refl))
   cut_passes (in_talks x y l s b) from r u = λ a f n. sent_lands (place_of x r.roles) from a (record r { mode = mode.Body from }) (λ d. Leads (arrow ∷ plain y ∷ colon ∷ (arm_signs l s ++ cut_signs b)) u (CutAgrees (in_talks x y l s b) (wanted_behind r.frames) (scene_of r) u) d)
-    (λ role. λ a f n. λ a f n. met_lands (place_of y r.roles) from role a (record r { mode = mode.Receiver from role }) (λ d. Leads (colon ∷ (arm_signs l s ++ cut_signs b)) u (CutAgrees (in_talks x y l s b) (wanted_behind r.frames) (scene_of r) u) d)
+      (λ role. λ a f n. λ a f n. met_lands (place_of y r.roles) from role a (record r { mode = mode.Receiver from role }) (λ d. Leads (colon ∷ (arm_signs l s ++ cut_signs b)) u (CutAgrees (in_talks x y l s b) (wanted_behind r.frames) (scene_of r) u) d)
       (λ q. λ a f n.
-        let p : Reader_data = placed from role q r in
-        arm_passes l s (length r.drafts) p (cut_signs b) u (CutAgrees (in_talks x y l s b) (wanted_behind r.frames) (scene_of r) u)
-          (λ label sort. subst (λ (z : ℕ). Leads (cut_signs b) u (CutAgrees b (wanted_behind r.frames) (record { roles = r.roles; bound = r.bound; depth = r.depth; talks = z; labels = grown r.labels (l ∷ []) }) u) (record p { labels = grown r.labels (l ∷ []); mode = mode.Body (link.OfArm (length r.drafts) label sort) })) (placed_length from role q r)
-            (cut_passes b (link.OfArm (length r.drafts) label sort) (record p { labels = grown r.labels (l ∷ []) }) u))))
+      let p : Reader_data = placed from role q r in
+      arm_passes l s (length r.drafts) p (cut_signs b) u (CutAgrees (in_talks x y l s b) (wanted_behind r.frames) (scene_of r) u)
+      (λ label sort. subst (λ (z : ℕ). Leads (cut_signs b) u (CutAgrees b (wanted_behind r.frames) (record { roles = r.roles; bound = r.bound; depth = r.depth; talks = z; labels = grown r.labels (l ∷ []) }) u) (record p { labels = grown r.labels (l ∷ []); mode = mode.Body (link.OfArm (length r.drafts) label sort) })) (placed_length from role q r)
+      (cut_passes b (link.OfArm (length r.drafts) label sort) (record p { labels = grown r.labels (l ∷ []) }) u))))
   cut_passes (in_offers x y arms) from r u = λ a f n. sent_lands (place_of x r.roles) from a (record r { mode = mode.Body from }) (λ d. Leads (arrow ∷ plain y ∷ open_brace ∷ branch_cut_signs arms) u (CutAgrees (in_offers x y arms) (wanted_behind r.frames) (scene_of r) u) d)
-    (λ role. λ a f n. λ a f n. met_lands (place_of y r.roles) from role a (record r { mode = mode.Receiver from role }) (λ d. Leads (open_brace ∷ branch_cut_signs arms) u (CutAgrees (in_offers x y arms) (wanted_behind r.frames) (scene_of r) u) d)
+      (λ role. λ a f n. λ a f n. met_lands (place_of y r.roles) from role a (record r { mode = mode.Receiver from role }) (λ d. Leads (open_brace ∷ branch_cut_signs arms) u (CutAgrees (in_offers x y arms) (wanted_behind r.frames) (scene_of r) u) d)
       (λ q. λ a f n.
-        let p : Reader_data = placed from role q r in
-        lands_if (nat_le 200 r.depth) kind.TooDeep a (Ok (opened (length r.drafts) p)) (λ d. Leads (branch_cut_signs arms) u (CutAgrees (in_offers x y arms) (wanted_behind r.frames) (scene_of r) u) d) tt
-          (subst (λ (z : ℕ). Leads (branch_cut_signs arms) u (BranchAgrees arms (record { roles = r.roles; bound = r.bound; depth = suc r.depth; talks = z; labels = r.labels }) u) (opened (length r.drafts) p)) (placed_length from role q r)
-            (cut_branches arms (length r.drafts) (record p { depth = suc r.depth }) (length r.drafts) r.frames u))))
+      let p : Reader_data = placed from role q r in
+      lands_if (nat_le 200 r.depth) kind.TooDeep a (Ok (opened (length r.drafts) p)) (λ d. Leads (branch_cut_signs arms) u (CutAgrees (in_offers x y arms) (wanted_behind r.frames) (scene_of r) u) d) tt
+      (subst (λ (z : ℕ). Leads (branch_cut_signs arms) u (BranchAgrees arms (record { roles = r.roles; bound = r.bound; depth = suc r.depth; talks = z; labels = r.labels }) u) (opened (length r.drafts) p)) (placed_length from role q r)
+      (cut_branches arms (length r.drafts) (record p { depth = suc r.depth }) (length r.drafts) r.frames u))))
   cut_passes (behind_brace x y arms) from r u = λ a f n. sent_lands (place_of x r.roles) from a (record r { mode = mode.Body from }) (λ d. Leads (arrow ∷ plain y ∷ open_brace ∷ (branch_signs arms ++ close_brace ∷ [])) u (CutAgrees (behind_brace x y arms) (wanted_behind r.frames) (scene_of r) u) d)
-    (λ role. λ a f n. λ a f n. met_lands (place_of y r.roles) from role a (record r { mode = mode.Receiver from role }) (λ d. Leads (open_brace ∷ (branch_signs arms ++ close_brace ∷ [])) u (CutAgrees (behind_brace x y arms) (wanted_behind r.frames) (scene_of r) u) d)
+      (λ role. λ a f n. λ a f n. met_lands (place_of y r.roles) from role a (record r { mode = mode.Receiver from role }) (λ d. Leads (open_brace ∷ (branch_signs arms ++ close_brace ∷ [])) u (CutAgrees (behind_brace x y arms) (wanted_behind r.frames) (scene_of r) u) d)
       (λ q. λ a f n.
-        let p : Reader_data = placed from role q r in
-        lands_if (nat_le 200 r.depth) kind.TooDeep a (Ok (opened (length r.drafts) p)) (λ d. Leads (branch_signs arms ++ close_brace ∷ []) u (CutAgrees (behind_brace x y arms) (wanted_behind r.frames) (scene_of r) u) d) tt
-          (branches_pass arms (length r.drafts) (record p { depth = suc r.depth }) (length r.drafts) r.frames (close_brace ∷ []) u (CutAgrees (behind_brace x y arms) (wanted_behind r.frames) (scene_of r) u) tt
-            (λ labels drafts root ended bound inner depth g d b. λ a f n. record { wanted = refl; faults = λ t n. none_behind r.frames t n (scene_of r); named = λ h. cc }))))
+      let p : Reader_data = placed from role q r in
+      lands_if (nat_le 200 r.depth) kind.TooDeep a (Ok (opened (length r.drafts) p)) (λ d. Leads (branch_signs arms ++ close_brace ∷ []) u (CutAgrees (behind_brace x y arms) (wanted_behind r.frames) (scene_of r) u) d) tt
+      (branches_pass arms (length r.drafts) (record p { depth = suc r.depth }) (length r.drafts) r.frames (close_brace ∷ []) u (CutAgrees (behind_brace x y arms) (wanted_behind r.frames) (scene_of r) u) tt
+      (λ labels drafts root ended bound inner depth g d b. λ a f n. record { wanted = refl; faults = λ t n. none_behind r.frames t n (scene_of r); named = λ h. cc }))))
 
   pub cut_branches : (c : BranchCut) (node : ℕ) (r : Reader_data) (m : ℕ) (fs : List Frame) (u : Sign) → Leads (branch_cut_signs c) u (BranchAgrees c (scene_of r) u) (record r { frames = frame_at m r.bound r.depth ∷ fs; mode = mode.AtLabel node })
   cut_branches (in_head arm) node r m fs u = arm_cut_passes arm node (record r { frames = frame_at m r.bound r.depth ∷ fs }) (scene_of r) u refl
@@ -216,19 +204,19 @@ mutual
   cut_branches (later l s b arms) node r m fs u =
       let o : Reader_data = record r { frames = frame_at m r.bound r.depth ∷ fs } in
       arm_passes l s node o (body_signs b ++ comma ∷ branch_cut_signs arms) u (BranchAgrees (later l s b arms) (scene_of r) u)
-        (λ label sort. passes b (link.OfArm node label sort) (record o { labels = grown r.labels (l ∷ []) }) (comma ∷ branch_cut_signs arms) u (BranchAgrees (later l s b arms) (scene_of r) u) tt
-          (λ labels drafts root ended bound inner depth g d h. λ a f n.
-            let back : Reader_data = record o { labels = labels; drafts = drafts; root = root; ended = ended } in
-            let there : scene_of back ≡ behind b (with_label l (scene_of r)) = ap (λ z. record { roles = r.roles; bound = r.bound; depth = r.depth; talks = z; labels = labels }) d ∙ ap (λ z. record { roles = r.roles; bound = r.bound; depth = r.depth; talks = length r.drafts + talks_in b; labels = z }) g in
-            subst (λ (z : Bound). Leads (branch_cut_signs arms) u (BranchAgrees (later l s b arms) (scene_of r) u) (record back { bound = z; mode = mode.AtLabel m })) (sym (restored_bound inner bound r.bound h))
-              (subst (λ (z : Scene). Leads (branch_cut_signs arms) u (BranchAgrees arms z u) (record back { mode = mode.AtLabel m })) there (cut_branches arms m back m fs u))))
+      (λ label sort. passes b (link.OfArm node label sort) (record o { labels = grown r.labels (l ∷ []) }) (comma ∷ branch_cut_signs arms) u (BranchAgrees (later l s b arms) (scene_of r) u) tt
+      (λ labels drafts root ended bound inner depth g d h. λ a f n.
+      let back : Reader_data = record o { labels = labels; drafts = drafts; root = root; ended = ended } in
+      let there : scene_of back ≡ behind b (with_label l (scene_of r)) = ap (λ z. record { roles = r.roles; bound = r.bound; depth = r.depth; talks = z; labels = labels }) d ∙ ap (λ z. record { roles = r.roles; bound = r.bound; depth = r.depth; talks = length r.drafts + talks_in b; labels = z }) g in
+      subst (λ (z : Bound). Leads (branch_cut_signs arms) u (BranchAgrees (later l s b arms) (scene_of r) u) (record back { bound = z; mode = mode.AtLabel m })) (sym (restored_bound inner bound r.bound h))
+      (subst (λ (z : Scene). Leads (branch_cut_signs arms) u (BranchAgrees arms z u) (record back { mode = mode.AtLabel m })) there (cut_branches arms m back m fs u))))
 
 -- ---- the roles line
 
 role_lands : (after : Mode) (word : List ℕ) (at : ℕ) (r : Reader_data) (Q : Reader_data → Type 0) → Q (record r { roles = r.roles ++ word ∷ []; mode = after }) → Lands (new_role after (Some word) at r) Q
 role_lands after word at r Q h =
     lands_if (is_among word r.roles) kind.NameTwice at (if nat_le 16 (length r.roles) then fault kind.TooManyRoles at else Ok (record r { roles = r.roles ++ word ∷ []; mode = after })) Q tt
-      (lands_if (nat_le 16 (length r.roles)) kind.TooManyRoles at (Ok (record r { roles = r.roles ++ word ∷ []; mode = after })) Q tt h)
+    (lands_if (nat_le 16 (length r.roles)) kind.TooManyRoles at (Ok (record r { roles = r.roles ++ word ∷ []; mode = after })) Q tt h)
 
 line_passes : (xs : List (List ℕ)) (r : Reader_data) (ts : List Sign) (u : Sign) (Q : Reader_data → Type 0) → Leads ts u Q (record r { roles = r.roles ++ xs; mode = mode.Line }) → Leads (flat_map further_signs xs ++ ts) u Q (record r { mode = mode.Line })
 line_passes [] r ts u Q h = subst (λ (z : List (List ℕ)). Leads ts u Q (record r { roles = z; mode = mode.Line })) (append-nil r.roles) h
@@ -238,7 +226,7 @@ line_passes (x ∷ xs) r ts u Q h = λ a f n. λ a f n. role_lands mode.Line x a
 pub roles_pass : (x y : List ℕ) (xs : List (List ℕ)) (ts : List Sign) (u : Sign) (Q : Reader_data → Type 0) → Leads ts u Q (record begin { roles = x ∷ y ∷ xs; mode = mode.Line }) → Leads (line_signs x (y ∷ xs) ++ ts) u Q begin
 roles_pass x y xs ts u Q h = λ a f n. λ a f n. role_lands mode.FirstComma x a (record begin { mode = mode.FirstRole }) (λ d. Leads (comma ∷ plain y ∷ (flat_map further_signs xs ++ ts)) u Q d)
     (λ a f n. λ a f n. role_lands mode.Line y a (record begin { roles = x ∷ []; mode = mode.FurtherRole }) (λ d. Leads (flat_map further_signs xs ++ ts) u Q d)
-      (line_passes xs (record begin { roles = x ∷ y ∷ [] }) ts u Q h))
+    (line_passes xs (record begin { roles = x ∷ y ∷ [] }) ts u Q h))
 
 -- at every place the reader stands as the place says
 pub place_passes : (c : ProtocolCut) (u : Sign) → Leads (protocol_cut_signs c) u (PlaceAgrees c u) begin
@@ -255,7 +243,7 @@ place_passes (in_body x y xs body) u = roles_pass x y xs (plain (codes "protocol
 pub tree_passes : (t : ProtocolTree) → Leads (protocol_signs t) finish (λ d. Unit {0}) begin
 tree_passes t = roles_pass t.first t.second t.further (plain (codes "protocol") ∷ body_signs t.body) finish (λ d. Unit {0})
     (λ a f n. subst (λ (z : List Sign). Leads z finish (λ d. Unit {0}) (record begin { roles = roles_of t; mode = mode.Body link.Root })) (append-nil (body_signs t.body))
-      (passes t.body link.Root (record begin { roles = roles_of t }) [] finish (λ d. Unit {0}) tt (λ labels drafts root ended bound inner depth g d b. tt)))
+    (passes t.body link.Root (record begin { roles = roles_of t }) [] finish (λ d. Unit {0}) tt (λ labels drafts root ended bound inner depth g d b. tt)))
 
 -- ---- lists in two parts
 

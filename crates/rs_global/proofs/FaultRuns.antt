@@ -1,5 +1,5 @@
 -- Where the tokens of a body lead the reader, if at all: no token of it is unexpected.
-use Rattle.std.proofs.Common.{◌≡◌, ℕ, zero, suc, ◌+◌, ◌-◌, List, [], ◌∷◌, ◌++◌, length, drop, codes, Bool, true, false, if◌then◌else◌, nat_le, nat_lt, Option, Some, None, Result, Ok, Err, refl, sym, ap, ◌∙◌, subst, arith, append_assoc, append-nil, length-append, slice_get}
+use Rattle.std.proofs.Common.{◌≡◌, ℕ, suc, ◌+◌, ◌-◌, List, [], ◌∷◌, ◌++◌, length, drop, codes, Bool, true, false, if◌then◌else◌, nat_le, nat_lt, Option, Some, None, Ok, Err, refl, sym, ap, ◌∙◌, subst, arith, append_assoc, length-append, slice_get}
 use Rattle.std.proofs.lemmas.List.{length-set}
 use Rattle.std.proofs.Math.Seq.{drop-append_seam}
 use Rattle.std.proofs.lemmas.Slice.Eq.{bytes_eq-Decides}
@@ -14,18 +14,17 @@ use Rattle.rs_text.specs.declared.faults.TextKind.{TextKind}
 use Rattle.rs_text.specs.declared.faults.TextKind.TheVariants as kind
 use Rattle.rs_text.specs.Faults.{kind_of}
 use Rattle.rs_text.specs.Lexemes.{Lexeme}
-use Rattle.rs_text.specs.Names.{place_of, is_among, grown, Bound, bound_to}
-use Rattle.rs_text.specs.Signs.{Sign, rec_word, end_word, plain, number, arrow, bang, question, colon, dot, comma, open_brace, close_brace, open_paren, close_paren, open_bracket, close_bracket, broken, finish, word_sign}
+use Rattle.rs_text.specs.Names.{place_of, grown, Bound, bound_to}
+use Rattle.rs_text.specs.Signs.{Sign, rec_word, end_word, plain, arrow, colon, dot, comma, open_brace, close_brace, open_paren, close_paren, broken, word_sign}
 use Rattle.rs_text.proofs.Naming.{among, not_among, grown_append}
 use Rattle.rs_global.specs.declared.reading.Frame.{Frame}
 use Rattle.rs_global.specs.declared.reading.Link.{Link}
 use Rattle.rs_global.specs.declared.reading.Link.TheVariants as link
-use Rattle.rs_global.specs.declared.reading.Mode.{Mode}
 use Rattle.rs_global.specs.declared.reading.Mode.TheVariants as mode
 use Rattle.rs_global.specs.declared.drafts.DraftArm.{DraftArm}
 use Rattle.rs_global.specs.Data.{Reader_data, Draft_data}
 use Rattle.rs_global.specs.Drafts.{with_arm}
-use Rattle.rs_global.specs.Trees.{Body, ends, again, binds, talks, offers, Branches, one, more, sort_text, sort_signs, arm_signs, body_signs, branch_signs, ends_a_name}
+use Rattle.rs_global.specs.Trees.{Body, ends, again, binds, talks, offers, Branches, one, more, sort_signs, arm_signs, body_signs, branch_signs, ends_a_name}
 use Rattle.rs_global.specs.Graph.{labels_of, labels_of_arms, talks_in, talks_in_arms}
 use Rattle.rs_global.specs.Feeding.{Fed, fault, in_mode, linked, linked_root, linked_drafts, sent_by, named, feed_word, placed, met_by, opened, label_of_number, labelled_by, feed_sign}
 
@@ -132,7 +131,7 @@ labelled_lands : (found : Option ℕ) (l : List ℕ) (node at : ℕ) (r : Reader
 labelled_lands (Some k) l node at r Q e h = h (label_of_number k) r.labels (sym (ap (λ z. if z then r.labels else r.labels ++ l ∷ []) (among r.labels l 0 k e)))
 labelled_lands None l node at r Q e h =
     lands_if (nat_le 256 (length r.labels)) kind.TooManyLabels at (Ok (record r { labels = r.labels ++ l ∷ []; mode = mode.Paren node (label_of_number (length r.labels)) })) Q tt
-      (h (label_of_number (length r.labels)) (r.labels ++ l ∷ []) (sym (ap (λ z. if z then r.labels else r.labels ++ l ∷ []) (not_among r.labels l 0 e))))
+    (h (label_of_number (length r.labels)) (r.labels ++ l ∷ []) (sym (ap (λ z. if z then r.labels else r.labels ++ l ∷ []) (not_among r.labels l 0 e))))
 
 pub label_lands : (l : List ℕ) (node at : ℕ) (n : Lexeme) (r : Reader_data) (Q : Reader_data → Type 0) → ((k : Label) → Q (record r { labels = grown r.labels (l ∷ []); mode = mode.Paren node k }))
     → Lands (feed_sign (word_sign l) at n (record r { mode = mode.AtLabel node })) Q
@@ -170,6 +169,7 @@ restored_bound inner bound outer h =
     let n : length bound ≡ length inner + length outer = ap length h ∙ length-append inner outer in
     let m : length bound - length outer ≡ length inner = ap (λ z. z - length outer) n ∙ omega arith in
     ap (λ z. drop z bound) m ∙ ap (λ z. drop (length inner) z) h ∙ drop-append_seam inner outer
+
 grown_one : (names xs : List (List ℕ)) (l : List ℕ) → grown (grown names (l ∷ [])) xs ≡ grown names (l ∷ xs)
 grown_one names xs l = refl
 
@@ -177,46 +177,46 @@ mutual
   pub passes : (b : Body) (from : Link) (r : Reader_data) (ts : List Sign) (u : Sign) (Q : Reader_data → Type 0) → IsAfter (sign_behind ts u) → Goes (labels_of b) (talks_in b) r (λ e. Leads ts u Q e) → Leads (body_signs b ++ ts) u Q (record r { mode = mode.Body from })
   passes ends from r ts u Q h k = λ at f n. k r.labels (linked_drafts from None r.drafts) (linked_root from None r.root) true r.bound [] r.depth refl (linked_length from None r.drafts ∙ omega arith) refl
   passes (again name) from r ts u Q h k = λ at f n. name_lands (sign_behind ts u) from name at f (record r { mode = mode.Body from }) (λ e. Leads ts u Q e) h
-    (λ e j. k r.labels (linked_drafts from (Some j) r.drafts) (linked_root from (Some j) r.root) r.ended r.bound [] r.depth refl (linked_length from (Some j) r.drafts ∙ omega arith) refl)
+      (λ e j. k r.labels (linked_drafts from (Some j) r.drafts) (linked_root from (Some j) r.root) r.ended r.bound [] r.depth refl (linked_length from (Some j) r.drafts ∙ omega arith) refl)
   passes (binds name body) from r ts u Q h k = λ at f n. lands_if (nat_le 200 r.depth) kind.TooDeep at (Ok (record r { depth = suc r.depth; mode = mode.RecName from })) (λ e. Leads (plain name ∷ dot ∷ (body_signs body ++ ts)) u Q e) tt
-    (λ a f n. λ a f n. passes body from (record r { depth = suc r.depth; bound = (name, length r.drafts) ∷ r.bound }) ts u Q h
+      (λ a f n. λ a f n. passes body from (record r { depth = suc r.depth; bound = (name, length r.drafts) ∷ r.bound }) ts u Q h
       (λ labels drafts root ended bound inner depth l d b. k labels drafts root ended bound (inner ++ (name, length r.drafts) ∷ []) depth l d (b ∙ sym (append_assoc inner ((name, length r.drafts) ∷ []) r.bound))))
   passes (talks x y l s body) from r ts u Q h k = λ at f n. sent_lands (place_of x r.roles) from at (record r { mode = mode.Body from }) (λ e. Leads (arrow ∷ plain y ∷ colon ∷ ((arm_signs l s ++ body_signs body) ++ ts)) u Q e)
-    (λ role. λ a f n. λ a f n. met_lands (place_of y r.roles) from role a (record r { mode = mode.Receiver from role }) (λ e. Leads (colon ∷ ((arm_signs l s ++ body_signs body) ++ ts)) u Q e)
+      (λ role. λ a f n. λ a f n. met_lands (place_of y r.roles) from role a (record r { mode = mode.Receiver from role }) (λ e. Leads (colon ∷ ((arm_signs l s ++ body_signs body) ++ ts)) u Q e)
       (λ q. λ a f n.
-        let p : Reader_data = placed from role q r in
-        subst (λ (z : List Sign). Leads z u Q (record p { mode = mode.AtLabel (length r.drafts) })) (sym (append_assoc (arm_signs l s) (body_signs body) ts))
-          (arm_passes l s (length r.drafts) p (body_signs body ++ ts) u Q
-            (λ label sort. passes body (link.OfArm (length r.drafts) label sort) (record p { labels = grown r.labels (l ∷ []) }) ts u Q h
-              (λ labels drafts root ended bound inner depth g d b. k labels drafts root ended bound inner depth g (let c : length p.drafts ≡ suc (length r.drafts) = placed_length from role q r in d ∙ ap (λ z. z + talks_in body) c ∙ omega arith) b)))))
+      let p : Reader_data = placed from role q r in
+      subst (λ (z : List Sign). Leads z u Q (record p { mode = mode.AtLabel (length r.drafts) })) (sym (append_assoc (arm_signs l s) (body_signs body) ts))
+      (arm_passes l s (length r.drafts) p (body_signs body ++ ts) u Q
+      (λ label sort. passes body (link.OfArm (length r.drafts) label sort) (record p { labels = grown r.labels (l ∷ []) }) ts u Q h
+      (λ labels drafts root ended bound inner depth g d b. k labels drafts root ended bound inner depth g (let c : length p.drafts ≡ suc (length r.drafts) = placed_length from role q r in d ∙ ap (λ z. z + talks_in body) c ∙ omega arith) b)))))
   passes (offers x y arms) from r ts u Q h k = λ at f n. sent_lands (place_of x r.roles) from at (record r { mode = mode.Body from }) (λ e. Leads (arrow ∷ plain y ∷ open_brace ∷ ((branch_signs arms ++ close_brace ∷ []) ++ ts)) u Q e)
-    (λ role. λ a f n. λ a f n. met_lands (place_of y r.roles) from role a (record r { mode = mode.Receiver from role }) (λ e. Leads (open_brace ∷ ((branch_signs arms ++ close_brace ∷ []) ++ ts)) u Q e)
+      (λ role. λ a f n. λ a f n. met_lands (place_of y r.roles) from role a (record r { mode = mode.Receiver from role }) (λ e. Leads (open_brace ∷ ((branch_signs arms ++ close_brace ∷ []) ++ ts)) u Q e)
       (λ q. λ a f n.
-        let p : Reader_data = placed from role q r in
-        lands_if (nat_le 200 r.depth) kind.TooDeep a (Ok (opened (length r.drafts) p)) (λ e. Leads ((branch_signs arms ++ close_brace ∷ []) ++ ts) u Q e) tt
-          (subst (λ (z : List Sign). Leads z u Q (opened (length r.drafts) p)) (sym (append_assoc (branch_signs arms) (close_brace ∷ []) ts))
-            (branches_pass arms (length r.drafts) (record p { depth = suc r.depth }) (length r.drafts) r.frames (close_brace ∷ ts) u Q tt
-              (λ labels drafts root ended bound inner depth g d b. λ a f n.
-                k labels drafts root ended (drop (length bound - length r.bound) bound) [] (suc r.depth) g (let c : length p.drafts ≡ suc (length r.drafts) = placed_length from role q r in d ∙ ap (λ z. z + talks_in_arms arms) c ∙ omega arith) (restored_bound inner bound r.bound b))))))
+      let p : Reader_data = placed from role q r in
+      lands_if (nat_le 200 r.depth) kind.TooDeep a (Ok (opened (length r.drafts) p)) (λ e. Leads ((branch_signs arms ++ close_brace ∷ []) ++ ts) u Q e) tt
+      (subst (λ (z : List Sign). Leads z u Q (opened (length r.drafts) p)) (sym (append_assoc (branch_signs arms) (close_brace ∷ []) ts))
+      (branches_pass arms (length r.drafts) (record p { depth = suc r.depth }) (length r.drafts) r.frames (close_brace ∷ ts) u Q tt
+      (λ labels drafts root ended bound inner depth g d b. λ a f n.
+      k labels drafts root ended (drop (length bound - length r.bound) bound) [] (suc r.depth) g (let c : length p.drafts ≡ suc (length r.drafts) = placed_length from role q r in d ∙ ap (λ z. z + talks_in_arms arms) c ∙ omega arith) (restored_bound inner bound r.bound b))))))
 
   pub branches_pass : (arms : Branches) (node : ℕ) (r : Reader_data) (m : ℕ) (fs : List Frame) (ts : List Sign) (u : Sign) (Q : Reader_data → Type 0) → IsAfter (sign_behind ts u)
       → Goes (labels_of_arms arms) (talks_in_arms arms) (record r { frames = frame_at m r.bound r.depth ∷ fs }) (λ e. Leads ts u Q e) → Leads (branch_signs arms ++ ts) u Q (record r { frames = frame_at m r.bound r.depth ∷ fs; mode = mode.AtLabel node })
   branches_pass (one l s body) node r m fs ts u Q h k =
       let o : Reader_data = record r { frames = frame_at m r.bound r.depth ∷ fs } in
       subst (λ (z : List Sign). Leads z u Q (record o { mode = mode.AtLabel node })) (sym (append_assoc (arm_signs l s) (body_signs body) ts))
-        (arm_passes l s node o (body_signs body ++ ts) u Q
-          (λ label sort. passes body (link.OfArm node label sort) (record o { labels = grown r.labels (l ∷ []) }) ts u Q h
-            (λ labels drafts root ended bound inner depth g d b. k labels drafts root ended bound inner depth g d b)))
+      (arm_passes l s node o (body_signs body ++ ts) u Q
+      (λ label sort. passes body (link.OfArm node label sort) (record o { labels = grown r.labels (l ∷ []) }) ts u Q h
+      (λ labels drafts root ended bound inner depth g d b. k labels drafts root ended bound inner depth g d b)))
   branches_pass (more l s body arms) node r m fs ts u Q h k =
       let o : Reader_data = record r { frames = frame_at m r.bound r.depth ∷ fs } in
       let shape : (arm_signs l s ++ (body_signs body ++ comma ∷ branch_signs arms)) ++ ts ≡ arm_signs l s ++ (body_signs body ++ comma ∷ (branch_signs arms ++ ts)) =
-        append_assoc (arm_signs l s) (body_signs body ++ comma ∷ branch_signs arms) ts ∙ ap (λ z. arm_signs l s ++ z) (append_assoc (body_signs body) (comma ∷ branch_signs arms) ts) in
+      append_assoc (arm_signs l s) (body_signs body ++ comma ∷ branch_signs arms) ts ∙ ap (λ z. arm_signs l s ++ z) (append_assoc (body_signs body) (comma ∷ branch_signs arms) ts) in
       subst (λ (z : List Sign). Leads z u Q (record o { mode = mode.AtLabel node })) (sym shape)
-        (arm_passes l s node o (body_signs body ++ comma ∷ (branch_signs arms ++ ts)) u Q
-          (λ label sort. passes body (link.OfArm node label sort) (record o { labels = grown r.labels (l ∷ []) }) (comma ∷ (branch_signs arms ++ ts)) u Q tt
-            (λ labels drafts root ended bound inner depth g d b. λ a f n.
-              let back : Reader_data = record o { labels = labels; drafts = drafts; root = root; ended = ended } in
-              subst (λ (z : Bound). Leads (branch_signs arms ++ ts) u Q (record back { bound = z; mode = mode.AtLabel m })) (sym (restored_bound inner bound r.bound b))
-                (branches_pass arms m back m fs ts u Q h (λ labels' drafts' root' ended' bound' inner' depth' g' d' b'. k labels' drafts' root' ended' bound' inner' depth'
-                  (g' ∙ ap (λ z. grown z (labels_of_arms arms)) g ∙ sym (grown_append (labels_of body) (labels_of_arms arms) (grown r.labels (l ∷ []))))
-                  (d' ∙ ap (λ z. z + talks_in_arms arms) d ∙ omega arith) b')))))
+      (arm_passes l s node o (body_signs body ++ comma ∷ (branch_signs arms ++ ts)) u Q
+      (λ label sort. passes body (link.OfArm node label sort) (record o { labels = grown r.labels (l ∷ []) }) (comma ∷ (branch_signs arms ++ ts)) u Q tt
+      (λ labels drafts root ended bound inner depth g d b. λ a f n.
+      let back : Reader_data = record o { labels = labels; drafts = drafts; root = root; ended = ended } in
+      subst (λ (z : Bound). Leads (branch_signs arms ++ ts) u Q (record back { bound = z; mode = mode.AtLabel m })) (sym (restored_bound inner bound r.bound b))
+      (branches_pass arms m back m fs ts u Q h (λ labels' drafts' root' ended' bound' inner' depth' g' d' b'. k labels' drafts' root' ended' bound' inner' depth'
+      (g' ∙ ap (λ z. grown z (labels_of_arms arms)) g ∙ sym (grown_append (labels_of body) (labels_of_arms arms) (grown r.labels (l ∷ []))))
+      (d' ∙ ap (λ z. z + talks_in_arms arms) d ∙ omega arith) b')))))

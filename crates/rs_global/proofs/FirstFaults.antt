@@ -1,5 +1,5 @@
 -- The fault that the reader tells is the first fault of the text.
-use Rattle.std.proofs.Common.{codes, ◌≡◌, ℕ, suc, ◌≤◌, List, [], ◌∷◌, ◌++◌, length, map, Bool, true, false, if◌then◌else◌, Option, Some, None, Result, Ok, Err, refl, sym, ap, ◌∙◌, subst, ◌⊎◌, inl, inr, append_assoc, append-nil, arith}
+use Rattle.std.proofs.Common.{codes, ◌≡◌, ℕ, ◌≤◌, List, [], ◌∷◌, ◌++◌, length, Bool, true, false, if◌then◌else◌, Option, Some, None, Result, Ok, Err, refl, sym, ap, ◌∙◌, subst, ◌⊎◌, inl, inr, append_assoc, append-nil, arith}
 use Rattle.rs_text.specs.declared.tokens.FaultKind.{FaultKind}
 use Rattle.rs_text.specs.declared.faults.TextFault.{TextFault}
 use Rattle.rs_text.specs.declared.faults.TextKind.{TextKind}
@@ -8,7 +8,7 @@ use Rattle.rs_text.specs.declared.faults.Wanted.{Wanted}
 use Rattle.rs_text.specs.declared.faults.Wanted.TheVariants as wanted
 use Rattle.rs_text.specs.Faults.{kind_of, kind_number}
 use Rattle.rs_text.specs.Lexemes.{Lexeme, Lexed, signs_of, is_last, next_lexeme}
-use Rattle.rs_text.specs.Signs.{Sign, rec_word, end_word, plain, arrow, colon, dot, comma, open_brace, close_brace, open_paren, close_paren, broken, finish}
+use Rattle.rs_text.specs.Signs.{Sign, rec_word, plain, arrow, colon, dot, comma, open_brace, broken, finish}
 use Rattle.rs_text.specs.Tokens.{IsNext}
 use Rattle.rs_text.specs.Words.{is_role_word}
 use Rattle.rs_text.proofs.Gaps.{true_or_false}
@@ -17,16 +17,16 @@ use Rattle.rs_global.specs.declared.reading.Frame.{Frame}
 use Rattle.rs_global.specs.declared.reading.Mode.{Mode}
 use Rattle.rs_global.specs.declared.reading.Mode.TheVariants as mode
 use Rattle.rs_global.specs.Data.{Reader_data}
-use Rattle.rs_global.specs.Trees.{ProtocolTree, protocol_signs, arm_signs, body_signs}
+use Rattle.rs_global.specs.Trees.{protocol_signs, arm_signs, body_signs}
 use Rattle.rs_global.specs.Cuts.{Cut, at_body, behind_end, behind_name, behind_rec, behind_rec_name, in_binds, behind_arrow, behind_receiver, in_arm, in_talks, in_offers, behind_brace, BranchCut, in_head, in_branch, later, ProtocolCut, at_begin, at_first, behind_first, at_further, behind_further, in_body, cut_signs, branch_cut_signs, line_signs, protocol_cut_signs, wanted_in_arm, wanted_at, wanted_in, wanted_of, IsBehind}
 use Rattle.rs_global.specs.Cuts.{ArmCut, at_label, behind_label, behind_paren, behind_sort, behind_head}
 use Rattle.rs_global.specs.Scenes.{Scene, fault_by, fault_of}
-use Rattle.rs_global.specs.Faults.{Begins, IsWhole, IsWithin, EndsByName, IsInReach, IsUnexpected, IsMisplaced, IsBroken, FaultAt, next_of, AllClear, FirstFault}
-use Rattle.rs_global.specs.Feeding.{Fed, Reading, Answer, begin, feed_at, feed_next, feed_sign, is_read, no_frames, behind_body, next_lexeme_of, read_all, answered, ReadsAs}
+use Rattle.rs_global.specs.Faults.{Begins, IsWhole, IsWithin, EndsByName, IsInReach, FaultAt, next_of, AllClear, FirstFault}
+use Rattle.rs_global.specs.Feeding.{Fed, Reading, begin, feed_at, feed_next, feed_sign, is_read, no_frames, behind_body, read_all, answered, ReadsAs}
 use Rattle.rs_global.proofs.FaultRuns.{NotExpected, Lands, sign_behind, lexeme, Leads}
-use Rattle.rs_global.proofs.FaultPlaces.{wanted_behind, wanted_by, fault_seen, is_named, is_named_in, is_named_of, NamedBy, PlaceAgrees, place_passes, tree_passes, leads_split}
+use Rattle.rs_global.proofs.FaultPlaces.{wanted_by, fault_seen, is_named, is_named_in, is_named_of, NamedBy, PlaceAgrees, place_passes, tree_passes, leads_split}
 use Rattle.rs_global.proofs.FaultCuts.{takes, IsProper, proper_word, Grows, place_grows, word_grows, place_begins}
-use Rattle.rs_global.proofs.FaultSteps.{ToldUnexpected, ToldMisplaced, ToldBroken, Steps, IsArrowMode, steps, whole_fed}
+use Rattle.rs_global.proofs.FaultSteps.{ToldUnexpected, Steps, IsArrowMode, steps, whole_fed}
 
 -- these tokens lead the reader to r, with u behind them
 abbrev pub Reached : List Sign → Sign → Reader_data → Type 1
@@ -154,7 +154,7 @@ clear_of xs t u r reach there whole seen k f = elim f [
 pub record Here (xs : List Sign) (t : Sign) (at : ℕ) (u : Sign) (e : TextFault) : Type 0 where
   pub at_is : e.at ≡ at
   pub fault : FaultAt xs t u e.kind
-  pub least : (k : TextKind) → FaultAt xs t u k → kind_number e.kind ≤ kind_number k
+  pub only : (k : TextKind) → FaultAt xs t u k → k ≡ e.kind
 
 -- the next token is faulty
 pub record Next (xs : List Sign) (t : Sign) (n : Lexeme) (e : TextFault) : Type 0 where
@@ -170,21 +170,6 @@ pub record Next (xs : List Sign) (t : Sign) (n : Lexeme) (e : TextFault) : Type 
 abbrev pub Verdict : List Sign → Sign → ℕ → Lexeme → Fed → Type 0
 Verdict xs t at n (Ok d) = There (xs ++ t ∷ []) × Clear xs t n.sign
 Verdict xs t at n (Err e) = Here xs t at n.sign e ⊎ Next xs t n e
-
-one_least : (k : TextKind) → 1 ≤ kind_number k
-one_least (kind.Expected w) = omega arith
-one_least kind.UnknownRole = omega arith
-one_least kind.UnboundName = omega arith
-one_least kind.NameTwice = omega arith
-one_least kind.TooDeep = omega arith
-one_least kind.TooManyRoles = omega arith
-one_least kind.TooManyNodes = omega arith
-one_least kind.NoMemory = omega arith
-one_least kind.Unguarded = omega arith
-one_least kind.TooManyLabels = omega arith
-one_least kind.BadByte = omega arith
-one_least kind.NumberTooLarge = omega arith
-one_least kind.NameTooLong = omega arith
 
 least_same : (k j : TextKind) → j ≡ k → kind_number k ≤ kind_number j
 least_same k j e = let n : kind_number j ≡ kind_number k = ap kind_number e in omega arith
@@ -215,14 +200,28 @@ not_part mode.Next (f ∷ fs) a u h = cc
 not_part _ fs a u h = cc
 
 here_unexpected : (xs : List Sign) (t : Sign) (at : ℕ) (u : Sign) (r : Reader_data) (e : TextFault) → Reached xs t r → (there : There xs) → IsWhole t → (wanted_by r.mode r.frames ≡ wanted.PartOrEnd → ⊥)
-    → ((n : Lexeme) → Steps (wanted_by r.mode r.frames) (fault_seen r.mode t n.sign r) t 0 n (feed_at r.mode t 0 n r)) → ToldUnexpected (wanted_by r.mode r.frames) t at e → Here xs t at u e
+    → ((n : Lexeme) → Steps (wanted_by r.mode r.frames) (fault_seen r.mode t n.sign r) t 0 n (feed_at r.mode t 0 n r)) → ToldUnexpected (wanted_by r.mode r.frames) (fault_seen r.mode t u r) t at e → Here xs t at u e
 here_unexpected xs t at u r e reach there whole part s x =
     let a : PlaceAgrees there.0 t r = agree xs t r reach there.0 there.1 in
     record {
       at_is = x.at_is;
-      fault = inl (wanted_by r.mode r.frames, x.kind_is, record { whole = whole; place = there.0; stands = there.1; within = within_of there.0 (λ h. part (a.wanted ∙ h)); wants = sym a.wanted;
-        stops = stops_there xs t r (wanted_by r.mode r.frames) (λ v. fault_seen r.mode t v r) reach whole x.stops s });
-      least = λ k f. subst (λ (z : TextKind). kind_number z ≤ kind_number k) (sym x.kind_is) (one_least k);
+      fault = inl (
+        wanted_by r.mode r.frames,
+        x.kind_is,
+        record {
+          whole = whole;
+          place = there.0;
+          stands = there.1;
+          within = within_of there.0 (λ h. part (a.wanted ∙ h));
+          wants = sym a.wanted;
+          stops = stops_there xs t r (wanted_by r.mode r.frames) (λ v. fault_seen r.mode t v r) reach whole x.stops s;
+        },
+      );
+      only = λ k f. elim f [
+        | inl y ↦ y.1 ∙ ap (λ z. kind.Expected z) (sym y.2.wants ∙ sym (agree xs t r reach y.2.place y.2.stands).wanted) ∙ sym x.kind_is
+        | inr (inl m) ↦ absurd (cc (sym m.fault ∙ (agree xs t r reach m.place m.stands).faults t u ∙ x.unseen))
+        | inr (inr b) ↦ absurd (subst IsWhole b.2.broken_is whole)
+      ];
     }
 
 here_misplaced : (xs : List Sign) (t : Sign) (at : ℕ) (u : Sign) (r : Reader_data) (e : TextFault) → Reached xs t r → (there : There xs) → There (xs ++ t ∷ []) → IsWhole t → e.at ≡ at → fault_seen r.mode t u r ≡ Some e.kind → Here xs t at u e
@@ -231,9 +230,9 @@ here_misplaced xs t at u r e reach there on whole at_is seen =
     record {
       at_is = at_is;
       fault = inr (inl (record { place = there.0; stands = there.1; fault = a.faults t u ∙ seen }));
-      least = λ k f. elim f [
+      only = λ k f. elim f [
         | inl x ↦ absurd (x.2.stops (begins_there (xs ++ t ∷ []) on))
-        | inr (inl m) ↦ least_same e.kind k (cc (sym m.fault ∙ (agree xs t r reach m.place m.stands).faults t u ∙ seen))
+        | inr (inl m) ↦ cc (sym m.fault ∙ (agree xs t r reach m.place m.stands).faults t u ∙ seen)
         | inr (inr b) ↦ absurd (subst IsWhole b.2.broken_is whole)
       ];
     }
@@ -250,9 +249,9 @@ on_steps (Err e) xs t at n r reach there proper whole part all s =
       | inl x ↦ inl (here_unexpected xs t at n.sign r e reach there whole part all x)
       | inr (inl m) ↦ inl (here_misplaced xs t at n.sign r e reach there (grows_there xs t there.0 there.1 (place_grows there.0 t proper (ap (λ z. takes z t) (sym a.wanted) ∙ m.taken))) whole m.at_is m.fault)
       | inr (inr b) ↦ (
-        let w = word_place there.0 b.text (sym a.wanted ∙ b.body) in
-        let signs : protocol_cut_signs w.0 ≡ xs ++ t ∷ [] = w.1 ∙ ap (λ z. z ++ plain b.text ∷ []) there.1 ∙ ap (λ z. xs ++ z ∷ []) (sym b.word) in
-        inr (record { kind = b.kind; broken_is = b.broken_is; kind_is = b.kind_is; at_is = b.at_is; clear = clear_of xs t n.sign r reach (w.0, signs) whole b.clear; place = w.0; stands = signs; reached = named_reach w.0 w.2 }))
+          let w = word_place there.0 b.text (sym a.wanted ∙ b.body) in
+          let signs : protocol_cut_signs w.0 ≡ xs ++ t ∷ [] = w.1 ∙ ap (λ z. z ++ plain b.text ∷ []) there.1 ∙ ap (λ z. xs ++ z ∷ []) (sym b.word) in
+          inr (record { kind = b.kind; broken_is = b.broken_is; kind_is = b.kind_is; at_is = b.at_is; clear = clear_of xs t n.sign r reach (w.0, signs) whole b.clear; place = w.0; stands = signs; reached = named_reach w.0 w.2 }))
     ]
 
 -- ---- at an arrow that was seen
@@ -282,9 +281,9 @@ whole_verdict xs t at n r reach there proper whole unread =
     let a : PlaceAgrees there.0 t r = agree xs t r reach there.0 there.1 in
     subst (λ (z : Fed). Verdict xs t at n z) (sym (whole_fed t at n r whole)) (elim (arrow_or r.mode) [
       | inl m ↦ (
-        let f = arrow_facts r.mode t (is_named_of there.0) r m a.named in
-        let on : There (xs ++ t ∷ []) = subst (λ (z : Sign). There (xs ++ z ∷ [])) (sym f.0) (grows_there xs arrow there.0 there.1 (word_grows there.0 f.1)) in
-        arrow_verdict xs t at n r f.0 m on (clear_of xs t n.sign r reach on whole (arrow_unseen r.mode t n.sign r m)))
+          let f = arrow_facts r.mode t (is_named_of there.0) r m a.named in
+          let on : There (xs ++ t ∷ []) = subst (λ (z : Sign). There (xs ++ z ∷ [])) (sym f.0) (grows_there xs arrow there.0 there.1 (word_grows there.0 f.1)) in
+          arrow_verdict xs t at n r f.0 m on (clear_of xs t n.sign r reach on whole (arrow_unseen r.mode t n.sign r m)))
       | inr m ↦ on_steps (feed_at r.mode t at n r) xs t at n r reach there proper whole (not_part r.mode r.frames m unread)
           (λ k. steps r.mode t 0 k r t (is_named_of there.0) a.named m) (steps r.mode t at n r t (is_named_of there.0) a.named m)
     ])
@@ -307,10 +306,10 @@ broken_verdict xs j at n r reach there unread =
     inl (record {
       at_is = refl;
       fault = inr (inr (j, refl, record { broken_is = refl; place = there.0; stands = there.1; reached = reach_of there.0 (λ h. not_part r.mode r.frames (no_arrow r.mode j (is_named_of there.0) r a.named) unread (a.wanted ∙ h)) }));
-      least = λ k f. elim f [
+      only = λ k f. elim f [
         | inl x ↦ absurd x.2.whole
         | inr (inl m) ↦ absurd (cc (sym m.fault ∙ (agree xs (broken j) r reach m.place m.stands).faults (broken j) n.sign ∙ broken_unseen r.mode j n.sign r))
-        | inr (inr b) ↦ least_same (kind_of j) k (b.1 ∙ ap kind_of (sym (broken_same j b.0 b.2.broken_is)))
+        | inr (inr b) ↦ b.1 ∙ ap kind_of (sym (broken_same j b.0 b.2.broken_is))
       ];
     })
 
@@ -318,7 +317,7 @@ pub data Wholeness : Sign → Type 0 where
   a_faulty : (k : FaultKind) → Wholeness (broken k)
   a_whole : (t : Sign) → IsWhole t → Wholeness t
 
-wholeness : (t : Sign) → Wholeness t
+pub wholeness : (t : Sign) → Wholeness t
 wholeness (broken k) = a_faulty k
 wholeness t = a_whole t tt
 
@@ -370,16 +369,16 @@ pub signs_append : (xs ys : List Lexeme) → signs_of (xs ++ ys) ≡ signs_of xs
 signs_append [] ys = refl
 signs_append (x ∷ xs) ys = ap (λ z. x.sign ∷ z) (signs_append xs ys)
 
--- the first fault among the tokens behind these
-record Found (before : List Sign) (ls : List Lexeme) (kind : TextKind) (offset : ℕ) : Type 0 where
-  xs : List Lexeme
-  t : Lexeme
-  ys : List Lexeme
-  split : ls ≡ xs ++ t ∷ ys
-  stands : t.from ≡ offset
-  fault : FaultAt (before ++ signs_of xs) t.sign (next_of (signs_of ys)) kind
-  clear : AllClear before (signs_of xs) (signs_of (t ∷ ys))
-  least : (k : TextKind) → FaultAt (before ++ signs_of xs) t.sign (next_of (signs_of ys)) k → kind_number kind ≤ kind_number k
+-- the first fault among the tokens behind these, the only one of its token
+pub record Found (before : List Sign) (ls : List Lexeme) (kind : TextKind) (offset : ℕ) : Type 0 where
+  pub xs : List Lexeme
+  pub t : Lexeme
+  pub ys : List Lexeme
+  pub split : ls ≡ xs ++ t ∷ ys
+  pub stands : t.from ≡ offset
+  pub fault : FaultAt (before ++ signs_of xs) t.sign (next_of (signs_of ys)) kind
+  pub clear : AllClear before (signs_of xs) (signs_of (t ∷ ys))
+  pub only : (k : TextKind) → FaultAt (before ++ signs_of xs) t.sign (next_of (signs_of ys)) k → k ≡ kind
 
 found_here : (xs : List Sign) (l : Lexeme) (ls : List Lexeme) (g e : TextFault) → g ≡ e → Here xs l.sign l.from (next_of (signs_of ls)) g → Found xs (l ∷ ls) e.kind e.at
 found_here xs l ls g e same h = subst (λ (z : TextFault). Found xs (l ∷ ls) z.kind z.at) same (record {
@@ -390,7 +389,7 @@ found_here xs l ls g e same h = subst (λ (z : TextFault). Found xs (l ∷ ls) z
   stands = sym h.at_is;
   fault = subst (λ (z : List Sign). FaultAt z l.sign (next_of (signs_of ls)) g.kind) (sym (append-nil xs)) h.fault;
   clear = tt;
-  least = λ k f. h.least k (subst (λ (z : List Sign). FaultAt z l.sign (next_of (signs_of ls)) k) (append-nil xs) f);
+  only = λ k f. h.only k (subst (λ (z : List Sign). FaultAt z l.sign (next_of (signs_of ls)) k) (append-nil xs) f);
 })
 
 found_later : (xs : List Sign) (l : Lexeme) (ls : List Lexeme) (kind : TextKind) (at : ℕ) → Clear xs l.sign (next_of (signs_of ls)) → Found (xs ++ l.sign ∷ []) ls kind at → Found xs (l ∷ ls) kind at
@@ -405,7 +404,7 @@ found_later xs l ls kind at c h =
       stands = h.stands;
       fault = subst (λ (z : List Sign). FaultAt z h.t.sign (next_of (signs_of h.ys)) kind) shape h.fault;
       clear = ((λ j f. c j (subst (λ (z : List Sign). FaultAt xs l.sign (next_of z) j) (sym signs) f)), h.clear);
-      least = λ j f. h.least j (subst (λ (z : List Sign). FaultAt z h.t.sign (next_of (signs_of h.ys)) j) (sym shape) f);
+      only = λ j f. h.only j (subst (λ (z : List Sign). FaultAt z h.t.sign (next_of (signs_of h.ys)) j) (sym shape) f);
     }
 
 err_same : (g e : TextFault) (ls : List Lexeme) → read_all (Err g) ls ≡ Err e → g ≡ e
@@ -438,10 +437,10 @@ next_here : (xs : List Sign) (t : Sign) (x : Lexeme) (u : Sign) (g : TextFault) 
 next_here xs t x u g h = record {
   at_is = h.at_is;
   fault = inr (inr (h.kind, h.kind_is, record { broken_is = h.broken_is; place = h.place; stands = h.stands; reached = h.reached }));
-  least = λ k f. elim f [
+  only = λ k f. elim f [
     | inl y ↦ absurd (subst IsWhole h.broken_is y.2.whole)
     | inr (inl m) ↦ absurd (cc (sym m.fault ∙ ap (λ z. fault_of m.place z u) h.broken_is ∙ unfaulty m.place h.kind u))
-    | inr (inr b) ↦ least_same g.kind k (b.1 ∙ ap kind_of (broken_same b.0 h.kind (sym b.2.broken_is ∙ h.broken_is)) ∙ sym h.kind_is)
+    | inr (inr b) ↦ b.1 ∙ ap kind_of (broken_same b.0 h.kind (sym b.2.broken_is ∙ h.broken_is)) ∙ sym h.kind_is
   ];
 }
 
@@ -470,11 +469,14 @@ go (x ∷ ls) l xs r e bytes now h reach there f =
     ]
 
 -- the fault that the reading of these tokens gives is the first one
+pub found : (bytes : List ℕ) (at : ℕ) (ls : List Lexeme) (e : TextFault) → Lexed bytes at ls → read_all (Ok begin) ls ≡ Err e → Found [] ls e.kind e.at
+found bytes at [] e h f = absurd h
+found bytes at (l ∷ ls) e h f = go ls l [] begin e bytes at h (λ Q k. k) (at_begin, refl) f
+
 pub told : (bytes : List ℕ) (at : ℕ) (ls : List Lexeme) (e : TextFault) → Lexed bytes at ls → read_all (Ok begin) ls ≡ Err e → FirstFault bytes at e.kind e.at
-told bytes at [] e h f = absurd h
-told bytes at (l ∷ ls) e h f =
-    let x : Found [] (l ∷ ls) e.kind e.at = go ls l [] begin e bytes at h (λ Q k. k) (at_begin, refl) f in
-    record { before = x.xs; token = x.t; others = x.ys; lexed = subst (λ (z : List Lexeme). Lexed bytes at z) x.split h; stands = x.stands; fault = x.fault; clear = x.clear; least = x.least }
+told bytes at ls e h f =
+    let x : Found [] ls e.kind e.at = found bytes at ls e h f in
+    record { before = x.xs; token = x.t; others = x.ys; lexed = subst (λ (z : List Lexeme). Lexed bytes at z) x.split h; stands = x.stands; fault = x.fault; clear = x.clear; least = λ k g. least_same e.kind k (x.only k g) }
 
 pub answered_err : (x : Result Reading TextFault) (e : TextFault) → answered x ≡ Err e → x ≡ Err e
 answered_err (Ok x) e h = cc

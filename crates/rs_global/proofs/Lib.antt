@@ -6,12 +6,15 @@ pub mod FaultPlaces
 pub mod FaultCuts
 pub mod FaultSteps
 pub mod FirstFaults
+pub mod OneFault
+pub mod Refusals
+pub mod Fitting
 pub mod Answers
 pub mod Sounding
 pub mod Examples
 pub mod Placing
-mod SpeltSteps
-mod SpeltBodies
-mod SpeltTrees
-mod SpeltCuts
-mod SpeltRuns
+pub mod SpeltSteps
+pub mod SpeltBodies
+pub mod SpeltTrees
+pub mod SpeltCuts
+pub mod SpeltRuns

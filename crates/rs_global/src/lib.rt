@@ -2,6 +2,7 @@
 #![tactic(auto)]
 
 mod drafts;
+pub mod fault_laws;
 pub mod laws;
 mod protocols;
 mod reading;
