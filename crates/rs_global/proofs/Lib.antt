@@ -18,3 +18,4 @@ pub mod SpeltBodies
 pub mod SpeltTrees
 pub mod SpeltCuts
 pub mod SpeltRuns
+pub mod SpeltLaws

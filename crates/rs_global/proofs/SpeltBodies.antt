@@ -107,14 +107,14 @@ mutual
   body_exact ends from r all last ts u N Q settled stays h = λ at f n. h.1 refl r.labels (linked_drafts from None r.drafts) (linked_root from None r.root) true r.bound [] r.depth refl (sym (append-nil (linked_drafts from None r.drafts))) refl (or_true r.ended) refl
   body_exact (again name) from r all last ts u N Q settled stays h = λ at f n.
       subst (λ (x : Fed). Tells x N (λ d. Exact ts u N Q d)) (sym (by_name (sign_behind ts u) from name at f (record r { mode = mode.Body from }) (settled refl)))
-        (named_exact (bound_to name r.bound) from at (record r { mode = mode.Body from }) N (λ d. Exact ts u N Q d)
-          (h.0, λ g. h.1 g r.labels (linked_drafts from (Some (number_or (bound_to name r.bound))) r.drafts) (linked_root from (Some (number_or (bound_to name r.bound))) r.root) r.ended r.bound [] r.depth refl (sym (append-nil (linked_drafts from (Some (number_or (bound_to name r.bound))) r.drafts))) refl (or_false r.ended) refl))
+      (named_exact (bound_to name r.bound) from at (record r { mode = mode.Body from }) N (λ d. Exact ts u N Q d)
+      (h.0, λ g. h.1 g r.labels (linked_drafts from (Some (number_or (bound_to name r.bound))) r.drafts) (linked_root from (Some (number_or (bound_to name r.bound))) r.root) r.ended r.bound [] r.depth refl (sym (append-nil (linked_drafts from (Some (number_or (bound_to name r.bound))) r.drafts))) refl (or_false r.ended) refl))
   body_exact (binds name body) from r all last ts u N Q settled stays h = λ at f n.
       let both : Hangs (nat_lt r.depth 200) N (Hangs (body_fits body (in_rec name (scene_of r))) N (Goes (binds name body) from r all last (λ d. Exact ts u N Q d))) = hangs_both (nat_lt r.depth 200) (body_fits body (in_rec name (scene_of r))) N (Goes (binds name body) from r all last (λ d. Exact ts u N Q d)) h in
       tells_if (nat_le 200 r.depth) kind.TooDeep at (Ok (record r { depth = suc r.depth; mode = mode.RecName from })) N (λ d. Exact (plain name ∷ dot ∷ (body_signs body ++ ts)) u N Q d) (λ e. both.0 (full 200 r.depth e))
-        (λ e. λ a f n. λ a f n. body_exact body from (record r { depth = suc r.depth; bound = (name, length r.drafts) ∷ r.bound }) all last ts u N Q settled stays
-          (rehang (body_fits body (in_rec name (scene_of r))) (body_fits body (in_rec name (scene_of r))) N (Goes (binds name body) from r all last (λ d. Exact ts u N Q d)) (Goes body from (record r { depth = suc r.depth; bound = (name, length r.drafts) ∷ r.bound }) all last (λ d. Exact ts u N Q d)) refl (both.1 (fits_in 200 r.depth e))
-            (λ k labels drafts root ended bound inner depth l d o x b. k labels drafts root ended bound (inner ++ (name, length r.drafts) ∷ []) depth l d o x (b ∙ sym (append_assoc inner ((name, length r.drafts) ∷ []) r.bound)))))
+      (λ e. λ a f n. λ a f n. body_exact body from (record r { depth = suc r.depth; bound = (name, length r.drafts) ∷ r.bound }) all last ts u N Q settled stays
+      (rehang (body_fits body (in_rec name (scene_of r))) (body_fits body (in_rec name (scene_of r))) N (Goes (binds name body) from r all last (λ d. Exact ts u N Q d)) (Goes body from (record r { depth = suc r.depth; bound = (name, length r.drafts) ∷ r.bound }) all last (λ d. Exact ts u N Q d)) refl (both.1 (fits_in 200 r.depth e))
+      (λ k labels drafts root ended bound inner depth l d o x b. k labels drafts root ended bound (inner ++ (name, length r.drafts) ∷ []) depth l d o x (b ∙ sym (append_assoc inner ((name, length r.drafts) ∷ []) r.bound)))))
   body_exact (talks x y l s body) from r all last ts u N Q settled stays h = λ at f n.
       let c : ℕ = length r.drafts in
       let m : Numbering = numbered r.roles all last in
@@ -129,22 +129,24 @@ mutual
       let h2 = hangs_both (A && B) C N (Hangs D N (Hangs E N K)) h3 in
       let h1 : Hangs A N (Hangs B N (Hangs C N (Hangs D N (Hangs E N K)))) = hangs_both A B N (Hangs C N (Hangs D N (Hangs E N K))) h2 in
       sent_exact (place_of x r.roles) x from at (record r { mode = mode.Body from }) N (Hangs C N (Hangs D N (Hangs E N K))) (λ d. Exact (arrow ∷ plain y ∷ colon ∷ ((arm_signs l s ++ body_signs body) ++ ts)) u N Q d) refl h1
-        (λ room hc. λ a f n. λ a f n. met_exact (place_of y r.roles) y from (role_of m x) a (record r { mode = mode.Receiver from (role_of m x) }) N (Hangs D N (Hangs E N K)) (λ d. Exact (colon ∷ ((arm_signs l s ++ body_signs body) ++ ts)) u N Q d) refl room hc
-          (λ hd. λ a f n.
-            let p : Reader_data = placed from (role_of m x) (number_or (place_of y r.roles)) r in
-            let P : Reader_data → Type 0 = λ d. Exact ts u N Q d in
-            let L : List Draft_data = linked_drafts from (Some c) r.drafts in
-            let pl : length p.drafts ≡ suc c = placed_length from (role_of m x) (number_or (place_of y r.roles)) r in
-            let S : ℕ → Scene = λ z. scene r.roles r.bound r.depth z (grown r.labels (l ∷ [])) in
-            let arm : DraftArm = arm_to m l s (target body r.bound (suc c)) in
-            subst (λ (z : List Sign). Exact z u N Q (record p { mode = mode.AtLabel c })) (sym (append_assoc (arm_signs l s) (body_signs body) ts))
-              (arm_exact l s c p r.roles all last (body_signs body ++ ts) u N Q (stays_before (grown r.labels (l ∷ [])) (labels_of body) all stays)
-                (hd.0, λ e. body_exact body (link.OfArm c (label_of m l) (sort_or_unit s)) (record p { labels = grown r.labels (l ∷ []) }) all last ts u N Q settled stays
-                  (rehang (body_fits body (S (length p.drafts))) (body_fits body (S (suc c))) N K (Goes body (link.OfArm c (label_of m l) (sort_or_unit s)) (record p { labels = grown r.labels (l ∷ []) }) all last P) (ap (λ z. body_fits body (S z)) pl) (hd.1 e)
-                    (λ k labels drafts root ended bound inner depth g d o v b. k labels drafts root ended bound inner depth g
-                      (d ∙ ap (λ z. linked_drafts (link.OfArm c (label_of m l) (sort_or_unit s)) (target body r.bound z) p.drafts ++ drafts_of m body r.bound z) pl
-                        ∙ ap (λ z. z ++ drafts_of m body r.bound (suc c)) (mid_arm L (draft (role_of m x) (role_of m y) []) [] arm c (linked_length from (Some c) r.drafts))
-                        ∙ append_assoc L (draft (role_of m x) (role_of m y) (arm ∷ []) ∷ []) (drafts_of m body r.bound (suc c))) o v b))))))
+      (λ room hc. λ a f n. λ a f n. met_exact (place_of y r.roles) y from (role_of m x) a (record r { mode = mode.Receiver from (role_of m x) }) N (Hangs D N (Hangs E N K)) (λ d. Exact (colon ∷ ((arm_signs l s ++ body_signs body) ++ ts)) u N Q d) refl room hc
+      (λ hd. λ a f n.
+      let p : Reader_data = placed from (role_of m x) (number_or (place_of y r.roles)) r in
+      let P : Reader_data → Type 0 = λ d. Exact ts u N Q d in
+      let L : List Draft_data = linked_drafts from (Some c) r.drafts in
+      let pl : length p.drafts ≡ suc c = placed_length from (role_of m x) (number_or (place_of y r.roles)) r in
+      let S : ℕ → Scene = λ z. scene r.roles r.bound r.depth z (grown r.labels (l ∷ [])) in
+      let arm : DraftArm = arm_to m l s (target body r.bound (suc c)) in
+      subst (λ (z : List Sign). Exact z u N Q (record p { mode = mode.AtLabel c })) (sym (append_assoc (arm_signs l s) (body_signs body) ts))
+      (arm_exact l s c p r.roles all last (body_signs body ++ ts) u N Q (stays_before (grown r.labels (l ∷ [])) (labels_of body) all stays) (
+        hd.0,
+        λ e. body_exact body (link.OfArm c (label_of m l) (sort_or_unit s)) (record p { labels = grown r.labels (l ∷ []) }) all last ts u N Q settled stays
+            (rehang (body_fits body (S (length p.drafts))) (body_fits body (S (suc c))) N K (Goes body (link.OfArm c (label_of m l) (sort_or_unit s)) (record p { labels = grown r.labels (l ∷ []) }) all last P) (ap (λ z. body_fits body (S z)) pl) (hd.1 e)
+            (λ k labels drafts root ended bound inner depth g d o v b. k labels drafts root ended bound inner depth g
+            (d ∙ ap (λ z. linked_drafts (link.OfArm c (label_of m l) (sort_or_unit s)) (target body r.bound z) p.drafts ++ drafts_of m body r.bound z) pl
+            ∙ ap (λ z. z ++ drafts_of m body r.bound (suc c)) (mid_arm L (draft (role_of m x) (role_of m y) []) [] arm c (linked_length from (Some c) r.drafts))
+            ∙ append_assoc L (draft (role_of m x) (role_of m y) (arm ∷ []) ∷ []) (drafts_of m body r.bound (suc c))) o v b)),
+      ))))
   body_exact (offers x y arms) from r all last ts u N Q settled stays h = λ at f n.
       let c : ℕ = length r.drafts in
       let m : Numbering = numbered r.roles all last in
@@ -159,20 +161,20 @@ mutual
       let h2 = hangs_both (A && B) C N (Hangs D N (Hangs E N K)) h3 in
       let h1 : Hangs A N (Hangs B N (Hangs C N (Hangs D N (Hangs E N K)))) = hangs_both A B N (Hangs C N (Hangs D N (Hangs E N K))) h2 in
       sent_exact (place_of x r.roles) x from at (record r { mode = mode.Body from }) N (Hangs C N (Hangs D N (Hangs E N K))) (λ d. Exact (arrow ∷ plain y ∷ open_brace ∷ ((branch_signs arms ++ close_brace ∷ []) ++ ts)) u N Q d) refl h1
-        (λ room hc. λ a f n. λ a f n. met_exact (place_of y r.roles) y from (role_of m x) a (record r { mode = mode.Receiver from (role_of m x) }) N (Hangs D N (Hangs E N K)) (λ d. Exact (open_brace ∷ ((branch_signs arms ++ close_brace ∷ []) ++ ts)) u N Q d) refl room hc
-          (λ hd. λ a f n.
-            let p : Reader_data = placed from (role_of m x) (number_or (place_of y r.roles)) r in
-            let L : List Draft_data = linked_drafts from (Some c) r.drafts in
-            let pl : length p.drafts ≡ suc c = placed_length from (role_of m x) (number_or (place_of y r.roles)) r in
-            let S : ℕ → Scene = λ z. scene r.roles r.bound (suc r.depth) z r.labels in
-            let P : Reader_data → Type 0 = λ d. Exact (close_brace ∷ ts) u N Q d in
-            tells_if (nat_le 200 r.depth) kind.TooDeep a (Ok (opened c p)) N (λ d. Exact ((branch_signs arms ++ close_brace ∷ []) ++ ts) u N Q d) (λ e. hd.0 (full 200 r.depth e))
-              (λ e. subst (λ (z : List Sign). Exact z u N Q (opened c p)) (sym (append_assoc (branch_signs arms) (close_brace ∷ []) ts))
-                (branches_exact arms c (record p { depth = suc r.depth }) r.frames all last (close_brace ∷ ts) u N Q refl stays L (draft (role_of m x) (role_of m y) []) [] refl (linked_length from (Some c) r.drafts)
-                  (rehang (arms_fit arms (S (length p.drafts))) (arms_fit arms (S (suc c))) N K (GoesArms arms c (record p { depth = suc r.depth }) r.frames all last L (draft (role_of m x) (role_of m y) []) [] P) (ap (λ z. arms_fit arms (S z)) pl) (hd.1 (fits_in 200 r.depth e))
-                    (λ k labels drafts root ended bound inner depth g d o v b. λ a f n.
-                      k labels drafts root ended (drop (length bound - length r.bound) bound) [] (suc r.depth) g
-                        (d ∙ ap (λ z. L ++ draft (role_of m x) (role_of m y) (arms_to m arms r.bound z) ∷ drafts_in m arms r.bound z) pl) o v (restored_bound inner bound r.bound b)))))))
+      (λ room hc. λ a f n. λ a f n. met_exact (place_of y r.roles) y from (role_of m x) a (record r { mode = mode.Receiver from (role_of m x) }) N (Hangs D N (Hangs E N K)) (λ d. Exact (open_brace ∷ ((branch_signs arms ++ close_brace ∷ []) ++ ts)) u N Q d) refl room hc
+      (λ hd. λ a f n.
+      let p : Reader_data = placed from (role_of m x) (number_or (place_of y r.roles)) r in
+      let L : List Draft_data = linked_drafts from (Some c) r.drafts in
+      let pl : length p.drafts ≡ suc c = placed_length from (role_of m x) (number_or (place_of y r.roles)) r in
+      let S : ℕ → Scene = λ z. scene r.roles r.bound (suc r.depth) z r.labels in
+      let P : Reader_data → Type 0 = λ d. Exact (close_brace ∷ ts) u N Q d in
+      tells_if (nat_le 200 r.depth) kind.TooDeep a (Ok (opened c p)) N (λ d. Exact ((branch_signs arms ++ close_brace ∷ []) ++ ts) u N Q d) (λ e. hd.0 (full 200 r.depth e))
+      (λ e. subst (λ (z : List Sign). Exact z u N Q (opened c p)) (sym (append_assoc (branch_signs arms) (close_brace ∷ []) ts))
+      (branches_exact arms c (record p { depth = suc r.depth }) r.frames all last (close_brace ∷ ts) u N Q refl stays L (draft (role_of m x) (role_of m y) []) [] refl (linked_length from (Some c) r.drafts)
+      (rehang (arms_fit arms (S (length p.drafts))) (arms_fit arms (S (suc c))) N K (GoesArms arms c (record p { depth = suc r.depth }) r.frames all last L (draft (role_of m x) (role_of m y) []) [] P) (ap (λ z. arms_fit arms (S z)) pl) (hd.1 (fits_in 200 r.depth e))
+      (λ k labels drafts root ended bound inner depth g d o v b. λ a f n.
+      k labels drafts root ended (drop (length bound - length r.bound) bound) [] (suc r.depth) g
+      (d ∙ ap (λ z. L ++ draft (role_of m x) (role_of m y) (arms_to m arms r.bound z) ∷ drafts_in m arms r.bound z) pl) o v (restored_bound inner bound r.bound b)))))))
 
   pub branches_exact : (arms : Branches) (node : ℕ) (r : Reader_data) (fs : List Frame) (all : List (List ℕ)) (last : ℕ) (ts : List Sign) (u : Sign) (N : Type 0) (Q : Reader_data → Type 0) → ends_a_name (sign_behind ts u) ≡ true → Stays (grown r.labels (labels_of_arms arms)) all
       → (xs : List Draft_data) (d : Draft_data) (ys : List Draft_data) → r.drafts ≡ xs ++ d ∷ ys → length xs ≡ node
@@ -186,11 +188,13 @@ mutual
       let arm : DraftArm = arm_to m l s (target body r.bound (length r.drafts)) in
       let new : List Draft_data = drafts_of m body r.bound (length r.drafts) in
       subst (λ (z : List Sign). Exact z u N Q (record o { mode = mode.AtLabel node })) (sym (append_assoc (arm_signs l s) (body_signs body) ts))
-        (arm_exact l s node o r.roles all last (body_signs body ++ ts) u N Q (stays_before (grown r.labels (l ∷ [])) (labels_of body) all stays)
-          (both.0, λ e. body_exact body (link.OfArm node (label_of m l) (sort_or_unit s)) (record o { labels = grown r.labels (l ∷ []) }) all last ts u N Q (λ _. settled) stays
+      (arm_exact l s node o r.roles all last (body_signs body ++ ts) u N Q (stays_before (grown r.labels (l ∷ [])) (labels_of body) all stays) (
+        both.0,
+        λ e. body_exact body (link.OfArm node (label_of m l) (sort_or_unit s)) (record o { labels = grown r.labels (l ∷ []) }) all last ts u N Q (λ _. settled) stays
             (rehang (body_fits body (with_label l (scene_of r))) (body_fits body (with_label l (scene_of r))) N K (Goes body (link.OfArm node (label_of m l) (sort_or_unit s)) (record o { labels = grown r.labels (l ∷ []) }) all last P) refl (both.1 e)
-              (λ k labels drafts root ended bound inner depth g w v z b. k labels drafts root ended bound inner depth g
-                (w ∙ ap (λ q. with_arm arm (slice_get q node) q node ++ new) there ∙ ap (λ q. q ++ new) (mid_arm xs d ys arm node here) ∙ append_assoc xs (with_all d (arm ∷ []) ∷ ys) new) v z b))))
+            (λ k labels drafts root ended bound inner depth g w v z b. k labels drafts root ended bound inner depth g
+            (w ∙ ap (λ q. with_arm arm (slice_get q node) q node ++ new) there ∙ ap (λ q. q ++ new) (mid_arm xs d ys arm node here) ∙ append_assoc xs (with_all d (arm ∷ []) ∷ ys) new) v z b)),
+      ))
   branches_exact (more l s body arms) node r fs all last ts u N Q settled stays xs d ys there here h =
       let m : Numbering = numbered r.roles all last in
       let c : ℕ = length r.drafts in
@@ -210,21 +214,23 @@ mutual
       let first : List (List ℕ) = grown r.labels (l ∷ []) in
       let stays_on : Stays (grown (grown first (labels_of body)) (labels_of_arms arms)) all = subst (λ (z : List (List ℕ)). Stays z all) (grown_append (labels_of body) (labels_of_arms arms) first) stays in
       let shape : (arm_signs l s ++ (body_signs body ++ comma ∷ branch_signs arms)) ++ ts ≡ arm_signs l s ++ (body_signs body ++ rest) =
-        append_assoc (arm_signs l s) (body_signs body ++ comma ∷ branch_signs arms) ts ∙ ap (λ z. arm_signs l s ++ z) (append_assoc (body_signs body) (comma ∷ branch_signs arms) ts) in
+      append_assoc (arm_signs l s) (body_signs body ++ comma ∷ branch_signs arms) ts ∙ ap (λ z. arm_signs l s ++ z) (append_assoc (body_signs body) (comma ∷ branch_signs arms) ts) in
       subst (λ (z : List Sign). Exact z u N Q (record o { mode = mode.AtLabel node })) (sym shape)
-        (arm_exact l s node o r.roles all last (body_signs body ++ rest) u N Q (stays_before first (labels_of body ++ labels_of_arms arms) all stays)
-          (h1.0, λ e. body_exact body from (record o { labels = first }) all last rest u N Q (λ _. refl) (stays_before (grown first (labels_of body)) (labels_of_arms arms) all stays_on)
+      (arm_exact l s node o r.roles all last (body_signs body ++ rest) u N Q (stays_before first (labels_of body ++ labels_of_arms arms) all stays) (
+        h1.0,
+        λ e. body_exact body from (record o { labels = first }) all last rest u N Q (λ _. refl) (stays_before (grown first (labels_of body)) (labels_of_arms arms) all stays_on)
             (rehang B B N (Hangs C N K) (Goes body from (record o { labels = first }) all last R) refl (h1.1 e)
-              (λ hc labels drafts root ended bound inner depth g w v z b. λ a f n.
-                let back : Reader_data = record r { labels = labels; drafts = drafts; root = root; ended = ended } in
-                let mid : drafts ≡ xs ++ with_all d (arm ∷ []) ∷ (ys ++ new) = w ∙ ap (λ q. with_arm arm (slice_get q node) q node ++ new) there ∙ ap (λ q. q ++ new) (mid_arm xs d ys arm node here) ∙ append_assoc xs (with_all d (arm ∷ []) ∷ ys) new in
-                let size : length drafts ≡ c + talks_in body = ap length w ∙ length-append (linked_drafts from (target body r.bound c) r.drafts) new ∙ ap (λ q. q + length new) (linked_length from (target body r.bound c) r.drafts) ∙ ap (λ q. c + q) (drafts_count m body r.bound c) in
-                let S : ℕ → List (List ℕ) → Scene = λ q k. scene r.roles r.bound r.depth q k in
-                subst (λ (q : Bound). Exact (branch_signs arms ++ ts) u N Q (record back { bound = q; frames = frame_at node r.bound r.depth ∷ fs; mode = mode.AtLabel node })) (sym (restored_bound inner bound r.bound b))
-                  (branches_exact arms node back fs all last ts u N Q settled (subst (λ (q : List (List ℕ)). Stays (grown q (labels_of_arms arms)) all) (sym g) stays_on) xs (with_all d (arm ∷ [])) (ys ++ new) mid here
-                    (rehang (arms_fit arms (S (length drafts) labels)) C N K (GoesArms arms node back fs all last xs (with_all d (arm ∷ [])) (ys ++ new) P) (ap (λ q. arms_fit arms (S q labels)) size ∙ ap (λ q. arms_fit arms (S (c + talks_in body) q)) g) hc
-                      (λ k labels' drafts' root' ended' bound' inner' depth' g' w' v' z' b'. k labels' drafts' root' ended' bound' inner' depth'
-                        (g' ∙ ap (λ q. grown q (labels_of_arms arms)) g ∙ sym (grown_append (labels_of body) (labels_of_arms arms) first))
-                        (w' ∙ ap (λ q. xs ++ with_all (with_all d (arm ∷ [])) (arms_to m arms r.bound q) ∷ ((ys ++ new) ++ drafts_in m arms r.bound q)) size
-                          ∙ more_shape xs d arm (arms_to m arms r.bound (c + talks_in body)) ys new (drafts_in m arms r.bound (c + talks_in body)))
-                        (v' ∙ v) (z' ∙ ap (λ q. q || has_end_arms arms) z ∙ or_assoc r.ended (has_end body) (has_end_arms arms)) b')))))))
+            (λ hc labels drafts root ended bound inner depth g w v z b. λ a f n.
+            let back : Reader_data = record r { labels = labels; drafts = drafts; root = root; ended = ended } in
+            let mid : drafts ≡ xs ++ with_all d (arm ∷ []) ∷ (ys ++ new) = w ∙ ap (λ q. with_arm arm (slice_get q node) q node ++ new) there ∙ ap (λ q. q ++ new) (mid_arm xs d ys arm node here) ∙ append_assoc xs (with_all d (arm ∷ []) ∷ ys) new in
+            let size : length drafts ≡ c + talks_in body = ap length w ∙ length-append (linked_drafts from (target body r.bound c) r.drafts) new ∙ ap (λ q. q + length new) (linked_length from (target body r.bound c) r.drafts) ∙ ap (λ q. c + q) (drafts_count m body r.bound c) in
+            let S : ℕ → List (List ℕ) → Scene = λ q k. scene r.roles r.bound r.depth q k in
+            subst (λ (q : Bound). Exact (branch_signs arms ++ ts) u N Q (record back { bound = q; frames = frame_at node r.bound r.depth ∷ fs; mode = mode.AtLabel node })) (sym (restored_bound inner bound r.bound b))
+            (branches_exact arms node back fs all last ts u N Q settled (subst (λ (q : List (List ℕ)). Stays (grown q (labels_of_arms arms)) all) (sym g) stays_on) xs (with_all d (arm ∷ [])) (ys ++ new) mid here
+            (rehang (arms_fit arms (S (length drafts) labels)) C N K (GoesArms arms node back fs all last xs (with_all d (arm ∷ [])) (ys ++ new) P) (ap (λ q. arms_fit arms (S q labels)) size ∙ ap (λ q. arms_fit arms (S (c + talks_in body) q)) g) hc
+            (λ k labels' drafts' root' ended' bound' inner' depth' g' w' v' z' b'. k labels' drafts' root' ended' bound' inner' depth'
+            (g' ∙ ap (λ q. grown q (labels_of_arms arms)) g ∙ sym (grown_append (labels_of body) (labels_of_arms arms) first))
+            (w' ∙ ap (λ q. xs ++ with_all (with_all d (arm ∷ [])) (arms_to m arms r.bound q) ∷ ((ys ++ new) ++ drafts_in m arms r.bound q)) size
+            ∙ more_shape xs d arm (arms_to m arms r.bound (c + talks_in body)) ys new (drafts_in m arms r.bound (c + talks_in body)))
+            (v' ∙ v) (z' ∙ ap (λ q. q || has_end_arms arms) z ∙ or_assoc r.ended (has_end body) (has_end_arms arms)) b'))))),
+      ))

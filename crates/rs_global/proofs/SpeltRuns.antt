@@ -97,7 +97,7 @@ complete bytes at names protocol until s = λ ls lexed.
     let d : Reader_data = g.0 in
     let read : IsRead t d = g.1.0 in
     ap (λ z. answered (read_all (Ok begin) z)) (one_list bytes ls (s.lexemes ++ s.behind ∷ s.others) at lexed s.lexed) ∙ ap answered g.1.1
-      ∙ ap (λ z. Ok (answer_of z (protocol_of d) s.behind.from)) (read.names ∙ sym s.names_are) ∙ ap (λ z. Ok (answer_of names z s.behind.from)) (read.graph ∙ sym s.graph_is) ∙ ap (λ z. Ok (answer_of names protocol z)) (sym s.goes_on)
+    ∙ ap (λ z. Ok (answer_of z (protocol_of d) s.behind.from)) (read.names ∙ sym s.names_are) ∙ ap (λ z. Ok (answer_of names z s.behind.from)) (read.graph ∙ sym s.graph_is) ∙ ap (λ z. Ok (answer_of names protocol z)) (sym s.goes_on)
 
 -- ---- a text that is read is spelt
 
@@ -188,9 +188,9 @@ on_token : (l y : Lexeme) (ls : List Lexeme) (before : List Sign) (r : Reader_da
 on_token l y ls before r x bytes now h reach gets there unread f goes k =
     let g = on_read (feed_sign l.sign l.from y r) (y ∷ ls) x f in
     stop_later before l (y ∷ ls) x (k g.0 (h.2 goes)
-      (reach_on before l.sign y.sign l.from y.from y.until r g.0 reach g.1)
-      (gets_on before l.sign y.sign l.from y.from y.until r g.0 gets g.1)
-      (place_on before l.sign l.from y r (feed_sign l.sign l.from y r) g.0 (verdict before l.sign l.from y r reach there (proper_of bytes now l h.0) unread) g.1) g.2)
+    (reach_on before l.sign y.sign l.from y.from y.until r g.0 reach g.1)
+    (gets_on before l.sign y.sign l.from y.from y.until r g.0 gets g.1)
+    (place_on before l.sign l.from y r (feed_sign l.sign l.from y r) g.0 (verdict before l.sign l.from y r reach there (proper_of bytes now l h.0) unread) g.1) g.2)
 
 unread_first : (l : Lexeme) (ls : List Lexeme) (r : Reader_data) (x : Reading) (c : Bool) → is_read r ≡ c → read_all (Ok r) (l ∷ ls) ≡ Ok x → (if c then Ok (record { reader = r; until = l.from }) else read_all (feed_sign l.sign l.from (next_lexeme_of l ls) r) ls) ≡ Ok x
 unread_first l ls r x c e f = sym (ap (λ z. if z then Ok (record { reader = r; until = l.from }) else read_all (feed_sign l.sign l.from (next_lexeme_of l ls) r) ls) e) ∙ f

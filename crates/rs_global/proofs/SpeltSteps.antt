@@ -165,15 +165,18 @@ labelled_exact None l node at r N Q e h =
     let same : grown r.labels (l ∷ []) ≡ r.labels ++ l ∷ [] = grown_new r.labels l e in
     let room : has_room_for l (scene_of r) ≡ nat_lt (length r.labels) 256 = ap (λ z. z || nat_lt (length r.labels) 256) (not_among r.labels l 0 e) in
     tells_if (nat_le 256 (length r.labels)) kind.TooManyLabels at (Ok (record r { labels = r.labels ++ l ∷ []; mode = mode.Paren node (label_of_number (length r.labels)) })) N Q
-      (λ f. h.0 (room ∙ full 256 (length r.labels) f))
-      (λ f. subst (λ (z : List (List ℕ)). Q (record r { labels = z; mode = mode.Paren node (label_of_number (length r.labels)) })) same
-        (h.1 (room ∙ fits_in 256 (length r.labels) f) (length r.labels) (ap (λ z. place_of l z) same ∙ place_of_new r.labels l e)))
+    (λ f. h.0 (room ∙ full 256 (length r.labels) f))
+    (λ f. subst (λ (z : List (List ℕ)). Q (record r { labels = z; mode = mode.Paren node (label_of_number (length r.labels)) })) same
+    (h.1 (room ∙ fits_in 256 (length r.labels) f) (length r.labels) (ap (λ z. place_of l z) same ∙ place_of_new r.labels l e)))
 
 pub arm_exact : (l : List ℕ) (s : Option Sort) (node : ℕ) (r : Reader_data) (roles all : List (List ℕ)) (last : ℕ) (ts : List Sign) (u : Sign) (N : Type 0) (Q : Reader_data → Type 0) → Stays (grown r.labels (l ∷ [])) all
     → Hangs (has_room_for l (scene_of r)) N (Exact ts u N Q (at_arm r l (numbered roles all last) node s)) → Exact (arm_signs l s ++ ts) u N Q (record r { mode = mode.AtLabel node })
 arm_exact l s node r roles all last ts u N Q stays h = λ a f n.
     let P : Reader_data → Type 0 = λ d. Exact (open_paren ∷ ((sort_signs s ++ close_paren ∷ dot ∷ []) ++ ts)) u N Q d in
     subst (λ (x : Fed). Tells x N P) (sym (label_fed l node a _ r))
-      (labelled_exact (place_of l r.labels) l node a r N P refl (h.0, λ room k e.
-        sort_exact s node (label_of_number k) (record r { labels = grown r.labels (l ∷ []) }) ts u N Q
-          (subst (λ (z : Label). Exact ts u N Q (record r { labels = grown r.labels (l ∷ []); mode = mode.Body (link.OfArm node z (sort_or_unit s)) })) (label_is roles all last l k (stays l k e)) (h.1 room))))
+    (labelled_exact (place_of l r.labels) l node a r N P refl (
+      h.0,
+      λ room k e.
+          sort_exact s node (label_of_number k) (record r { labels = grown r.labels (l ∷ []) }) ts u N Q
+          (subst (λ (z : Label). Exact ts u N Q (record r { labels = grown r.labels (l ∷ []); mode = mode.Body (link.OfArm node z (sort_or_unit s)) })) (label_is roles all last l k (stays l k e)) (h.1 room)),
+    ))

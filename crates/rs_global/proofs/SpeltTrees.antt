@@ -61,7 +61,7 @@ graph_is t drafts root ended d o e =
     let roles : ℕ = length (roles_of t) in
     let size : length drafts ≡ last = ap length d ∙ drafts_count (numbering t) t.body [] 0 in
     let nodes : map (settled (length drafts)) drafts ++ finish_of ended ≡ nodes_of (numbering t) t.body [] 0 ++ finish_of (has_end t.body) =
-      ap (λ z. map (settled z) drafts ++ finish_of ended) size ∙ ap (λ z. map (settled last) z ++ finish_of ended) d ∙ ap (λ z. z ++ finish_of ended) (nodes_are (numbering t) t.body [] 0) ∙ ap (λ z. nodes_of (numbering t) t.body [] 0 ++ finish_of z) e in
+    ap (λ z. map (settled z) drafts ++ finish_of ended) size ∙ ap (λ z. map (settled last) z ++ finish_of ended) d ∙ ap (λ z. z ++ finish_of ended) (nodes_are (numbering t) t.body [] 0) ∙ ap (λ z. nodes_of (numbering t) t.body [] 0 ++ finish_of z) e in
     let first : settled_target (length drafts) root ≡ first_node t.body [] 0 last = ap (λ z. settled_target z root) size ∙ ap (λ z. settled_target last z) o ∙ target_is t.body [] 0 last in
     ap (λ z. record { roles = roles; nodes = z; root = settled_target (length drafts) root }) nodes ∙ ap (λ z. record { roles = roles; nodes = nodes_of (numbering t) t.body [] 0 ++ finish_of (has_end t.body); root = z }) first
 
@@ -100,7 +100,7 @@ role_exact : (after : Mode) (word : List ℕ) (at : ℕ) (r : Reader_data) (N : 
     → (is_among word r.roles ≡ false → nat_le 16 (length r.roles) ≡ false → Q (record r { roles = r.roles ++ word ∷ []; mode = after })) → Tells (new_role after (Some word) at r) N Q
 role_exact after word at r N Q twin many h =
     tells_if (is_among word r.roles) kind.NameTwice at (if nat_le 16 (length r.roles) then fault kind.TooManyRoles at else Ok (record r { roles = r.roles ++ word ∷ []; mode = after })) N Q twin
-      (λ e. tells_if (nat_le 16 (length r.roles)) kind.TooManyRoles at (Ok (record r { roles = r.roles ++ word ∷ []; mode = after })) N Q many (λ f. h e f))
+    (λ e. tells_if (nat_le 16 (length r.roles)) kind.TooManyRoles at (Ok (record r { roles = r.roles ++ word ∷ []; mode = after })) N Q many (λ f. h e f))
 
 line_exact : (xs : List (List ℕ)) (r : Reader_data) (ts : List Sign) (u : Sign) (N : Type 0) (Q : Reader_data → Type 0) → (differ (r.roles ++ xs) ≡ false → N) → (16 < length (r.roles ++ xs) → N) → differ r.roles ≡ true → length r.roles ≤ 16
     → (differ (r.roles ++ xs) ≡ true → length (r.roles ++ xs) ≤ 16 → Exact ts u N Q (record r { roles = r.roles ++ xs; mode = mode.Line })) → Exact (flat_map further_signs xs ++ ts) u N Q (record r { mode = mode.Line })
@@ -109,9 +109,9 @@ line_exact [] r ts u N Q twin many d n h = subst (λ (z : List (List ℕ)). Exac
 line_exact (x ∷ xs) r ts u N Q twin many d n h = λ a f k. λ a f k. role_exact mode.Line x a (record r { mode = mode.FurtherRole }) N (λ e. Exact (flat_map further_signs xs ++ ts) u N Q e)
     (λ e. twin (twice r.roles x xs e)) (λ e. many (too_many r.roles x xs e))
     (λ e g.
-      let same : (r.roles ++ x ∷ []) ++ xs ≡ r.roles ++ x ∷ xs = append_assoc r.roles (x ∷ []) xs in
-      line_exact xs (record r { roles = r.roles ++ x ∷ [] }) ts u N Q (λ z. twin (ap differ (sym same) ∙ z)) (λ z. many (subst (λ (w : List (List ℕ)). 16 < length w) same z)) (new_differ r.roles x e d) (few_more r.roles x g)
-        (λ z w. subst (λ (q : List (List ℕ)). Exact ts u N Q (record r { roles = q; mode = mode.Line })) (sym same) (h (ap differ (sym same) ∙ z) (subst (λ (q : List (List ℕ)). length q ≤ 16) same w))))
+    let same : (r.roles ++ x ∷ []) ++ xs ≡ r.roles ++ x ∷ xs = append_assoc r.roles (x ∷ []) xs in
+    line_exact xs (record r { roles = r.roles ++ x ∷ [] }) ts u N Q (λ z. twin (ap differ (sym same) ∙ z)) (λ z. many (subst (λ (w : List (List ℕ)). 16 < length w) same z)) (new_differ r.roles x e d) (few_more r.roles x g)
+    (λ z w. subst (λ (q : List (List ℕ)). Exact ts u N Q (record r { roles = q; mode = mode.Line })) (sym same) (h (ap differ (sym same) ∙ z) (subst (λ (q : List (List ℕ)). length q ≤ 16) same w))))
 
 -- ---- protocols
 
@@ -127,12 +127,13 @@ tree_exact t u settled =
     let N : Type 0 = Fits t → ⊥ in
     let all : List (List ℕ) = grown [] (labels_of t.body) in
     λ a f n. λ a f n. role_exact mode.FirstComma t.first a (record begin { mode = mode.FirstRole }) N (λ d. Exact (comma ∷ plain t.second ∷ (flat_map further_signs t.further ++ plain (codes "protocol") ∷ body_signs t.body)) u N (IsRead t) d)
-      (λ e. absurd (cc e)) (λ e. absurd (cc e))
-      (λ _ _. line_exact (t.second ∷ t.further) (record begin { roles = t.first ∷ [] }) (plain (codes "protocol") ∷ body_signs t.body) u N (IsRead t)
-        (λ e f. absurd (cc (sym e ∙ f.roles_differ))) (λ e f. let k : length (roles_of t) ≤ 16 = f.few_roles in let j : 16 < length (roles_of t) = e in absurd (omega arith)) refl (omega arith)
-        (λ d few. λ a f n.
-          subst (λ (z : List Sign). Exact z u N (IsRead t) (record begin { roles = roles_of t; mode = mode.Body link.Root })) (append-nil (body_signs t.body))
-            (body_exact t.body link.Root (record begin { roles = roles_of t }) all (talks_in t.body) [] u N (IsRead t) settled (λ name k e. e)
-              ((λ e f. absurd (cc (sym e ∙ f.body))),
-               (λ fit labels drafts root ended bound inner depth g w v x b.
-                 record { fits = record { roles_differ = d; few_roles = few; body = fit }; read = refl; names = ap (λ z. record { roles = roles_of t; labels = z }) g; graph = graph_is t drafts root ended w v x })))))
+    (λ e. absurd (cc e)) (λ e. absurd (cc e))
+    (λ _ _. line_exact (t.second ∷ t.further) (record begin { roles = t.first ∷ [] }) (plain (codes "protocol") ∷ body_signs t.body) u N (IsRead t)
+    (λ e f. absurd (cc (sym e ∙ f.roles_differ))) (λ e f. let k : length (roles_of t) ≤ 16 = f.few_roles in let j : 16 < length (roles_of t) = e in absurd (omega arith)) refl (omega arith)
+    (λ d few. λ a f n.
+    subst (λ (z : List Sign). Exact z u N (IsRead t) (record begin { roles = roles_of t; mode = mode.Body link.Root })) (append-nil (body_signs t.body))
+    (body_exact t.body link.Root (record begin { roles = roles_of t }) all (talks_in t.body) [] u N (IsRead t) settled (λ name k e. e) (
+      (λ e f. absurd (cc (sym e ∙ f.body))),
+      (λ fit labels drafts root ended bound inner depth g w v x b.
+          record { fits = record { roles_differ = d; few_roles = few; body = fit }; read = refl; names = ap (λ z. record { roles = roles_of t; labels = z }) g; graph = graph_is t drafts root ended w v x }),
+    ))))
