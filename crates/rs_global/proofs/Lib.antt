@@ -13,3 +13,9 @@ pub mod Answers
 pub mod Sounding
 pub mod Examples
 pub mod Placing
+pub mod SpeltSteps
+pub mod SpeltBodies
+pub mod SpeltTrees
+pub mod SpeltCuts
+pub mod SpeltRuns
+pub mod SpeltLaws

@@ -7,6 +7,7 @@ pub mod laws;
 mod protocols;
 mod reading;
 mod seen;
+pub mod spelling_laws;
 #[cfg(test)]
 mod tests;
 

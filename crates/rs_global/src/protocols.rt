@@ -1,9 +1,10 @@
-ghost use Rattle.std.specs.Prelude.{◌≡◌, ◌≤◌, length, IfOk, IfErr, ◌⊎◌, Ok, Err};
+ghost use Rattle.std.specs.Prelude.{◌≡◌, ◌≤◌, length, IfOk, IfErr, ◌⊎◌, Ok};
 ghost use Rattle.rs_text.specs.declared.faults.TextKind.TheVariants as kind;
 ghost use Rattle.rs_global.specs.Drafts.{names_read, protocol_of};
-ghost use Rattle.rs_global.specs.Faults.{FirstFault};
 ghost use Rattle.rs_global.specs.Feeding as spec;
-ghost use Rattle.rs_global.specs.Feeding.{Reads, ReadsAs, StopsAs};
+ghost use Rattle.rs_global.specs.Faults.{FirstFault};
+ghost use Rattle.rs_global.specs.Feeding.{Reads, StopsAs};
+ghost use Rattle.rs_global.specs.Spells.{SpellsProtocol};
 ghost use Rattle.rs_text.specs.Lexemes.{next_lexeme};
 ghost use Rattle.rs_text.specs.Sound.{IsSound};
 
@@ -28,7 +29,7 @@ pub fn read_protocol(
     at: usize,
 ) -> Result<(Names, Protocol, usize), TextFault>
     requires { at ≤ length bytes.now }
-    ensures ok { IfOk result (λ r. ReadsAs bytes.now at (Ok (record { names = r.0; protocol = r.1; until = r.2 }))) }
+    ensures ok { IfOk result (λ r. SpellsProtocol bytes.now at r.0 r.1 r.2) }
     ensures err { IfErr result (λ e. (e.kind ≡ kind.NoMemory) ⊎ FirstFault bytes.now at e.kind e.at) }
     ensures sound { IfOk result (λ r. IsSound r.0) }
     ensures roles { IfOk result (λ r. length r.0.roles ≤ 16) }
