@@ -1,0 +1,7 @@
+pub mod Acts
+pub mod Few
+pub mod Greatest
+pub mod Loops
+pub mod Order
+pub mod Rows
+pub mod Whole
