@@ -7,6 +7,8 @@ mod faults;
 pub mod laws;
 mod nexts;
 mod targets;
+#[cfg(test)]
+mod tests;
 
 pub use checks::check;
 pub use derivations::{DNode, Derivation, longest, top_rank};
