@@ -1,4 +1,5 @@
 pub mod Acts
+pub mod Blame
 pub mod Few
 pub mod Greatest
 pub mod Loops

@@ -80,7 +80,7 @@ both_picks theirs pending (a ∷ later) (r ∷ rs) b =
     let x = b.0 in
     (rw (x.1, x.3) (zero, refl), both_picks theirs pending later rs b.1)
 
-follow_picks : (p : Spot) (r : Role) (theirs : List Arm)
+pub follow_picks : (p : Spot) (r : Role) (theirs : List Arm)
     → Chosen (map (λ b. owing_receive p r b ∷ []) theirs) (map (λ b. owing_receive p r b) theirs)
 follow_picks p r [] = tt
 follow_picks p r (b ∷ theirs) = ((zero, refl), follow_picks p r theirs)
@@ -212,7 +212,7 @@ sound_guess sub above p q r arms theirs gs none gt ne (x ∷ []) h =
       agrees = none_agrees p.pending;
     }
 
-served : (a : Arm) (o : Option Arm) → serves_some a o ≡ true → (b : Arm) × (o ≡ Some b) × Serves a.sort b.sort
+pub served : (a : Arm) (o : Option Arm) → serves_some a o ≡ true → (b : Arm) × (o ≡ Some b) × Serves a.sort b.sort
 served a None e = absurd (false≢true e)
 served a (Some b) e = (b, refl, sort_is a.sort b.sort e)
 

@@ -39,7 +39,7 @@ spot_is p q e =
 spot_same : (p : Spot) → same_spot p p ≡ true
 spot_same p = rw (eq-eqb p.state p.state refl, eq-eqb p.above p.above refl, acts_same p.pending) refl
 
-named_is : (m : DNode_data) (spots : List Spot) → names m spots ≡ true → Is spots (spot_of m)
+pub named_is : (m : DNode_data) (spots : List Spot) → names m spots ≡ true → Is spots (spot_of m)
 named_is m [] e = absurd (false≢true e)
 named_is m (r ∷ rs) e =
     ⊎_elim (λ h. (zero, ap Some (sym (spot_is (spot_of m) r h)))) (λ h. let k = named_is m rs h in (suc k.0, k.1))
@@ -55,7 +55,7 @@ named_in m x rs r e zero g later =
     rw (subst (λ y. same_spot (spot_of m) y ≡ true) (e ∙ sym (same_Some x r g)) (spot_same (spot_of m))) refl
 named_in m x rs r e (suc i) g later = either (same_spot (spot_of m) x) (names m rs) (later i g)
 
-is_named : (m : DNode_data) (spots : List Spot) (r : Spot) → spot_of m ≡ r → Is spots r → names m spots ≡ true
+pub is_named : (m : DNode_data) (spots : List Spot) (r : Spot) → spot_of m ≡ r → Is spots r → names m spots ≡ true
 is_named m [] r e i = absurd (none-some r i.1)
 is_named m (x ∷ rs) r e i = named_in m x rs r e i.0 i.1 (λ j g. is_named m rs r e (j, g))
 
@@ -232,7 +232,7 @@ remembers d sub above e =
 
 -- a derivation that forgets nothing has no fault
 
-starts_right : (sub above : Machine_data) (ns : List DNode_data) (n : DNode_data) → slice_get ns 0 ≡ Some n → spot_of n ≡ spot sub.start [] above.start → starts sub above ns ≡ true
+pub starts_right : (sub above : Machine_data) (ns : List DNode_data) (n : DNode_data) → slice_get ns 0 ≡ Some n → spot_of n ≡ spot sub.start [] above.start → starts sub above ns ≡ true
 starts_right sub above [] n g e = absurd (none-some n g)
 starts_right sub above (x ∷ ns) n g e =
     let k : spot_of x ≡ spot sub.start [] above.start = ap spot_of (same_Some x n g) ∙ e in

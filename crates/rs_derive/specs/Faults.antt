@@ -1,11 +1,11 @@
 -- The first fault of a derivation: all its tests in order, and the first that isn't passed.
-use Rattle.std.specs.Prelude.{ℕ, ◌+◌, List, [], ◌∷◌, ◌++◌, length, slice_get, Bool, true, false, not, ◌&&◌, ◌||◌, nat_lt, nat_le, if◌then◌else◌, Option, Some, None}
+use Rattle.std.specs.Prelude.{◌≡◌, ◌≢◌, ◌⊎◌, ℕ, ◌+◌, ◌<◌, ◌≤◌, List, [], ◌∷◌, ◌++◌, length, slice_get, Bool, true, false, not, ◌&&◌, ◌||◌, nat_lt, nat_le, if◌then◌else◌, Option, Some, None}
 use Rattle.rs_model.specs.Data.{Machine_data}
 use Rattle.rs_derive.specs.Checks.{names, starts}
 use Rattle.rs_derive.specs.Data.{DNode_data, Derivation_data}
-use Rattle.rs_derive.specs.Derivations.{spot_of}
+use Rattle.rs_derive.specs.Derivations.{KeepsItsHead, spot_of}
 use Rattle.rs_derive.specs.Due.{Due, due}
-use Rattle.rs_derive.specs.Moves.{Spot}
+use Rattle.rs_derive.specs.Moves.{HasMove, Spot, spot}
 use Rattle.rs_derive.specs.declared.faults.DeriveFault.{DeriveFault}
 use Rattle.rs_derive.specs.declared.faults.DeriveFault.TheVariants.{BadStart, BadState, TooLongPending, NoMove, WrongNext, Forgets}
 
@@ -64,3 +64,35 @@ tests_of d sub above =
 -- the fault of the first test that the derivation doesn't pass
 unfoldable pub first_fault : Derivation_data → Machine_data → Machine_data → Option DeriveFault
 first_fault d sub above = first_failed (tests_of d sub above)
+
+-- at place k there is a next and no result, or a result and no next, or the next names no node that is the result
+pub record Misnames (nodes : List DNode_data) (next : List ℕ) (results : List Spot) (k : ℕ) : Type 0 where
+  pub one : slice_get next k ≡ None → slice_get results k ≡ None → ⊥
+  pub none : (j : ℕ) (r : Spot) (m : DNode_data) → slice_get next k ≡ Some j → slice_get results k ≡ Some r → slice_get nodes j ≡ Some m
+      → spot_of m ≢ r
+
+-- the node has a move that keeps its head, and the rank doesn't fall to its next at place k
+pub record Stays (nodes : List DNode_data) (sub above : Machine_data) (n : DNode_data) (k : ℕ) : Type 0 where
+  pub makes : Option ℕ
+  pub results : List Spot
+  pub move : HasMove sub above (spot_of n) makes results
+  pub keeps : KeepsItsHead n.pending makes
+  pub j : ℕ
+  pub m : DNode_data
+  pub next : slice_get n.next k ≡ Some j
+  pub node : slice_get nodes j ≡ Some m
+  pub stays : n.rank ≤ m.rank
+
+-- what each fault says of the derivation
+abbrev pub Blames : Derivation_data → Machine_data → Machine_data → DeriveFault → Type 0
+Blames d sub above BadStart = (n : DNode_data) → slice_get d.nodes 0 ≡ Some n → spot_of n ≢ spot sub.start [] above.start
+Blames d sub above (BadState i) =
+    (n : DNode_data) × (slice_get d.nodes i ≡ Some n) × ((length sub.states ≤ n.state) ⊎ (length above.states ≤ n.above))
+Blames d sub above (TooLongPending i) = (n : DNode_data) × (slice_get d.nodes i ≡ Some n) × (d.bound < length n.pending)
+Blames d sub above (NoMove i) =
+    (n : DNode_data) × (slice_get d.nodes i ≡ Some n)
+    × ((makes : Option ℕ) (results : List Spot) → HasMove sub above (spot_of n) makes results → ⊥)
+Blames d sub above (WrongNext i k) =
+    (n : DNode_data) × (slice_get d.nodes i ≡ Some n)
+    × ((makes : Option ℕ) (results : List Spot) → HasMove sub above (spot_of n) makes results → Misnames d.nodes n.next results k)
+Blames d sub above (Forgets i k) = (n : DNode_data) × (slice_get d.nodes i ≡ Some n) × Stays d.nodes sub above n k

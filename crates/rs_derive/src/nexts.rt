@@ -114,6 +114,7 @@ pub fn arm_of(arms: &[Arm], label: Label) -> Option<Arm>
     None
 }
 
+// The next for that arm of the projection's receive. No label stands at two arms, so there are at most 65,536 arms.
 fn followed_fault(
     nodes: &[DNode],
     source: Source,
@@ -131,6 +132,7 @@ fn followed_fault(
     edge_fault(nodes, source, number, *next, node, target)
 }
 
+// The next for that arm of the machine's send.
 fn made_fault(
     nodes: &[DNode],
     source: Source,
@@ -156,6 +158,7 @@ fn made_fault(
     edge_fault(nodes, source, number, *next, node, target)
 }
 
+// Where passing that arm of the projection's receive leads to.
 fn owing(node: &DNode, peer: Role, arm: Arm) -> Target
     ensures spot { target_spot node.now.pending result ≡ owing_receive (spot_of node.now) peer arm }
     ensures within { IsWithin (length node.now.pending) result.change }
