@@ -1,0 +1,6 @@
+use Rattle.std.proofs.Common.{rules}
+use Rattle.rs_derive.proofs.Greatest.{at_end}
+use Rattle.rs_derive.proofs.derivations.top_rank.Goals as goal
+
+pub returns : goal.returns
+returns c = at_end (λ n. n.rank) c.args.derivation.now.nodes c.loop-node.node-index c.loop-node.greatest c.loop-node.invariant (search rules)

@@ -1,0 +1,110 @@
+-- The first fault of a derivation, as the code finds it.
+use Rattle.std.specs.Prelude.{ℕ, ◌+◌, List, [], ◌∷◌, ◌++◌, length, slice_get, Bool, true, false, ◌==◌, ◌&&◌, nat_lt, nat_le, if◌then◌else◌, Option, Some, None}
+use Rattle.std.specs.List.{list_any}
+use Rattle.rs_model.specs.Data.{Machine_data}
+use Rattle.rs_model.specs.Sorts.{serves, sort_number}
+use Rattle.rs_model.specs.declared.graph.Arm.{Arm}
+use Rattle.rs_model.specs.declared.machines.Act.{Act}
+use Rattle.rs_model.specs.declared.machines.Act.TheVariants.{Puts, Takes}
+use Rattle.rs_prefix.specs.Earliest.{without}
+use Rattle.rs_derive.specs.Data.{DNode_data, Derivation_data}
+use Rattle.rs_derive.specs.Derivations.{spot_of}
+use Rattle.rs_derive.specs.Due.{Due, due}
+use Rattle.rs_derive.specs.Moves.{Spot, spot}
+use Rattle.rs_derive.specs.declared.faults.DeriveFault.{DeriveFault}
+use Rattle.rs_derive.specs.declared.faults.DeriveFault.TheVariants.{BadStart, BadState, TooLongPending, NoMove, WrongNext, Forgets}
+use Rattle.rs_derive.specs.declared.targets.Change.{Change}
+use Rattle.rs_derive.specs.declared.targets.Change.TheVariants.{Same, Without, With}
+use Rattle.rs_derive.specs.declared.targets.Target.{Target}
+
+-- tests of equality
+
+abbrev pub same_act : Act → Act → Bool
+same_act (Puts p l s) (Puts q k t) = (p.0 == q.0) && ((l.0 == k.0) && (sort_number s == sort_number t))
+same_act (Takes p l s) (Takes q k t) = (p.0 == q.0) && ((l.0 == k.0) && (sort_number s == sort_number t))
+same_act (Puts p l s) (Takes q k t) = false
+same_act (Takes p l s) (Puts q k t) = false
+
+abbrev pub same_acts : List Act → List Act → Bool
+same_acts [] [] = true
+same_acts [] (b ∷ bs) = false
+same_acts (a ∷ as') [] = false
+same_acts (a ∷ as') (b ∷ bs) = same_act a b && same_acts as' bs
+
+abbrev pub same_spot : Spot → Spot → Bool
+same_spot p q = (p.state == q.state) && ((p.above == q.above) && same_acts p.pending q.pending)
+
+-- the spot that a target of an edge stands for
+
+abbrev pub changed : List Act → Change → List Act
+changed pending Same = pending
+changed pending (Without place) = without pending place
+changed pending (With x) = pending ++ x ∷ []
+
+abbrev pub target_spot : List Act → Target → Spot
+target_spot pending t = spot t.state (changed pending t.change) t.above
+
+-- faults
+
+abbrev pub or_later : Option DeriveFault → Option DeriveFault → Option DeriveFault
+or_later None later = later
+or_later (Some f) _ = Some f
+
+-- the node is at one of the spots
+abbrev pub names : DNode_data → List Spot → Bool
+names m spots = list_any (λ r. same_spot (spot_of m) r) spots
+
+abbrev pub judged : Bool → ℕ → ℕ → ℕ → Bool → ℕ → Option DeriveFault
+judged keeps rank i k named there =
+    if named then (if keeps && nat_le rank there then Some (Forgets i k) else None) else Some (WrongNext i k)
+
+abbrev pub edge_fault : Bool → ℕ → ℕ → ℕ → List Spot → Option DNode_data → Option DeriveFault
+edge_fault keeps rank i k spots None = Some (WrongNext i k)
+edge_fault keeps rank i k spots (Some m) = judged keeps rank i k (names m spots) m.rank
+
+-- the edge by that arm and that next
+abbrev pub edge_at : (Arm → List Spot) → List DNode_data → Bool → ℕ → ℕ → ℕ → Option Arm → Option ℕ → Option DeriveFault
+edge_at due nodes keeps rank i k (Some a) (Some j) = edge_fault keeps rank i k (due a) (slice_get nodes j)
+edge_at due nodes keeps rank i k (Some a) None = None
+edge_at due nodes keeps rank i k None next = None
+
+abbrev pub spare : ℕ → ℕ → List ℕ → Option DeriveFault
+spare i k [] = None
+spare i k (j ∷ js) = Some (WrongNext i k)
+
+abbrev pub counted : ℕ → ℕ → ℕ → ℕ → Option DeriveFault
+counted i k due given = if due == given then None else Some (WrongNext i k)
+
+abbrev pub nexts_fault : List DNode_data → Bool → ℕ → ℕ → List (List Spot) → List ℕ → ℕ → Option DeriveFault
+nexts_fault nodes keeps rank i [] js k = spare i k js
+nexts_fault nodes keeps rank i (d ∷ ds) [] k = Some (WrongNext i k)
+nexts_fault nodes keeps rank i (d ∷ ds) (j ∷ js) k =
+    or_later (edge_fault keeps rank i k d (slice_get nodes j)) (nexts_fault nodes keeps rank i ds js (k + 1))
+
+abbrev pub move_fault : List DNode_data → ℕ → DNode_data → Option Due → Option DeriveFault
+move_fault nodes i n None = Some (NoMove i)
+move_fault nodes i n (Some d) = nexts_fault nodes d.keeps n.rank i d.nexts n.next 0
+
+abbrev pub state_fault : Machine_data → Machine_data → ℕ → DNode_data → Option DeriveFault
+state_fault sub above i n =
+    if nat_lt n.state (length sub.states) && nat_lt n.above (length above.states) then None else Some (BadState i)
+
+abbrev pub length_fault : ℕ → ℕ → DNode_data → Option DeriveFault
+length_fault bound i n = if nat_le (length n.pending) bound then None else Some (TooLongPending i)
+
+abbrev pub node_fault : Derivation_data → Machine_data → Machine_data → ℕ → DNode_data → Option DeriveFault
+node_fault d sub above i n =
+    or_later (state_fault sub above i n)
+    (or_later (length_fault d.bound i n) (move_fault d.nodes i n (due sub above (spot_of n))))
+
+abbrev pub nodes_fault : Derivation_data → Machine_data → Machine_data → List DNode_data → ℕ → Option DeriveFault
+nodes_fault d sub above [] i = None
+nodes_fault d sub above (n ∷ later) i = or_later (node_fault d sub above i n) (nodes_fault d sub above later (i + 1))
+
+abbrev pub starts : Machine_data → Machine_data → List DNode_data → Bool
+starts sub above [] = false
+starts sub above (n ∷ later) = (n.state == sub.start) && ((n.above == above.start) && (length n.pending == 0))
+
+abbrev pub derive_fault : Derivation_data → Machine_data → Machine_data → Option DeriveFault
+derive_fault d sub above =
+    or_later (if starts sub above d.nodes then None else Some BadStart) (nodes_fault d sub above d.nodes 0)

@@ -1,0 +1,15 @@
+//! Derivations: that a machine may replace its projection, and the test of one.
+#![tactic(auto)]
+
+mod checks;
+mod derivations;
+mod faults;
+pub mod laws;
+mod nexts;
+mod targets;
+#[cfg(test)]
+mod tests;
+
+pub use checks::check;
+pub use derivations::{DNode, Derivation, longest, top_rank};
+pub use faults::DeriveFault;

@@ -1,0 +1,259 @@
+ghost use Rattle.std.specs.Prelude.{◌≡◌, ◌<◌, ◌^◌, [], ◌∷◌, map, slice_get, length, Some};
+ghost use Rattle.rs_model.specs.declared.graph.Arm.{Arm};
+ghost use Rattle.rs_derive.specs.Checks.{judged, counted, edge_at, edge_fault, spare, nexts_fault, target_spot};
+ghost use Rattle.rs_derive.specs.Derivations.{spot_of};
+ghost use Rattle.rs_derive.specs.Due.{both_at};
+ghost use Rattle.rs_derive.specs.Moves.{arm_of, owing_send, owing_receive};
+ghost use Rattle.rs_derive.specs.Within.{IsWithin, IsOnce};
+ghost use Rattle.rs_derive.specs.declared.faults.DeriveFault.TheVariants.{WrongNext};
+
+use crate::targets::{Change, Target, is_guessed, is_target};
+use crate::{DNode, DeriveFault};
+use rs_model::{Act, Arm, Label, Role};
+
+// The node that edges leave, by its number, and whether these edges keep its head.
+#[derive(Clone, Copy)]
+pub struct Source {
+    pub node: u32,
+    pub rank: u32,
+    pub keeps: bool,
+}
+
+// One next, which must name the target.
+pub fn one_fault(
+    nodes: &[DNode],
+    source: Source,
+    node: &DNode,
+    target: Target,
+) -> Option<DeriveFault>
+    requires { IsWithin (length node.now.pending) target.change }
+    ensures { result ≡ nexts_fault nodes.now source.keeps source.rank source.node ((target_spot node.now.pending target ∷ []) ∷ []) node.now.next 0 }
+{
+    match node.next.as_slice() {
+        [] => Some(wrong_next(source, 0)),
+        [next, rest @ ..] => {
+            match edge_fault(nodes, source, 0, *next, node, target) {
+                None => spare_fault(source, 1, rest),
+                fault => fault,
+            }
+        }
+    }
+}
+
+// One next, which must name what passing one of the projection's sends leads to.
+pub fn guess_fault(
+    nodes: &[DNode],
+    source: Source,
+    node: &DNode,
+    peer: Role,
+    arms: &[Arm],
+) -> Option<DeriveFault>
+    ensures { result ≡ nexts_fault nodes.now source.keeps source.rank source.node (map (λ b. owing_send (spot_of node.now) peer b) arms.now ∷ []) node.now.next 0 }
+{
+    match node.next.as_slice() {
+        [] => Some(wrong_next(source, 0)),
+        [next, rest @ ..] => {
+            match guessed_fault(nodes, source, *next, node, peer, arms) {
+                None => spare_fault(source, 1, rest),
+                fault => fault,
+            }
+        }
+    }
+}
+
+// A next for each arm of the projection's receive, which is owed from there on.
+pub fn follow_fault(
+    nodes: &[DNode],
+    source: Source,
+    node: &DNode,
+    peer: Role,
+    arms: &[Arm],
+) -> Option<DeriveFault>
+    requires { IsOnce arms.now }
+    ensures { result ≡ nexts_fault nodes.now source.keeps source.rank source.node (map (λ b. owing_receive (spot_of node.now) peer b ∷ []) arms.now) node.now.next 0 }
+{
+    let due = arms.len().min(node.next.len());
+    for place in 0..due {
+        if let Some(fault) = followed_fault(nodes, source, place as u32, node, peer, arms) {
+            return Some(fault);
+        }
+    }
+    count_fault(source, due as u32, arms.len(), node.next.len())
+}
+
+// A next for each arm of the machine's send, which the projection makes too.
+pub fn both_fault(
+    nodes: &[DNode],
+    source: Source,
+    node: &DNode,
+    arms: &[Arm],
+    theirs: &[Arm],
+) -> Option<DeriveFault>
+    requires { IsOnce arms.now }
+    ensures { result ≡ nexts_fault nodes.now source.keeps source.rank source.node (map (λ a. both_at node.now.pending a (arm_of theirs.now a.label)) arms.now) node.now.next 0 }
+{
+    let due = arms.len().min(node.next.len());
+    for place in 0..due {
+        if let Some(fault) = made_fault(nodes, source, place as u32, node, arms, theirs) {
+            return Some(fault);
+        }
+    }
+    count_fault(source, due as u32, arms.len(), node.next.len())
+}
+
+// The first arm with the label.
+pub fn arm_of(arms: &[Arm], label: Label) -> Option<Arm>
+    ensures arm { result ≡ arm_of arms.now label }
+    ensures label { label.0 < 2 ^ 16 }
+{
+    for arm in arms {
+        if arm.label.0 == label.0 {
+            return Some(*arm);
+        }
+    }
+    None
+}
+
+// The next for that arm of the projection's receive. No label stands at two arms, so there are at most 65,536 arms.
+fn followed_fault(
+    nodes: &[DNode],
+    source: Source,
+    number: u32,
+    node: &DNode,
+    peer: Role,
+    arms: &[Arm],
+) -> Option<DeriveFault>
+    ensures fault { result ≡ edge_at (λ b. owing_receive (spot_of node.now) peer b ∷ []) nodes.now source.keeps source.rank source.node number (slice_get arms.now number) (slice_get node.now.next number) }
+    ensures label { (a : Arm) → slice_get arms.now number ≡ Some a → a.label.0 < 2 ^ 16 }
+{
+    let arm = arms.get(number as usize)?;
+    let target = owing(node, peer, *arm);
+    let next = node.next.get(number as usize)?;
+    edge_fault(nodes, source, number, *next, node, target)
+}
+
+// The next for that arm of the machine's send.
+fn made_fault(
+    nodes: &[DNode],
+    source: Source,
+    number: u32,
+    node: &DNode,
+    arms: &[Arm],
+    theirs: &[Arm],
+) -> Option<DeriveFault>
+    ensures fault { result ≡ edge_at (λ a. both_at node.now.pending a (arm_of theirs.now a.label)) nodes.now source.keeps source.rank source.node number (slice_get arms.now number) (slice_get node.now.next number) }
+    ensures label { (a : Arm) → slice_get arms.now number ≡ Some a → a.label.0 < 2 ^ 16 }
+{
+    let arm = arms.get(number as usize)?;
+    let their = arm_of(theirs, arm.label);
+    let next = node.next.get(number as usize)?;
+    let Some(their) = their else {
+        return Some(wrong_next(source, number));
+    };
+    let target = Target {
+        state: arm.next,
+        change: Change::Same,
+        above: their.next,
+    };
+    edge_fault(nodes, source, number, *next, node, target)
+}
+
+// Where passing that arm of the projection's receive leads to.
+fn owing(node: &DNode, peer: Role, arm: Arm) -> Target
+    ensures spot { target_spot node.now.pending result ≡ owing_receive (spot_of node.now) peer arm }
+    ensures within { IsWithin (length node.now.pending) result.change }
+    ensures label { arm.label.0 < 2 ^ 16 }
+{
+    let act = Act::Takes {
+        peer,
+        label: arm.label,
+        sort: arm.sort,
+    };
+    Target {
+        state: node.state,
+        change: Change::With(act),
+        above: arm.next,
+    }
+}
+
+fn edge_fault(
+    nodes: &[DNode],
+    source: Source,
+    number: u32,
+    next: u32,
+    node: &DNode,
+    target: Target,
+) -> Option<DeriveFault>
+    requires { IsWithin (length node.now.pending) target.change }
+    ensures { result ≡ edge_fault source.keeps source.rank source.node number (target_spot node.now.pending target ∷ []) (slice_get nodes.now next) }
+{
+    match nodes.get(next as usize) {
+        None => Some(wrong_next(source, number)),
+        Some(there) => {
+            let named = is_target(there, node.pending.as_slice(), target);
+            judge(source, number, named, there.rank)
+        }
+    }
+}
+
+fn guessed_fault(
+    nodes: &[DNode],
+    source: Source,
+    next: u32,
+    node: &DNode,
+    peer: Role,
+    arms: &[Arm],
+) -> Option<DeriveFault>
+    ensures { result ≡ edge_fault source.keeps source.rank source.node 0 (map (λ b. owing_send (spot_of node.now) peer b) arms.now) (slice_get nodes.now next) }
+{
+    match nodes.get(next as usize) {
+        None => Some(wrong_next(source, 0)),
+        Some(there) => judge(source, 0, is_guessed(there, node, peer, arms), there.rank),
+    }
+}
+
+fn judge(source: Source, arm: u32, named: bool, rank: u32) -> Option<DeriveFault>
+    ensures { result ≡ judged source.keeps source.rank source.node arm named rank }
+{
+    if !named {
+        Some(wrong_next(source, arm))
+    } else if source.keeps && rank >= source.rank {
+        Some(DeriveFault::Forgets {
+            node: source.node,
+            arm,
+        })
+    } else {
+        None
+    }
+}
+
+// A next too many, or too few.
+fn count_fault(source: Source, arm: u32, arms: usize, nexts: usize) -> Option<DeriveFault>
+    ensures { result ≡ counted source.node arm arms nexts }
+{
+    if arms == nexts {
+        None
+    } else {
+        Some(wrong_next(source, arm))
+    }
+}
+
+// More nexts than are due.
+pub fn spare_fault(source: Source, arm: u32, rest: &[u32]) -> Option<DeriveFault>
+    ensures { result ≡ spare source.node arm rest.now }
+{
+    if rest.is_empty() {
+        None
+    } else {
+        Some(wrong_next(source, arm))
+    }
+}
+
+fn wrong_next(source: Source, arm: u32) -> DeriveFault
+    ensures { result ≡ WrongNext source.node arm }
+{
+    DeriveFault::WrongNext {
+        node: source.node,
+        arm,
+    }
+}

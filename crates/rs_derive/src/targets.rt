@@ -1,0 +1,108 @@
+ghost use Rattle.std.specs.Prelude.{◌≡◌, ◌<◌, ◌≤◌, ◌∷◌, ◌++◌, [], length, map};
+ghost use Rattle.rs_prefix.specs.Earliest.{without};
+ghost use Rattle.rs_derive.specs.Checks.{names, same_act, same_acts, same_spot, changed, target_spot};
+ghost use Rattle.rs_derive.specs.Derivations.{spot_of};
+ghost use Rattle.rs_derive.specs.Moves.{owing_send};
+ghost use Rattle.rs_derive.specs.Within.{IsWithin};
+
+use crate::DNode;
+use rs_model::{Act, Arm, Role};
+
+/// What a move does to the pending acts.
+#[derive(Clone, Copy, Debug, PartialEq, Eq)]
+pub enum Change {
+    Same,
+    /// It makes the act at the place.
+    Without(usize),
+    /// It adds the act.
+    With(Act),
+}
+
+/// Where an edge leads from a node: a state of the machine, what becomes of the node's pending acts, and a state of
+/// the projection.
+#[derive(Clone, Copy, Debug, PartialEq, Eq)]
+pub struct Target {
+    pub state: u32,
+    pub change: Change,
+    pub above: u32,
+}
+
+// Whether the node is where the edge leads from one with these pending acts.
+pub fn is_target(next: &DNode, pending: &[Act], target: Target) -> bool
+    requires { IsWithin (length pending.now) target.change }
+    ensures { result ≡ same_spot (spot_of next.now) (target_spot pending.now target) }
+{
+    next.state == target.state
+        && next.above == target.above
+        && is_changed(next.pending.as_slice(), pending, target.change)
+}
+
+// Whether the node is where passing one of the projection's sends leads, with that send owed.
+pub fn is_guessed(next: &DNode, node: &DNode, peer: Role, arms: &[Arm]) -> bool
+    ensures { result ≡ names next.now (map (λ b. owing_send (spot_of node.now) peer b) arms.now) }
+{
+    for arm in arms {
+        if is_owing_send(next, node, peer, *arm) {
+            return true;
+        }
+    }
+    false
+}
+
+fn is_owing_send(next: &DNode, node: &DNode, peer: Role, arm: Arm) -> bool
+    ensures { result ≡ same_spot (spot_of next.now) (owing_send (spot_of node.now) peer arm) }
+{
+    let act = Act::Puts {
+        peer,
+        label: arm.label,
+        sort: arm.sort,
+    };
+    let target = Target {
+        state: node.state,
+        change: Change::With(act),
+        above: arm.next,
+    };
+    is_target(next, node.pending.as_slice(), target)
+}
+
+fn is_changed(acts: &[Act], pending: &[Act], change: Change) -> bool
+    requires { IsWithin (length pending.now) change }
+    ensures { result ≡ same_acts acts.now (changed pending.now change) }
+{
+    match change {
+        Change::Same => same(acts, pending),
+        Change::Without(place) => is_without(acts, pending, place),
+        Change::With(act) => is_with(acts, pending, act),
+    }
+}
+
+fn is_without(acts: &[Act], pending: &[Act], place: usize) -> bool
+    requires { place < length pending.now }
+    ensures { result ≡ same_acts acts.now (without pending.now place) }
+{
+    let (front, rest) = pending.split_at(place);
+    let (_, back) = rest.split_at(1);
+    is_joined(acts, front, back)
+}
+
+fn is_with(acts: &[Act], pending: &[Act], act: Act) -> bool
+    ensures { result ≡ same_acts acts.now (pending.now ++ act ∷ []) }
+{
+    is_joined(acts, pending, &[act])
+}
+
+fn is_joined(acts: &[Act], front: &[Act], back: &[Act]) -> bool
+    ensures { result ≡ same_acts acts.now (front.now ++ back.now) }
+{
+    if acts.len() < front.len() {
+        return false;
+    }
+    let (ours, later) = acts.split_at(front.len());
+    same(ours, front) && same(later, back)
+}
+
+fn same(acts: &[Act], others: &[Act]) -> bool
+    ensures { result ≡ same_acts acts.now others.now }
+{
+    acts == others
+}

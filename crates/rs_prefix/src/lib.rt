@@ -1,0 +1,12 @@
+//! What a machine still owes: the acts of its projection that were passed and not yet made, and which of them a next
+//! act may make.
+#![tactic(auto)]
+
+mod earliest;
+pub mod laws;
+mod owed;
+#[cfg(test)]
+mod tests;
+
+pub use earliest::{Found, Kind};
+pub use owed::Pending;

@@ -1,0 +1,83 @@
+ghost use Rattle.std.specs.Prelude.{◌≡◌, ◌<◌, [], ◌∷◌, ◌++◌, length, slice_get, Some, OnOk, OnErr};
+ghost use Rattle.rs_prefix.specs.Earliest.{Finds, without};
+ghost use Rattle.rs_prefix.specs.Search.{earliest};
+
+use crate::earliest::{has, may_overtake};
+use crate::{Found, Kind};
+use rs_model::{Act, NoMemory, Role};
+use std::alloc::Global;
+use std::marker::Model;
+
+/// The acts that a machine owes, the oldest first.
+#[derive(Drop, Debug)]
+pub struct Pending {
+    acts: Vec<Act>,
+}
+
+impl Model for Pending {
+    ghost use Rattle.std.specs.Prelude.{List};
+    ghost use Rattle.rs_model.specs.declared.machines.Act.{Act};
+
+    ghost Value = { List Act };
+
+    ghost view = { λ p. p.acts.items };
+}
+
+impl Pending {
+    /// Nothing owed.
+    pub fn new(alloc: Global) -> Pending
+        ensures { result ≡ [] }
+    {
+        Pending {
+            acts: Vec::new(alloc),
+        }
+    }
+
+    /// Appends an act; where memory is refused nothing changes.
+    pub fn push(&mut self, act: Act) -> Result<(), NoMemory>
+        ensures ok { OnOk result (self.new ≡ self.old ++ act ∷ []) }
+        ensures err { OnErr result (self.new ≡ self.old) }
+    {
+        self.acts.push(act)?;
+        Ok(())
+    }
+
+    /// The earliest pending act of the kind with the peer: its place where it may overtake all acts before it, else
+    /// the place of the first act that it may not overtake. A send may overtake receives, and sends to others; a
+    /// receive may overtake receives from others, and no send. Takes no memory.
+    pub fn find(&self, kind: Kind, peer: Role) -> Found
+        ensures means { Finds self.now kind peer result }
+        ensures is { result ≡ earliest self.now kind peer }
+    {
+        self.scan(kind, peer)
+    }
+
+    fn scan(&self, kind: Kind, peer: Role) -> Found
+        ensures { result ≡ earliest self.now kind peer }
+    {
+        for (place, act) in self.acts.iter().enumerate() {
+            if has(*act, kind, peer) {
+                return Found::At(place);
+            }
+            if !may_overtake(*act, kind, peer) {
+                return Found::Blocked(place);
+            }
+        }
+        Found::Absent
+    }
+
+    /// Takes the act at the place out of the list; those behind it close up. Takes no memory.
+    pub fn take(&mut self, place: usize) -> Act
+        requires { place < length self.now }
+        ensures act { slice_get self.old place ≡ Some result }
+        ensures rest { self.new ≡ without self.old place }
+    {
+        self.acts.remove(place)
+    }
+
+    pub fn as_slice(&self) -> &[Act]
+        ensures { result.now ≡ self.now }
+    {
+        self.acts.as_slice()
+    }
+}
