@@ -1,8 +1,7 @@
 -- A text is read as a protocol exactly where it spells it.
-use Rattle.std.proofs.Common.{◌≡◌, ℕ, ◌≤◌, List, [], ◌∷◌, ◌++◌, length, Bool, true, false, if◌then◌else◌, Option, Some, None, Result, Ok, Err, inl, inr, refl, sym, ap, ◌∙◌, subst, append_assoc, append-nil}
+use Rattle.std.proofs.Common.{◌≡◌, ℕ, ◌≤◌, List, [], ◌∷◌, ◌++◌, length, Bool, true, false, if◌then◌else◌, Result, Ok, Err, inl, inr, refl, sym, ap, ◌∙◌, subst, append_assoc, append-nil}
 use Rattle.rs_model.specs.Data.{Protocol_data, Names_data}
 use Rattle.rs_text.specs.declared.faults.TextFault.{TextFault}
-use Rattle.rs_text.specs.declared.faults.Wanted.{Wanted}
 use Rattle.rs_text.specs.declared.faults.Wanted.TheVariants as wanted
 use Rattle.rs_text.specs.Lexemes.{Lexeme, Lexed, signs_of, is_last}
 use Rattle.rs_text.specs.Signs.{Sign, broken}
@@ -14,8 +13,7 @@ use Rattle.rs_global.specs.declared.reading.Mode.TheVariants as mode
 use Rattle.rs_global.specs.Data.{Reader_data}
 use Rattle.rs_global.specs.Drafts.{protocol_of, names_read}
 use Rattle.rs_global.specs.Trees.{ProtocolTree, protocol_signs, ends_by_name, ends_a_name}
-use Rattle.rs_global.specs.Cuts.{ProtocolCut, protocol_cut_signs, wanted_of, at_begin}
-use Rattle.rs_global.specs.Graph.{names_of, graph_of}
+use Rattle.rs_global.specs.Cuts.{ProtocolCut, at_begin}
 use Rattle.rs_global.specs.Spells.{SpellsProtocol, Fits}
 use Rattle.rs_global.specs.Feeding.{Fed, Reading, Answer, begin, expected, feed_at, feed_next, feed_sign, is_read, no_frames, behind_body, next_lexeme_of, read_all, answered, ReadsAs}
 use Rattle.rs_global.proofs.FaultRuns.{sign_behind, lexeme}

@@ -1,5 +1,5 @@
 -- What the tokens of a body lead the reader to: where the body fits to this state and no other, else to a fault.
-use Rattle.std.proofs.Common.{◌≡◌, ℕ, zero, suc, ◌+◌, ◌-◌, ◌<◌, ◌≤◌, List, [], ◌∷◌, ◌++◌, length, drop, map, codes, Bool, true, false, ◌&&◌, ◌||◌, if◌then◌else◌, nat_le, nat_lt, Option, Some, None, Result, Ok, Err, refl, sym, ap, ◌∙◌, subst, arith, append_assoc, append-nil, length-append, slice_get}
+use Rattle.std.proofs.Common.{◌≡◌, ℕ, suc, ◌+◌, List, [], ◌∷◌, ◌++◌, length, Bool, true, false, ◌&&◌, ◌||◌, if◌then◌else◌, nat_le, nat_lt, Option, Some, None, Ok, Err, refl, sym, ap, ◌∙◌, subst, arith, length-append, slice_get}
 use Rattle.std.proofs.lemmas.List.{length-set}
 use Rattle.std.proofs.lemmas.Option.{slice_get_read}
 use Rattle.std.proofs.lemmas.Bool.{le-ltb, lt-ltb, leb-true, leb-false}
@@ -10,24 +10,20 @@ use Rattle.rs_model.specs.declared.values.Sort.{Sort}
 use Rattle.rs_model.specs.declared.values.Sort.TheVariants as sort
 use Rattle.rs_text.specs.declared.faults.TextKind.{TextKind}
 use Rattle.rs_text.specs.declared.faults.TextKind.TheVariants as kind
-use Rattle.rs_text.specs.Lexemes.{Lexeme}
-use Rattle.rs_text.specs.Names.{place_of, is_among, grown, Bound, bound_to}
-use Rattle.rs_text.specs.Signs.{Sign, rec_word, end_word, plain, arrow, colon, dot, comma, open_brace, close_brace, open_paren, close_paren, word_sign}
-use Rattle.rs_text.proofs.Naming.{among, not_among, grown_append, grown_stays, place_of_new}
-use Rattle.rs_global.specs.declared.reading.Frame.{Frame}
+use Rattle.rs_text.specs.Names.{place_of, grown, Bound, bound_to}
+use Rattle.rs_text.specs.Signs.{Sign, dot, open_paren, close_paren}
+use Rattle.rs_text.proofs.Naming.{among, not_among, grown_stays, place_of_new}
 use Rattle.rs_global.specs.declared.reading.Link.{Link}
 use Rattle.rs_global.specs.declared.reading.Link.TheVariants as link
-use Rattle.rs_global.specs.declared.reading.Mode.{Mode}
 use Rattle.rs_global.specs.declared.reading.Mode.TheVariants as mode
 use Rattle.rs_global.specs.declared.drafts.DraftArm.{DraftArm}
 use Rattle.rs_global.specs.Data.{Reader_data, Draft_data}
 use Rattle.rs_global.specs.Drafts.{with_arm}
-use Rattle.rs_global.specs.Trees.{Body, ends, again, binds, talks, offers, Branches, one, more, sort_signs, arm_signs, body_signs, branch_signs, ends_by_name, ends_a_name}
-use Rattle.rs_global.specs.Graph.{labels_of, labels_of_arms, talks_in, talks_in_arms, has_end, has_end_arms, number_or, Numbering, sort_or_unit, role_of, label_of}
-use Rattle.rs_global.specs.Scenes.{Scene, with_label, in_talk, in_braces, in_rec, behind}
-use Rattle.rs_global.specs.Spells.{is_guarded, has_room_for, body_fits, arms_fit}
-use Rattle.rs_global.specs.Feeding.{Fed, fault, in_mode, linked, linked_root, linked_drafts, sent_by, named, feed_word, placed, met_by, opened, label_of_number, labelled_by, feed_sign}
-use Rattle.rs_global.proofs.FaultRuns.{sign_behind, lexeme, by_name, placed_length, label_fed, frame_at, restored_bound}
+use Rattle.rs_global.specs.Trees.{Body, ends, again, binds, talks, offers, Branches, one, more, sort_signs, arm_signs}
+use Rattle.rs_global.specs.Graph.{talks_in, number_or, Numbering, sort_or_unit, role_of, label_of}
+use Rattle.rs_global.specs.Spells.{has_room_for}
+use Rattle.rs_global.specs.Feeding.{Fed, fault, linked_drafts, label_of_number, labelled_by, feed_sign}
+use Rattle.rs_global.proofs.FaultRuns.{sign_behind, lexeme, label_fed}
 use Rattle.rs_global.proofs.FaultPlaces.{scene_of}
 
 -- the token is taken and leads to such a reader, or this holds

@@ -1,5 +1,5 @@
 -- What the tokens of a protocol lead the reader to: its names and its graph where it fits, else a fault.
-use Rattle.std.proofs.Common.{◌≡◌, ℕ, zero, suc, ◌+◌, ◌<◌, ◌≤◌, List, [], ◌∷◌, ◌++◌, length, map, codes, Bool, true, false, ◌&&◌, ◌||◌, if◌then◌else◌, nat_le, nat_lt, Option, Some, None, Result, Ok, Err, inl, inr, refl, sym, ap, ◌∙◌, subst, arith, append_assoc, append-nil, length-append}
+use Rattle.std.proofs.Common.{◌≡◌, ℕ, suc, ◌+◌, ◌<◌, ◌≤◌, List, [], ◌∷◌, ◌++◌, length, map, codes, Bool, true, false, ◌||◌, if◌then◌else◌, nat_le, Option, Some, Ok, inl, inr, refl, sym, ap, ◌∙◌, subst, arith, append_assoc, append-nil, length-append}
 use Rattle.std.specs.List.{flat_map}
 use Rattle.std.specs.Str.{bytes_eq}
 use Rattle.std.proofs.lemmas.Bool.{leb-true, leb-false}
@@ -17,12 +17,10 @@ use Rattle.rs_global.specs.declared.reading.Mode.TheVariants as mode
 use Rattle.rs_global.specs.Data.{Reader_data, Draft_data}
 use Rattle.rs_global.specs.Drafts.{settled, settled_arm, settled_target, protocol_of, names_read}
 use Rattle.rs_global.specs.Trees.{Body, ends, again, binds, talks, offers, Branches, one, more, ProtocolTree, body_signs, further_signs, protocol_signs, roles_of, ends_by_name, ends_a_name}
-use Rattle.rs_global.specs.Cuts.{line_signs}
-use Rattle.rs_global.specs.Graph.{labels_of, talks_in, has_end, Numbering, first_node, arm_of, arms_of, talk_of, role_of, nodes_of, nodes_of_arms, numbering, names_of, graph_of, finish_of}
-use Rattle.rs_global.specs.Spells.{body_fits, Fits}
-use Rattle.rs_global.specs.Scenes.{first_scene}
-use Rattle.rs_global.specs.Feeding.{Fed, fault, begin, new_role, is_read}
-use Rattle.rs_global.proofs.SpeltSteps.{Tells, Exact, tells_if, target, arms_to, arm_to, draft, drafts_of, drafts_in}
+use Rattle.rs_global.specs.Graph.{labels_of, talks_in, has_end, Numbering, first_node, arm_of, arms_of, talk_of, nodes_of, nodes_of_arms, numbering, names_of, graph_of, finish_of}
+use Rattle.rs_global.specs.Spells.{Fits}
+use Rattle.rs_global.specs.Feeding.{fault, begin, new_role, is_read}
+use Rattle.rs_global.proofs.SpeltSteps.{Tells, Exact, tells_if, target, arms_to, drafts_of, drafts_in}
 use Rattle.rs_global.proofs.SpeltBodies.{drafts_count, body_exact}
 
 -- ---- the graph
