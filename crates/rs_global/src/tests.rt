@@ -109,6 +109,14 @@ fn reads_or_faults(rt: HostRuntime) -> Result<(), Fail> {
         (b"roles A,", "1:9 role"),
         (b"roles A, A protocol end", "1:10 name twice"),
         (b"roles A, 4294967296", "1:10 number too large"),
+        (
+            b"roles A, nnnnnnnnnnnnnnnnnnnnnnnnnnnnnnnnnnnnnnnnnnnnnnnnnnnnnnnnnnnnnnnnn",
+            "1:10 name too long",
+        ),
+        (
+            b"roles A, B\nprotocol A->B:nnnnnnnnnnnnnnnnnnnnnnnnnnnnnnnnnnnnnnnnnnnnnnnnnnnnnnnnnnnnnnnnn(). end",
+            "2:15 name too long",
+        ),
         (b"roles A, B\n", "2:1 , or protocol"),
         (b"roles A, B\nprotocol ", "2:10 body"),
         (b"roles A, B\nprotocol A", "2:10 unbound name"),
