@@ -1,9 +1,9 @@
 -- What the first fault of a derivation says.
-use Rattle.std.proofs.Common.{◌≡◌, ◌≢◌, ◌⊎◌, ℕ, zero, suc, ◌+◌, ◌<◌, ◌≤◌, List, [], ◌∷◌, length, map, slice_get, Bool, true, false, cond, eqb, ltb, leb, ◌&&◌, Option, Some, None, inl, inr, ⊎_elim, sym, refl, ap, subst, ◌∙◌, arith, zero-add}
+use Rattle.std.proofs.Common.{◌≡◌, ◌⊎◌, ℕ, zero, suc, ◌+◌, ◌≤◌, List, [], ◌∷◌, length, map, slice_get, Bool, true, false, cond, eqb, ltb, leb, ◌&&◌, Option, Some, None, inl, inr, ⊎_elim, sym, refl, ap, subst, ◌∙◌, arith, zero-add}
 use Rattle.std.proofs.lemmas.Bool.{ltb-false, leb-true, leb-false, and_cases, and_parts, false≢true}
 use Rattle.std.proofs.lemmas.Option.{none-some, same_Some}
 use Rattle.rs_model.specs.Data.{Machine_data}
-use Rattle.rs_model.specs.Sorts.{serves, sort_number}
+use Rattle.rs_model.specs.Sorts.{serves}
 use Rattle.rs_model.specs.declared.graph.Arm.{Arm}
 use Rattle.rs_model.specs.declared.graph.Role.{Role}
 use Rattle.rs_model.specs.declared.machines.Act.{Act}
@@ -18,12 +18,12 @@ use Rattle.rs_prefix.specs.declared.earliest.Kind.TheVariants.{Send, Receive}
 use Rattle.rs_derive.proofs.Order.{in_order}
 use Rattle.rs_derive.proofs.Rows.{Is, complete, follow_picks, served, sound}
 use Rattle.rs_derive.proofs.Whole.{is_named, named_is, starts_right}
-use Rattle.rs_derive.specs.Checks.{derive_fault, edge_fault, judged, length_fault, move_fault, names, node_fault, nodes_fault, nexts_fault, or_later, starts, state_fault}
+use Rattle.rs_derive.specs.Checks.{edge_fault, judged, length_fault, move_fault, names, node_fault, nodes_fault, nexts_fault, or_later, starts, state_fault}
 use Rattle.rs_derive.specs.Data.{DNode_data, Derivation_data}
-use Rattle.rs_derive.specs.Derivations.{KeepsItsHead, spot_of}
-use Rattle.rs_derive.specs.Due.{Chosen, Due, all_serve, both_at, due, due_at, ends, follows, guesses, paid, pays_receive, pays_send, receives, receives_past, sends, sends_both, sends_past, served_by, serves_some, stops}
+use Rattle.rs_derive.specs.Derivations.{spot_of}
+use Rattle.rs_derive.specs.Due.{Chosen, Due, all_serve, both_at, due, due_at, ends, follows, guesses, paid, pays_receive, pays_send, receives, receives_past, sends, sends_both, sends_past, served_by, serves_some}
 use Rattle.rs_derive.specs.Faults.{Blames, Misnames, first_fault}
-use Rattle.rs_derive.specs.Moves.{HasMove, Spot, arm_of, owing_receive, owing_send, spot}
+use Rattle.rs_derive.specs.Moves.{Spot, arm_of, owing_receive, owing_send, spot}
 use Rattle.rs_derive.specs.declared.faults.DeriveFault.{DeriveFault}
 use Rattle.rs_derive.specs.declared.faults.DeriveFault.TheVariants.{BadStart, BadState, TooLongPending, NoMove, WrongNext, Forgets}
 

@@ -1,10 +1,10 @@
 -- The loops over arms and nexts, step by step.
-use Rattle.std.proofs.Common.{◌≡◌, ◌≢◌, ◌⊎◌, ℕ, zero, suc, ◌+◌, ◌<◌, ◌≤◌, List, [], ◌∷◌, length, map, drop, Bool, true, false, cond, eqb, get_or, min, Option, Some, None, slice_get, inl, inr, ⊎_elim, sym, refl, ap, subst, ◌∙◌, arith}
+use Rattle.std.proofs.Common.{◌≡◌, ◌≢◌, ◌⊎◌, ℕ, zero, suc, ◌+◌, ◌<◌, ◌≤◌, List, [], ◌∷◌, length, map, drop, Bool, true, false, cond, eqb, get_or, min, Option, Some, None, slice_get, inl, inr, ⊎_elim, sym, refl, ap, ◌∙◌, arith}
 use Rattle.std.proofs.Math.Nat.{min-le_left, min-le_right, min-eq_left, min-eq_right}
 use Rattle.std.proofs.lemmas.Bool.{cases_order, eqb-true, eq-eqb, false≢true}
-use Rattle.std.proofs.lemmas.Option.{none-some, same_Some, slice_get_within, slice_get-get_or}
+use Rattle.std.proofs.lemmas.Option.{none-some, same_Some, slice_get-get_or}
 use Rattle.rs_model.specs.declared.graph.Arm.{Arm}
-use Rattle.rs_derive.specs.Checks.{edge_at, edge_fault, or_later, nexts_fault, spare, counted}
+use Rattle.rs_derive.specs.Checks.{edge_at, edge_fault, or_later, nexts_fault, counted}
 use Rattle.rs_derive.specs.Data.{DNode_data}
 use Rattle.rs_derive.specs.Moves.{Spot}
 use Rattle.rs_derive.specs.declared.faults.DeriveFault.{DeriveFault}

@@ -1,5 +1,5 @@
 -- The fault that the code finds is that of the first test that isn't passed.
-use Rattle.std.proofs.Common.{◌≡◌, ℕ, ◌+◌, ◌≤◌, List, [], ◌∷◌, ◌++◌, length, map, Bool, true, false, not, cond, eqb, ltb, leb, ◌&&◌, ◌||◌, Option, Some, None, slice_get, ⊎_elim, sym, refl, ap, ◌∙◌, arith}
+use Rattle.std.proofs.Common.{◌≡◌, ℕ, ◌+◌, ◌≤◌, List, [], ◌∷◌, ◌++◌, length, map, Bool, true, false, not, cond, ltb, leb, ◌&&◌, ◌||◌, Option, Some, None, slice_get, ⊎_elim, sym, refl, ap, ◌∙◌}
 use Rattle.std.proofs.lemmas.Bool.{cases_lt, lt-ltb, le-ltb, le-leb, lt-leb, ne_eqb}
 use Rattle.std.proofs.lemmas.Option.{slice_get_within}
 use Rattle.rs_model.specs.Data.{Machine_data}
@@ -14,7 +14,7 @@ use Rattle.rs_derive.specs.Due.{Due, due, due_at, sends_past}
 use Rattle.rs_derive.specs.Faults.{Test, falls, first_failed, first_fault, is_named, move_tests, next_tests, node_tests, nodes_tests}
 use Rattle.rs_derive.specs.Moves.{Spot, owing_send}
 use Rattle.rs_derive.specs.declared.faults.DeriveFault.{DeriveFault}
-use Rattle.rs_derive.specs.declared.faults.DeriveFault.TheVariants.{BadStart, BadState, TooLongPending, NoMove, WrongNext, Forgets}
+use Rattle.rs_derive.specs.declared.faults.DeriveFault.TheVariants.{BadStart, BadState, TooLongPending, WrongNext, Forgets}
 
 test_or : (b : Bool) (x y : Option DeriveFault) (f : DeriveFault) → x ≡ y
     → cond b x (Some f) ≡ or_later (cond b None (Some f)) y

@@ -1,8 +1,7 @@
 -- The moves as they are computed are those of the table.
-use Rattle.std.proofs.Common.{◌≡◌, ◌≢◌, ◌⊎◌, ℕ, zero, suc, ◌<◌, ◌≤◌, List, [], ◌∷◌, ◌++◌, length, map, slice_get, Bool, true, false, cond, eqb, ltb, ◌&&◌, Option, Some, None, inl, inr, ⊎_elim, sym, refl, ap, subst, ◌∙◌, arith}
+use Rattle.std.proofs.Common.{◌≡◌, ℕ, zero, suc, List, [], ◌∷◌, length, map, slice_get, Bool, true, false, cond, eqb, ltb, ◌&&◌, Option, Some, None, sym, refl, ap, subst, ◌∙◌, arith}
 use Rattle.std.proofs.lemmas.Bool.{eqb-true, eqb-false, eq-eqb, lt-ltb, ne_eqb, and_parts, false≢true}
-use Rattle.std.proofs.lemmas.Option.{none-some, same_Some, slice_get_within}
-use Rattle.std.specs.List.{list_all}
+use Rattle.std.proofs.lemmas.Option.{none-some, same_Some}
 use Rattle.rs_model.specs.Data.{Machine_data}
 use Rattle.rs_model.specs.Sorts.{Serves, serves, sort_number}
 use Rattle.rs_model.specs.declared.graph.Arm.{Arm}
@@ -14,14 +13,14 @@ use Rattle.rs_model.specs.declared.machines.State.{State}
 use Rattle.rs_model.specs.declared.machines.State.TheVariants.{Done, Puts, Takes}
 use Rattle.rs_model.specs.declared.values.Sort.{Sort}
 use Rattle.rs_prefix.proofs.Right.{is, is_right}
-use Rattle.rs_prefix.specs.Earliest.{Finds, IsAbsent, IsFound, has, without}
+use Rattle.rs_prefix.specs.Earliest.{Finds, IsAbsent, IsFound, has}
 use Rattle.rs_prefix.specs.Search.{earliest}
 use Rattle.rs_prefix.specs.declared.earliest.Found.{Found}
 use Rattle.rs_prefix.specs.declared.earliest.Found.TheVariants.{At, Blocked, Absent}
 use Rattle.rs_prefix.specs.declared.earliest.Kind.TheVariants.{Send, Receive}
 use Rattle.rs_derive.proofs.Acts.{label_is, role_is, sort_is}
 use Rattle.rs_derive.specs.Derivations.{KeepsItsHead}
-use Rattle.rs_derive.specs.Due.{Chosen, Due, all_serve, both_at, due, due_at, ends, follows, guesses, paid, pays_receive, pays_send, receives, receives_past, sends, sends_both, sends_past, served_by, serves_some, stops}
+use Rattle.rs_derive.specs.Due.{Chosen, Due, all_serve, both_at, due, due_at, ends, guesses, paid, pays_receive, pays_send, receives, receives_past, sends, sends_both, sends_past, served_by, serves_some, stops}
 use Rattle.rs_derive.specs.Moves.{Both, HasMove, Stops, PaysSend, SendsBoth, Guesses, SendsAhead, PaysReceive, ReceivesAhead, Spot, arm_of, owing_receive, owing_send, spot}
 
 -- one of the spots that are due, for each next

@@ -1,19 +1,18 @@
 -- A derivation has no fault exactly where it is one and forgets nothing.
-use Rattle.std.proofs.Common.{◌≡◌, ◌≢◌, ◌⊎◌, ℕ, zero, suc, ◌+◌, ◌<◌, ◌≤◌, List, [], ◌∷◌, length, slice_get, Bool, true, false, cond, eqb, ltb, leb, ◌&&◌, ◌||◌, Option, Some, None, inl, inr, ⊎_elim, sym, refl, ap, subst, ◌∙◌, arith}
+use Rattle.std.proofs.Common.{◌≡◌, ℕ, zero, suc, ◌+◌, ◌<◌, List, [], ◌∷◌, length, slice_get, Bool, true, false, cond, eqb, ltb, leb, ◌&&◌, ◌||◌, Option, Some, None, ⊎_elim, sym, refl, ap, subst, ◌∙◌, arith}
 use Rattle.std.proofs.lemmas.Bool.{eqb-true, eq-eqb, ltb-true, leb-true, leb-false, lt-ltb, lt-leb, le-leb, and_parts, or_cases, false≢true}
 use Rattle.std.proofs.lemmas.Option.{none-some, same_Some}
-use Rattle.std.specs.List.{list_any}
 use Rattle.rs_model.specs.Data.{Machine_data}
 use Rattle.rs_model.specs.declared.machines.Act.{Act}
 use Rattle.rs_derive.proofs.Acts.{acts_are, acts_same}
 use Rattle.rs_derive.proofs.Order.{in_order}
-use Rattle.rs_derive.proofs.Rows.{Agrees, Is, Sounds, Turned, complete, sound}
-use Rattle.rs_derive.specs.Checks.{derive_fault, edge_fault, judged, length_fault, move_fault, names, node_fault, nodes_fault, nexts_fault, or_later, same_acts, same_spot, spare, starts, state_fault}
+use Rattle.rs_derive.proofs.Rows.{Is, complete, sound}
+use Rattle.rs_derive.specs.Checks.{derive_fault, edge_fault, judged, length_fault, move_fault, names, node_fault, nodes_fault, nexts_fault, or_later, same_acts, same_spot, starts, state_fault}
 use Rattle.rs_derive.specs.Data.{DNode_data, Derivation_data}
-use Rattle.rs_derive.specs.Derivations.{IsDerivation, KeepsItsHead, Names, NodeFits, Remembers, spot_of}
+use Rattle.rs_derive.specs.Derivations.{IsDerivation, Names, NodeFits, Remembers, spot_of}
 use Rattle.rs_derive.specs.Due.{Chosen, Due, due}
 use Rattle.rs_derive.specs.Faults.{first_fault}
-use Rattle.rs_derive.specs.Moves.{HasMove, Spot, spot}
+use Rattle.rs_derive.specs.Moves.{Spot, spot}
 use Rattle.rs_derive.specs.declared.faults.DeriveFault.{DeriveFault}
 use Rattle.rs_derive.specs.declared.faults.DeriveFault.TheVariants.{BadStart, BadState, TooLongPending, NoMove, WrongNext, Forgets}
 

@@ -1,4 +1,4 @@
-use Rattle.std.proofs.Common.{rules, ◌≡◌, ◌∙◌, ltb, length}
+use Rattle.std.proofs.Common.{rules, ◌∙◌}
 use Rattle.rs_derive.proofs.Order.{guess_row}
 use Rattle.rs_derive.proofs.checks.send_past_fault.Goals as goal
 

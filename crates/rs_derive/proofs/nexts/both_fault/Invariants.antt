@@ -1,4 +1,4 @@
-use Rattle.std.proofs.Common.{◌≡◌, [], ◌∷◌, drop, map}
+use Rattle.std.proofs.Common.{◌≡◌, drop, map}
 use Rattle.rs_derive.proofs.Few.{AreLabels}
 use Rattle.rs_derive.specs.Checks.{nexts_fault}
 use Rattle.rs_derive.specs.Due.{both_at}
