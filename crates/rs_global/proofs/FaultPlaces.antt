@@ -8,22 +8,24 @@ use Rattle.rs_text.specs.declared.faults.TextKind.{TextKind}
 use Rattle.rs_text.specs.declared.faults.TextKind.TheVariants as kind
 use Rattle.rs_text.specs.Names.{place_of, is_among, grown, Bound, bound_to}
 use Rattle.rs_text.specs.Signs.{Sign, rec_word, end_word, plain, arrow, colon, dot, comma, open_brace, close_brace, open_paren, close_paren, finish}
+use Rattle.rs_text.specs.Arms.{sort_text, sort_signs, arm_signs, ArmCut, at_label, behind_label, behind_paren, behind_sort, behind_head, arm_cut_signs, wanted_in_arm}
+use Rattle.rs_text.specs.Seen.{sort_named}
 use Rattle.rs_global.specs.declared.reading.Frame.{Frame}
 use Rattle.rs_global.specs.declared.reading.Link.{Link}
 use Rattle.rs_global.specs.declared.reading.Link.TheVariants as link
 use Rattle.rs_global.specs.declared.reading.Mode.{Mode}
 use Rattle.rs_global.specs.declared.reading.Mode.TheVariants as mode
 use Rattle.rs_global.specs.Data.{Reader_data}
-use Rattle.rs_global.specs.Trees.{sort_text, sort_signs, arm_signs, body_signs, branch_signs, ends_a_name}
+use Rattle.rs_global.specs.Trees.{body_signs, branch_signs, ends_a_name}
 use Rattle.rs_global.specs.Graph.{talks_in}
 use Rattle.rs_global.specs.Feeding.{Fed, fault, in_mode, sent_by, feed_word, placed, opened, feed_sign}
 use Rattle.std.specs.List.{flat_map}
 use Rattle.rs_text.specs.declared.faults.Wanted.{Wanted}
 use Rattle.rs_text.specs.declared.faults.Wanted.TheVariants as wanted
 use Rattle.rs_global.specs.Trees.{ProtocolTree, protocol_signs, further_signs, roles_of}
-use Rattle.rs_global.specs.Cuts.{ArmCut, at_label, behind_label, behind_paren, behind_sort, behind_head, Cut, at_body, behind_end, behind_name, behind_rec, behind_rec_name, in_binds, behind_arrow, behind_receiver, in_arm, in_talks, in_offers, behind_brace, BranchCut, in_head, in_branch, later, ProtocolCut, at_begin, at_first, behind_first, at_further, behind_further, in_body, arm_cut_signs, cut_signs, branch_cut_signs, line_signs, protocol_cut_signs, wanted_in_arm, wanted_at, wanted_in, wanted_of}
+use Rattle.rs_global.specs.Cuts.{Cut, at_body, behind_end, behind_name, behind_rec, behind_rec_name, in_binds, behind_arrow, behind_receiver, in_arm, in_talks, in_offers, behind_brace, BranchCut, in_head, in_branch, later, ProtocolCut, at_begin, at_first, behind_first, at_further, behind_further, in_body, cut_signs, branch_cut_signs, line_signs, protocol_cut_signs, wanted_at, wanted_in, wanted_of}
 use Rattle.rs_global.specs.Scenes.{Scene, with_label, in_talk, behind, scene_at, scene_in, fault_by, fault_in_line, fault_of}
-use Rattle.rs_global.specs.Feeding.{begin, sort_named, sorted_by, new_role}
+use Rattle.rs_global.specs.Feeding.{begin, sorted_by, new_role}
 use Rattle.rs_global.proofs.FaultRuns.{Lands, sign_behind, lexeme, Leads, lands_if, sent_lands, met_lands, Follower, an_arrow, a_broken, a_name, follower, by_name, faulty_calm, named_lands, placed_length, label_lands, arm_passes, frame_at, restored_bound, passes, branches_pass}
 
 -- what a mode wants

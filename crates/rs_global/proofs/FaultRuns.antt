@@ -17,6 +17,7 @@ use Rattle.rs_text.specs.Lexemes.{Lexeme}
 use Rattle.rs_text.specs.Names.{place_of, grown, Bound, bound_to}
 use Rattle.rs_text.specs.Signs.{Sign, rec_word, end_word, plain, arrow, colon, dot, comma, open_brace, close_brace, open_paren, close_paren, broken, word_sign}
 use Rattle.rs_text.proofs.Naming.{among, not_among, grown_append}
+use Rattle.rs_text.specs.Arms.{sort_signs, arm_signs}
 use Rattle.rs_global.specs.declared.reading.Frame.{Frame}
 use Rattle.rs_global.specs.declared.reading.Link.{Link}
 use Rattle.rs_global.specs.declared.reading.Link.TheVariants as link
@@ -24,7 +25,7 @@ use Rattle.rs_global.specs.declared.reading.Mode.TheVariants as mode
 use Rattle.rs_global.specs.declared.drafts.DraftArm.{DraftArm}
 use Rattle.rs_global.specs.Data.{Reader_data, Draft_data}
 use Rattle.rs_global.specs.Drafts.{with_arm}
-use Rattle.rs_global.specs.Trees.{Body, ends, again, binds, talks, offers, Branches, one, more, sort_signs, arm_signs, body_signs, branch_signs, ends_a_name}
+use Rattle.rs_global.specs.Trees.{Body, ends, again, binds, talks, offers, Branches, one, more, body_signs, branch_signs, ends_a_name}
 use Rattle.rs_global.specs.Graph.{labels_of, labels_of_arms, talks_in, talks_in_arms}
 use Rattle.rs_global.specs.Feeding.{Fed, fault, in_mode, linked, linked_root, linked_drafts, sent_by, named, feed_word, placed, met_by, opened, label_of_number, labelled_by, feed_sign}
 

@@ -15,6 +15,7 @@ use Rattle.rs_text.specs.Lexemes.{Lexeme}
 use Rattle.rs_text.specs.Names.{place_of, is_among, bound_to}
 use Rattle.rs_text.specs.Signs.{Sign, rec_word, end_word, plain, arrow, colon, dot, comma, open_brace, close_brace, open_paren, close_paren, broken}
 use Rattle.rs_text.proofs.Naming.{among, not_among}
+use Rattle.rs_text.specs.Seen.{sort_named}
 use Rattle.rs_global.specs.declared.reading.Frame.{Frame}
 use Rattle.rs_global.specs.declared.reading.Link.{Link}
 use Rattle.rs_global.specs.declared.reading.Mode.{Mode}
@@ -23,7 +24,7 @@ use Rattle.rs_global.specs.Data.{Reader_data}
 use Rattle.rs_global.specs.Trees.{ends_a_name}
 use Rattle.rs_global.specs.Faults.{IsWhole}
 use Rattle.rs_global.specs.Scenes.{Scene, fault_of_name, fault_of_word, fault_of_sender}
-use Rattle.rs_global.specs.Feeding.{Fed, fault, expected, in_mode, linked, sort_named, new_role, sent_by, named, feed_word, feed_body, placed, met_by, feed_mark, opened, label_of_number, labelled_by, sorted_by, feed_sort, feed_next, feed_line, feed_roles, feed_at, feed_sign}
+use Rattle.rs_global.specs.Feeding.{Fed, fault, expected, in_mode, linked, new_role, sent_by, named, feed_word, feed_body, placed, met_by, feed_mark, opened, label_of_number, labelled_by, sorted_by, feed_sort, feed_next, feed_line, feed_roles, feed_at, feed_sign}
 use Rattle.rs_global.proofs.FaultRuns.{NotExpected, Follower, an_arrow, a_broken, a_name, follower, by_name}
 use Rattle.rs_global.proofs.FaultPlaces.{wanted_behind, wanted_by, scene_of, fault_seen, NamedBy}
 use Rattle.rs_global.proofs.FaultCuts.{takes}

@@ -13,13 +13,13 @@ use Rattle.rs_text.specs.Tokens.{IsNext}
 use Rattle.rs_text.specs.Words.{is_role_word}
 use Rattle.rs_text.proofs.Gaps.{true_or_false}
 use Rattle.rs_text.proofs.Nexts.{next_is_next, plain_law, exists, are_lexed}
+use Rattle.rs_text.specs.Arms.{arm_signs, wanted_in_arm, ArmCut, at_label, behind_label, behind_paren, behind_sort, behind_head}
 use Rattle.rs_global.specs.declared.reading.Frame.{Frame}
 use Rattle.rs_global.specs.declared.reading.Mode.{Mode}
 use Rattle.rs_global.specs.declared.reading.Mode.TheVariants as mode
 use Rattle.rs_global.specs.Data.{Reader_data}
-use Rattle.rs_global.specs.Trees.{protocol_signs, arm_signs, body_signs}
-use Rattle.rs_global.specs.Cuts.{Cut, at_body, behind_end, behind_name, behind_rec, behind_rec_name, in_binds, behind_arrow, behind_receiver, in_arm, in_talks, in_offers, behind_brace, BranchCut, in_head, in_branch, later, ProtocolCut, at_begin, at_first, behind_first, at_further, behind_further, in_body, cut_signs, branch_cut_signs, line_signs, protocol_cut_signs, wanted_in_arm, wanted_at, wanted_in, wanted_of, IsBehind}
-use Rattle.rs_global.specs.Cuts.{ArmCut, at_label, behind_label, behind_paren, behind_sort, behind_head}
+use Rattle.rs_global.specs.Trees.{protocol_signs, body_signs}
+use Rattle.rs_global.specs.Cuts.{Cut, at_body, behind_end, behind_name, behind_rec, behind_rec_name, in_binds, behind_arrow, behind_receiver, in_arm, in_talks, in_offers, behind_brace, BranchCut, in_head, in_branch, later, ProtocolCut, at_begin, at_first, behind_first, at_further, behind_further, in_body, cut_signs, branch_cut_signs, line_signs, protocol_cut_signs, wanted_at, wanted_in, wanted_of, IsBehind}
 use Rattle.rs_global.specs.Scenes.{Scene, fault_by, fault_of}
 use Rattle.rs_global.specs.Faults.{Begins, IsWhole, IsWithin, EndsByName, IsInReach, FaultAt, next_of, AllClear, FirstFault}
 use Rattle.rs_global.specs.Feeding.{Fed, Reading, begin, feed_at, feed_next, feed_sign, is_read, no_frames, behind_body, read_all, answered, ReadsAs}

@@ -12,6 +12,7 @@ use Rattle.rs_text.specs.Lexemes.{Lexeme, signs_of}
 use Rattle.rs_text.specs.Names.{place_of, is_among, grown, Bound, bound_to}
 use Rattle.rs_text.specs.Signs.{Sign, plain, arrow, colon, dot, comma, open_brace, close_brace, open_paren, close_paren, word_sign}
 use Rattle.rs_text.proofs.Naming.{among, not_among, grown_append}
+use Rattle.rs_text.specs.Arms.{sort_signs, arm_signs}
 use Rattle.rs_global.specs.declared.reading.Frame.{Frame}
 use Rattle.rs_global.specs.declared.reading.Link.{Link}
 use Rattle.rs_global.specs.declared.reading.Link.TheVariants as link
@@ -20,7 +21,7 @@ use Rattle.rs_global.specs.declared.reading.Mode.TheVariants as mode
 use Rattle.rs_global.specs.Data.{Reader_data}
 use Rattle.rs_global.specs.Drafts.{names_read, protocol_of}
 use Rattle.rs_model.specs.Data.{Names_data, Protocol_data}
-use Rattle.rs_global.specs.Trees.{ProtocolTree, protocol_signs, roles_of, further_signs, ends_by_name, Body, ends, again, binds, talks, offers, Branches, one, more, sort_signs, arm_signs, body_signs, branch_signs, ends_a_name}
+use Rattle.rs_global.specs.Trees.{ProtocolTree, protocol_signs, roles_of, further_signs, ends_by_name, Body, ends, again, binds, talks, offers, Branches, one, more, body_signs, branch_signs, ends_a_name}
 use Rattle.rs_global.specs.Graph.{labels_of, labels_of_arms, talks_in, talks_in_arms}
 use Rattle.rs_global.specs.Feeding.{begin, feed_at, feed_next, new_role, is_read, read_all, answered, Answer, Reading, ReadsAs, next_lexeme_of, Fed, fault, in_mode, linked, linked_root, linked_drafts, sent_by, named, feed_word, placed, met_by, opened, label_of_number, labelled_by, feed_sign}
 use Rattle.std.proofs.Common.{◌&&◌, ◌||◌, ◌≤◌, inl, inr}

@@ -1,4 +1,3 @@
-pub mod Numbers
 pub mod Bindings
 pub mod Standing
 pub mod FaultRuns

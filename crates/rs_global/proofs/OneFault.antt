@@ -9,13 +9,13 @@ use Rattle.rs_text.specs.Lexemes.{Lexeme, Lexed, signs_of, is_last}
 use Rattle.rs_text.specs.Signs.{Sign, rec_word, end_word, plain, open_brace, broken, finish}
 use Rattle.rs_text.proofs.Gaps.{true_or_false}
 use Rattle.rs_text.proofs.Nexts.{one_list}
+use Rattle.rs_text.specs.Arms.{wanted_in_arm, ArmCut, at_label, behind_label, behind_paren, behind_sort, behind_head}
 use Rattle.rs_global.specs.declared.reading.Frame.{Frame}
 use Rattle.rs_global.specs.declared.reading.Mode.{Mode}
 use Rattle.rs_global.specs.declared.reading.Mode.TheVariants as mode
 use Rattle.rs_global.specs.Data.{Reader_data}
 use Rattle.rs_global.specs.Trees.{ends_a_name}
-use Rattle.rs_global.specs.Cuts.{Cut, at_body, behind_end, behind_name, behind_rec, behind_rec_name, in_binds, behind_arrow, behind_receiver, in_arm, in_talks, in_offers, behind_brace, BranchCut, in_head, in_branch, later, ProtocolCut, at_begin, at_first, behind_first, at_further, behind_further, in_body, wanted_in_arm, wanted_at, wanted_in, wanted_of, IsBehind}
-use Rattle.rs_global.specs.Cuts.{ArmCut, at_label, behind_label, behind_paren, behind_sort, behind_head}
+use Rattle.rs_global.specs.Cuts.{Cut, at_body, behind_end, behind_name, behind_rec, behind_rec_name, in_binds, behind_arrow, behind_receiver, in_arm, in_talks, in_offers, behind_brace, BranchCut, in_head, in_branch, later, ProtocolCut, at_begin, at_first, behind_first, at_further, behind_further, in_body, wanted_at, wanted_in, wanted_of, IsBehind}
 use Rattle.rs_text.specs.Names.{is_among, bound_to}
 use Rattle.std.proofs.Common.{nat_le, nat_lt}
 use Rattle.rs_global.specs.Scenes.{Scene, fault_by, fault_of, fault_of_name, fault_of_word, fault_of_label, fault_in_line}

@@ -12,6 +12,7 @@ use Rattle.rs_text.specs.Signs.{Sign, rec_word, end_word, plain, arrow, colon, d
 use Rattle.rs_text.specs.Tokens.{IsWithin}
 use Rattle.rs_text.proofs.Gaps.{true_or_false}
 use Rattle.rs_text.proofs.Nexts.{next_is_next, within}
+use Rattle.rs_text.specs.Seen.{sort_named, plain_text, word_text, is_text}
 use Rattle.rs_global.specs.declared.reading.Frame.{Frame}
 use Rattle.rs_global.specs.declared.reading.Link.{Link}
 use Rattle.rs_global.specs.declared.reading.Link.TheVariants as link
@@ -20,7 +21,7 @@ use Rattle.rs_global.specs.declared.reading.Mode.TheVariants as mode
 use Rattle.rs_global.specs.declared.reading.Stop.{Stop}
 use Rattle.rs_global.specs.declared.reading.Stop.TheVariants as stops
 use Rattle.rs_global.specs.Data.{Reader_data}
-use Rattle.rs_global.specs.Feeding.{Fed, Reading, Reads, StopsAs, told, begin, in_mode, linked, placed, opened, feed_at, feed_sign, new_role, feed_line, feed_word, feed_body, sent_by, named, feed_next, feed_receiver, met_by, feed_label, labelled_by, sorted_by, sort_named, plain_text, word_text, is_text, is_read, next_lexeme_of, read_all}
+use Rattle.rs_global.specs.Feeding.{Fed, Reading, Reads, StopsAs, told, begin, in_mode, linked, placed, opened, feed_at, feed_sign, new_role, feed_line, feed_word, feed_body, sent_by, named, feed_next, feed_receiver, met_by, feed_label, labelled_by, sorted_by, is_read, next_lexeme_of, read_all}
 use Rattle.rs_global.proofs.Answers.{tokens}
 
 -- the fault stands at an offset of at most n

@@ -15,6 +15,7 @@ use Rattle.rs_text.specs.Words.{is_word, is_role_word}
 use Rattle.rs_text.proofs.Gaps.{true_or_false}
 use Rattle.rs_text.proofs.Naming.{grown_differ, grown_all, not_among, decides_sound}
 use Rattle.rs_text.proofs.Nexts.{next_is_next, plain_law}
+use Rattle.rs_text.specs.Seen.{sort_named, plain_text, word_text, is_text}
 use Rattle.rs_global.specs.declared.reading.Frame.{Frame}
 use Rattle.rs_global.specs.declared.reading.Link.{Link}
 use Rattle.rs_global.specs.declared.reading.Mode.{Mode}
@@ -22,7 +23,7 @@ use Rattle.rs_global.specs.declared.reading.Mode.TheVariants as mode
 use Rattle.rs_model.specs.Data.{Names_data}
 use Rattle.rs_global.specs.Drafts.{names_read, protocol_of}
 use Rattle.rs_global.specs.Data.{Reader_data}
-use Rattle.rs_global.specs.Feeding.{Fed, Reading, Answer, Reads, ReadsAs, answered, begin, in_mode, linked, feed_at, feed_sign, new_role, feed_line, feed_word, feed_body, sent_by, named, feed_next, feed_receiver, met_by, feed_label, labelled_by, sorted_by, sort_named, plain_text, word_text, is_text, is_read, next_lexeme_of, read_all}
+use Rattle.rs_global.specs.Feeding.{Fed, Reading, Answer, Reads, ReadsAs, answered, begin, in_mode, linked, feed_at, feed_sign, new_role, feed_line, feed_word, feed_body, sent_by, named, feed_next, feed_receiver, met_by, feed_label, labelled_by, sorted_by, is_read, next_lexeme_of, read_all}
 use Rattle.rs_global.proofs.Answers.{tokens}
 
 -- names that texts can have, as many as there may be

@@ -2,9 +2,10 @@
 use Rattle.std.proofs.Common.{◌≡◌, ℕ, suc, ◌+◌, ◌-◌, List, [], ◌∷◌, ◌++◌, length, drop, Bool, true, false, ◌&&◌, ◌||◌, if◌then◌else◌, nat_le, nat_lt, Option, Some, None, Ok, refl, sym, ap, ◌∙◌, subst, append_assoc, append-nil, length-append, slice_get}
 use Rattle.rs_model.specs.declared.graph.Role.{Role}
 use Rattle.rs_text.specs.declared.faults.TextKind.TheVariants as kind
-use Rattle.rs_text.specs.Names.{place_of, is_among, grown, Bound, bound_to}
+use Rattle.rs_text.specs.Names.{place_of, is_among, grown, Bound, bound_to, number_or}
 use Rattle.rs_text.specs.Signs.{Sign, plain, arrow, colon, dot, comma, open_brace, close_brace}
 use Rattle.rs_text.proofs.Naming.{among, not_among, grown_append}
+use Rattle.rs_text.specs.Arms.{arm_signs, sort_or_unit}
 use Rattle.rs_global.specs.declared.reading.Frame.{Frame}
 use Rattle.rs_global.specs.declared.reading.Link.{Link}
 use Rattle.rs_global.specs.declared.reading.Link.TheVariants as link
@@ -12,8 +13,8 @@ use Rattle.rs_global.specs.declared.reading.Mode.TheVariants as mode
 use Rattle.rs_global.specs.declared.drafts.DraftArm.{DraftArm}
 use Rattle.rs_global.specs.Data.{Reader_data, Draft_data}
 use Rattle.rs_global.specs.Drafts.{with_arm}
-use Rattle.rs_global.specs.Trees.{Body, ends, again, binds, talks, offers, Branches, one, more, arm_signs, body_signs, branch_signs, ends_by_name, ends_a_name}
-use Rattle.rs_global.specs.Graph.{labels_of, labels_of_arms, talks_in, talks_in_arms, has_end, has_end_arms, number_or, Numbering, sort_or_unit, role_of, label_of}
+use Rattle.rs_global.specs.Trees.{Body, ends, again, binds, talks, offers, Branches, one, more, body_signs, branch_signs, ends_by_name, ends_a_name}
+use Rattle.rs_global.specs.Graph.{labels_of, labels_of_arms, talks_in, talks_in_arms, has_end, has_end_arms, Numbering, role_of, label_of}
 use Rattle.rs_global.specs.Scenes.{Scene, with_label, in_talk, in_braces, in_rec, behind}
 use Rattle.rs_global.specs.Spells.{is_guarded, has_room_for, body_fits, arms_fit}
 use Rattle.rs_global.specs.Feeding.{Fed, fault, in_mode, linked, linked_root, linked_drafts, sent_by, named, placed, met_by, opened}

@@ -10,17 +10,18 @@ use Rattle.rs_model.specs.declared.values.Sort.{Sort}
 use Rattle.rs_model.specs.declared.values.Sort.TheVariants as sort
 use Rattle.rs_text.specs.declared.faults.TextKind.{TextKind}
 use Rattle.rs_text.specs.declared.faults.TextKind.TheVariants as kind
-use Rattle.rs_text.specs.Names.{place_of, grown, Bound, bound_to}
+use Rattle.rs_text.specs.Names.{place_of, grown, Bound, bound_to, number_or}
 use Rattle.rs_text.specs.Signs.{Sign, dot, open_paren, close_paren}
 use Rattle.rs_text.proofs.Naming.{among, not_among, grown_stays, place_of_new}
+use Rattle.rs_text.specs.Arms.{sort_signs, arm_signs, sort_or_unit}
 use Rattle.rs_global.specs.declared.reading.Link.{Link}
 use Rattle.rs_global.specs.declared.reading.Link.TheVariants as link
 use Rattle.rs_global.specs.declared.reading.Mode.TheVariants as mode
 use Rattle.rs_global.specs.declared.drafts.DraftArm.{DraftArm}
 use Rattle.rs_global.specs.Data.{Reader_data, Draft_data}
 use Rattle.rs_global.specs.Drafts.{with_arm}
-use Rattle.rs_global.specs.Trees.{Body, ends, again, binds, talks, offers, Branches, one, more, sort_signs, arm_signs}
-use Rattle.rs_global.specs.Graph.{talks_in, number_or, Numbering, sort_or_unit, role_of, label_of}
+use Rattle.rs_global.specs.Trees.{Body, ends, again, binds, talks, offers, Branches, one, more}
+use Rattle.rs_global.specs.Graph.{talks_in, Numbering, role_of, label_of}
 use Rattle.rs_global.specs.Spells.{has_room_for}
 use Rattle.rs_global.specs.Feeding.{Fed, fault, linked_drafts, label_of_number, labelled_by, feed_sign}
 use Rattle.rs_global.proofs.FaultRuns.{sign_behind, lexeme, label_fed}

@@ -5,15 +5,8 @@ use Rattle.rs_model.specs.declared.values.Sort.{Sort}
 use Rattle.rs_text.specs.Signs.{Sign, rec_word, end_word, plain, arrow, colon, dot, comma, open_brace, close_brace, open_paren, close_paren, word_sign}
 use Rattle.rs_text.specs.declared.faults.Wanted.{Wanted}
 use Rattle.rs_text.specs.declared.faults.Wanted.TheVariants as wanted
-use Rattle.rs_global.specs.Trees.{Body, Branches, sort_text, sort_signs, arm_signs, body_signs, branch_signs, further_signs}
-
--- an arm as far as its body, cut off at a place
-pub data ArmCut : Type 0 where
-  at_label : ArmCut
-  behind_label : (label : List ℕ) → ArmCut
-  behind_paren : (label : List ℕ) → ArmCut
-  behind_sort : (label : List ℕ) → (sort : Sort) → ArmCut
-  behind_head : (label : List ℕ) → (sort : Option Sort) → ArmCut
+use Rattle.rs_text.specs.Arms.{sort_text, sort_signs, arm_signs}
+use Rattle.rs_global.specs.Trees.{Body, Branches, body_signs, branch_signs, further_signs}
 
 -- a body cut off at a place: a tree of the grammar with what stands before the place
 mutual
@@ -44,14 +37,6 @@ pub data ProtocolCut : Type 0 where
   at_further : (first : List ℕ) → (further : List (List ℕ)) → ProtocolCut
   behind_further : (first second : List ℕ) → (further : List (List ℕ)) → ProtocolCut
   in_body : (first second : List ℕ) → (further : List (List ℕ)) → (body : Cut) → ProtocolCut
-
--- the tokens before the place
-abbrev pub arm_cut_signs : ArmCut → List Sign
-arm_cut_signs at_label = []
-arm_cut_signs (behind_label l) = word_sign l ∷ []
-arm_cut_signs (behind_paren l) = word_sign l ∷ open_paren ∷ []
-arm_cut_signs (behind_sort l s) = word_sign l ∷ open_paren ∷ plain (sort_text s) ∷ []
-arm_cut_signs (behind_head l s) = word_sign l ∷ open_paren ∷ (sort_signs s ++ close_paren ∷ [])
 
 abbrev mutual
   pub cut_signs : Cut → List Sign
@@ -84,14 +69,6 @@ protocol_cut_signs (behind_first x) = plain (codes "roles") ∷ plain x ∷ []
 protocol_cut_signs (at_further x xs) = line_signs x xs ++ comma ∷ []
 protocol_cut_signs (behind_further x y xs) = line_signs x (y ∷ xs)
 protocol_cut_signs (in_body x y xs body) = line_signs x (y ∷ xs) ++ plain (codes "protocol") ∷ cut_signs body
-
--- what is wanted at a place
-abbrev pub wanted_in_arm : ArmCut → Wanted
-wanted_in_arm at_label = wanted.Label
-wanted_in_arm (behind_label l) = wanted.OpenParen
-wanted_in_arm (behind_paren l) = wanted.SortOrCloseParen
-wanted_in_arm (behind_sort l s) = wanted.CloseParen
-wanted_in_arm (behind_head l s) = wanted.Dot
 
 -- `behind` is what is wanted behind the body
 abbrev mutual

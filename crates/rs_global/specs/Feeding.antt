@@ -40,31 +40,6 @@ expected w at = fault (kind.Expected w) at
 abbrev pub in_mode : Mode → Reader_data → Fed
 in_mode m r = Ok (record r { mode = m })
 
--- words
-abbrev pub plain_text : Sign → Option (List ℕ)
-plain_text (plain text) = Some text
-plain_text _ = None
-
-abbrev pub word_text : Sign → Option (List ℕ)
-word_text rec_word = Some (codes "rec")
-word_text end_word = Some (codes "end")
-word_text (plain text) = Some text
-word_text _ = None
-
-abbrev pub is_text : List ℕ → Option (List ℕ) → Bool
-is_text name None = false
-is_text name (Some text) = bytes_eq text name
-
-abbrev pub sort_named : List ℕ → Option Sort
-sort_named text =
-    if bytes_eq text (codes "unit") then Some sort.Unit
-    else if bytes_eq text (codes "bool") then Some sort.Flag
-    else if bytes_eq text (codes "nat") then Some sort.Natural
-    else if bytes_eq text (codes "int") then Some sort.Whole
-    else if bytes_eq text (codes "bytes") then Some sort.Octets
-    else if bytes_eq text (codes "list") then Some sort.Numbers
-    else None
-
 -- what the body that begins here leads to
 abbrev pub linked_root : Link → Option ℕ → Option ℕ → Option ℕ
 linked_root link.Root target root = target

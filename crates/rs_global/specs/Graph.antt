@@ -54,10 +54,6 @@ abbrev mutual
 abbrev pub names_of : ProtocolTree → Names_data
 names_of t = record { roles = roles_of t; labels = grown [] (labels_of t.body) }
 
-abbrev pub number_or : Option ℕ → ℕ
-number_or None = 0
-number_or (Some n) = n
-
 -- the first node of a body with `count` talks before it, `bound` the recursion names round it, each with the number of
 -- the first talk of its body, and `last` the number of the end, which stands behind all talks
 abbrev pub first_node : Body → Bound → (count last : ℕ) → ℕ
@@ -71,10 +67,6 @@ first_node (offers s r arms) bound count last = count
 pub record Numbering : Type 0 where
   pub names : Names_data
   pub last : ℕ
-
-abbrev pub sort_or_unit : Option Sort → Sort
-sort_or_unit None = sort.Unit
-sort_or_unit (Some s) = s
 
 abbrev pub role_of : Numbering → List ℕ → Role
 role_of n name = record { 0 = number_or (place_of name n.names.roles) }

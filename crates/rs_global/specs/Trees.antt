@@ -25,22 +25,6 @@ pub record ProtocolTree : Type 0 where
   pub further : List (List ℕ)
   pub body : Body
 
-abbrev pub sort_text : Sort → List ℕ
-sort_text sort.Unit = codes "unit"
-sort_text sort.Flag = codes "bool"
-sort_text sort.Natural = codes "nat"
-sort_text sort.Whole = codes "int"
-sort_text sort.Octets = codes "bytes"
-sort_text sort.Numbers = codes "list"
-
-abbrev pub sort_signs : Option Sort → List Sign
-sort_signs None = []
-sort_signs (Some s) = plain (sort_text s) ∷ []
-
--- LABEL "(" [ sort ] ")" "."
-abbrev pub arm_signs : List ℕ → Option Sort → List Sign
-arm_signs label sort = word_sign label ∷ open_paren ∷ (sort_signs sort ++ close_paren ∷ dot ∷ [])
-
 -- the tokens of a body: roles and recursion names are words other than rec and end, labels any words
 abbrev mutual
   pub body_signs : Body → List Sign

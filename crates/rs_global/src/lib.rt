@@ -6,7 +6,6 @@ pub mod fault_laws;
 pub mod laws;
 mod protocols;
 mod reading;
-mod seen;
 pub mod spelling_laws;
 #[cfg(test)]
 mod tests;

@@ -2,13 +2,13 @@ ghost use Rattle.std.specs.Prelude.{◌≡◌, ◌≤◌, ◌<◌, ◌+◌, ◌+
 ghost use Rattle.std.specs.Option.{option_map};
 ghost use Rattle.rs_text.specs.Lexemes.{sign_of, text_of, next_lexeme, lexeme_of};
 ghost use Rattle.rs_text.specs.Names.{is_among, bound_to};
+ghost use Rattle.rs_text.specs.Seen.{plain_text, word_text};
 ghost use Rattle.rs_global.specs.Feeding as spec;
-ghost use Rattle.rs_global.specs.Feeding.{Fails, plain_text, word_text};
+ghost use Rattle.rs_global.specs.Feeding.{Fails};
 
 use crate::drafts::{Draft, DraftArm, add_arm};
-use crate::seen;
 use rs_model::{Label, Name, NoMemory, Role, Sort};
-use rs_text::{Fault, Kind, Lexer, TextFault, TextKind, Token, Wanted, find};
+use rs_text::{Fault, Kind, Lexer, TextFault, TextKind, Token, Wanted, find, seen};
 use std::alloc::{AllocError, AllocFailed, Global};
 use std::marker::Model;
 

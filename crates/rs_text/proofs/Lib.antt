@@ -4,3 +4,4 @@ pub mod Gaps
 pub mod Starts
 pub mod Nexts
 pub mod Naming
+pub mod Numbers

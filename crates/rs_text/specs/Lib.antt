@@ -8,3 +8,5 @@ pub mod Places
 pub mod Names
 pub mod Sound
 pub mod Faults
+pub mod Arms
+pub mod Seen

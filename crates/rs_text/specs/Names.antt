@@ -34,3 +34,8 @@ Bound = List (List ℕ × ℕ)
 abbrev pub bound_to : List ℕ → Bound → Option ℕ
 bound_to name [] = None
 bound_to name (b ∷ bs) = if bytes_eq b.0 name then Some b.1 else bound_to name bs
+
+-- the number, where there is one
+abbrev pub number_or : Option ℕ → ℕ
+number_or None = 0
+number_or (Some n) = n

@@ -7,6 +7,7 @@ mod lexing;
 mod names;
 mod output;
 mod places;
+pub mod seen;
 #[cfg(test)]
 mod tests;
 mod tokens;

@@ -1,13 +1,16 @@
+//! What a reader sees in a token: its text, and what that names.
+
 ghost use Rattle.std.specs.Prelude.{◌≡◌, ◌≤◌, length, Some, None, IfSome, IfNone};
 ghost use Rattle.rs_text.specs.Lexemes.{sign_of, text_of};
 ghost use Rattle.rs_text.specs.Names.{place_of, is_among};
-ghost use Rattle.rs_global.specs.Feeding.{plain_text, word_text, sort_named};
+ghost use Rattle.rs_text.specs.Seen.{plain_text, word_text, sort_named};
 
+use crate::names::find;
+use crate::tokens::{Kind, Token};
 use rs_model::{Label, Name, Role, Sort};
-use rs_text::{Kind, Token, find};
 
 /// The text of a token.
-pub(crate) fn text(bytes: &[u8], token: Token) -> &[u8]
+pub fn text(bytes: &[u8], token: Token) -> &[u8]
     requires ordered { token.from ≤ token.until }
     requires within { token.until ≤ length bytes.now }
     ensures { result.now ≡ text_of bytes.now token }
@@ -18,7 +21,7 @@ pub(crate) fn text(bytes: &[u8], token: Token) -> &[u8]
 }
 
 /// The text of a word.
-pub(crate) fn word(bytes: &[u8], token: Token) -> Option<&[u8]>
+pub fn word(bytes: &[u8], token: Token) -> Option<&[u8]>
     requires ordered { token.from ≤ token.until }
     requires within { token.until ≤ length bytes.now }
     ensures some { IfSome result (λ word. word_text (sign_of token.kind (text_of bytes.now token)) ≡ Some word.now) }
@@ -31,7 +34,7 @@ pub(crate) fn word(bytes: &[u8], token: Token) -> Option<&[u8]>
 }
 
 /// The text of a word other than `rec` and `end`.
-pub(crate) fn plain(bytes: &[u8], token: Token) -> Option<&[u8]>
+pub fn plain(bytes: &[u8], token: Token) -> Option<&[u8]>
     requires ordered { token.from ≤ token.until }
     requires within { token.until ≤ length bytes.now }
     ensures some { IfSome result (λ word. plain_text (sign_of token.kind (text_of bytes.now token)) ≡ Some word.now) }
@@ -51,7 +54,7 @@ pub(crate) fn plain(bytes: &[u8], token: Token) -> Option<&[u8]>
 }
 
 /// The sort with this name.
-pub(crate) fn sort(word: &[u8]) -> Option<Sort>
+pub fn sort(word: &[u8]) -> Option<Sort>
     ensures { result ≡ sort_named word.now }
 {
     if word == b"unit".as_slice() {
@@ -73,7 +76,7 @@ pub(crate) fn sort(word: &[u8]) -> Option<Sort>
 
 /// The role with this name.
 #[tactic(auto, using(crate::proofs::Numbers::place_below))]
-pub(crate) fn role(roles: &[Name], word: &[u8]) -> Option<Role>
+pub fn role(roles: &[Name], word: &[u8]) -> Option<Role>
     requires { length roles.now ≤ 16 }
     ensures some { IfSome result (λ role. place_of word.now roles.now ≡ Some role.0) }
     ensures none { IfNone result (place_of word.now roles.now ≡ None) }
@@ -84,7 +87,7 @@ pub(crate) fn role(roles: &[Name], word: &[u8]) -> Option<Role>
 
 /// The label with this name.
 #[tactic(auto, using(crate::proofs::Numbers::place_below))]
-pub(crate) fn label(labels: &[Name], word: &[u8]) -> Option<Label>
+pub fn label(labels: &[Name], word: &[u8]) -> Option<Label>
     requires { length labels.now ≤ 256 }
     ensures some { IfSome result (λ label. place_of word.now labels.now ≡ Some label.0) }
     ensures none { IfNone result (place_of word.now labels.now ≡ None) }
@@ -94,7 +97,7 @@ pub(crate) fn label(labels: &[Name], word: &[u8]) -> Option<Label>
 }
 
 /// Whether the name is among the names.
-pub(crate) fn is_among(names: &[Name], word: &[u8]) -> bool
+pub fn is_among(names: &[Name], word: &[u8]) -> bool
     ensures { result ≡ is_among word.now names.now }
 {
     names.iter().any(|name| name.as_slice() == word)
