@@ -5,7 +5,7 @@ use Rattle.rs_model.specs.declared.values.Sort.{Sort}
 use Rattle.rs_text.specs.Signs.{Sign, rec_word, end_word, plain, arrow, colon, dot, comma, open_brace, close_brace, open_paren, close_paren, word_sign}
 use Rattle.rs_text.specs.declared.faults.Wanted.{Wanted}
 use Rattle.rs_text.specs.declared.faults.Wanted.TheVariants as wanted
-use Rattle.rs_text.specs.Arms.{sort_text, sort_signs, arm_signs}
+use Rattle.rs_text.specs.Arms.{arm_signs, ArmCut, arm_cut_signs, wanted_in_arm}
 use Rattle.rs_global.specs.Trees.{Body, Branches, body_signs, branch_signs, further_signs}
 
 -- a body cut off at a place: a tree of the grammar with what stands before the place

@@ -14,6 +14,7 @@ use Rattle.rs_text.specs.Faults.{kind_of}
 use Rattle.rs_model.specs.Data.{Names_data, Protocol_data}
 use Rattle.rs_text.specs.Lexemes.{Lexeme, Lexed}
 use Rattle.rs_text.specs.Names.{place_of, is_among, Bound, bound_to}
+use Rattle.rs_text.specs.Seen.{plain_text, word_text, is_text, sort_named}
 use Rattle.rs_text.specs.Signs.{Sign, rec_word, end_word, plain, arrow, colon, dot, comma, open_brace, close_brace, open_paren, close_paren, broken}
 use Rattle.rs_global.specs.declared.reading.Frame.{Frame}
 use Rattle.rs_global.specs.declared.reading.Link.{Link}

@@ -8,7 +8,8 @@ use Rattle.rs_model.specs.declared.graph.Role.{Role}
 use Rattle.rs_model.specs.declared.graph.Label.{Label}
 use Rattle.rs_model.specs.declared.values.Sort.{Sort}
 use Rattle.rs_model.specs.declared.values.Sort.TheVariants as sort
-use Rattle.rs_text.specs.Names.{place_of, grown, Bound, bound_to}
+use Rattle.rs_text.specs.Arms.{sort_or_unit}
+use Rattle.rs_text.specs.Names.{number_or, place_of, grown, Bound, bound_to}
 use Rattle.rs_global.specs.Trees.{Body, ends, again, binds, talks, offers, Branches, one, more, ProtocolTree, roles_of}
 
 -- the labels of a body, in order of text

@@ -8,3 +8,5 @@ pub mod Faults
 pub mod Drafts
 pub mod Feeding
 pub mod Examples
+pub mod Texts
+pub mod Canonical

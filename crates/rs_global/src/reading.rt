@@ -2,7 +2,7 @@ ghost use Rattle.std.specs.Prelude.{◌≡◌, ◌≤◌, ◌<◌, ◌+◌, ◌+
 ghost use Rattle.std.specs.Option.{option_map};
 ghost use Rattle.rs_text.specs.Lexemes.{sign_of, text_of, next_lexeme, lexeme_of};
 ghost use Rattle.rs_text.specs.Names.{is_among, bound_to};
-ghost use Rattle.rs_text.specs.Seen.{plain_text, word_text};
+ghost use Rattle.rs_text.specs.Seen.{plain_text, word_text, is_text};
 ghost use Rattle.rs_global.specs.Feeding as spec;
 ghost use Rattle.rs_global.specs.Feeding.{Fails};
 
@@ -293,9 +293,9 @@ impl<'a> Reader<'a> {
     fn protocol(&mut self, bytes: &[u8], token: Token) -> Result<(), Stop>
         requires ordered { token.from ≤ token.until }
         requires within { token.until ≤ length bytes.now }
-        ensures ok { OnOk result (spec.is_text (codes "protocol") (plain_text (sign_of token.kind (text_of bytes.now token))) ≡ true) }
+        ensures ok { OnOk result (is_text (codes "protocol") (plain_text (sign_of token.kind (text_of bytes.now token))) ≡ true) }
         ensures done { OnOk result (spec.in_mode (Mode.Body Link.Root) self.old ≡ Ok self.new) }
-        ensures err { IfErr result (λ e. spec.is_text (codes "protocol") (plain_text (sign_of token.kind (text_of bytes.now token))) ≡ false) }
+        ensures err { IfErr result (λ e. is_text (codes "protocol") (plain_text (sign_of token.kind (text_of bytes.now token))) ≡ false) }
         ensures fault { IfErr result (λ e. e ≡ Stop.Fault (record { kind = TextKind.Expected Wanted.CommaOrProtocol; at = token.from })) }
     {
         match seen::plain(bytes, token) {
