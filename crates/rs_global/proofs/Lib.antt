@@ -18,3 +18,4 @@ pub mod SpeltTrees
 pub mod SpeltCuts
 pub mod SpeltRuns
 pub mod SpeltLaws
+pub mod PrintedTrees

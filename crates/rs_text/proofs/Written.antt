@@ -1,4 +1,8 @@
 -- A text that is written for tokens is cut into them.
+use Rattle.std.specs.Fmt.{decimal}
+use Rattle.rs_text.specs.Bytes.{is_digit}
+use Rattle.rs_text.specs.Signs.{number}
+use Rattle.rs_text.proofs.Values.{decimal_token}
 use Rattle.std.proofs.Common.{Bool, codes, ◌≢◌, not, nat_le, ◌&&◌, if◌then◌else◌, inl, inr}
 use Rattle.std.proofs.lemmas.Bool.Decides.{leb_tells}
 use Rattle.std.proofs.lemmas.Slice.Eq.{bytes_eq-Decides}
@@ -164,3 +168,20 @@ word_written text behind h whole = token_written (word_sign text) text behind (w
 
 pub role_written : (text behind : List ℕ) → is_role_word text ≡ true → begins is_word_byte behind ≡ false → IsWritten (plain text ∷ []) text behind
 role_written text behind h whole = subst (λ s. IsWritten (s ∷ []) text behind) (role_is_plain text h) (word_written text behind (role_is_word text h) whole)
+
+-- ---- with one more piece in front
+
+pub before_blank : (byte : ℕ) (signs : List Sign) (text behind : List ℕ) → is_blank byte ≡ true → IsWritten signs text behind → IsWritten signs (byte ∷ text) behind
+before_blank byte signs text behind h w = joined [] signs (byte ∷ []) text behind (blank_written byte (text ++ behind) h) w
+
+pub before_mark : (sign : Sign) (signs : List Sign) (own text behind : List ℕ) → IsToken sign own (text ++ behind) → is_last sign ≡ false → IsWritten signs text behind → IsWritten (sign ∷ signs) (own ++ text) behind
+before_mark sign signs own text behind t more w = joined (sign ∷ []) signs own text behind (token_written sign own (text ++ behind) t more) w
+
+pub before_word : (word : List ℕ) (signs : List Sign) (text behind : List ℕ) → is_word word ≡ true → begins is_word_byte (text ++ behind) ≡ false → IsWritten signs text behind → IsWritten (word_sign word ∷ signs) (word ++ text) behind
+before_word word signs text behind h whole w = joined (word_sign word ∷ []) signs word text behind (word_written word (text ++ behind) h whole) w
+
+pub before_role : (word : List ℕ) (signs : List Sign) (text behind : List ℕ) → is_role_word word ≡ true → begins is_word_byte (text ++ behind) ≡ false → IsWritten signs text behind → IsWritten (plain word ∷ signs) (word ++ text) behind
+before_role word signs text behind h whole w = joined (plain word ∷ []) signs word text behind (role_written word (text ++ behind) h whole) w
+
+pub before_number : (n : ℕ) (signs : List Sign) (text behind : List ℕ) → n ≤ 4294967295 → begins is_digit (text ++ behind) ≡ false → IsWritten signs text behind → IsWritten (number n ∷ signs) (decimal n ++ text) behind
+before_number n signs text behind small whole w = before_mark (number n) signs (decimal n) text behind (decimal_token n (text ++ behind) small whole) refl w
