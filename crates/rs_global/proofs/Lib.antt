@@ -19,3 +19,4 @@ pub mod SpeltCuts
 pub mod SpeltRuns
 pub mod SpeltLaws
 pub mod PrintedTrees
+pub mod NodeNames

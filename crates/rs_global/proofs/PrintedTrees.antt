@@ -1,12 +1,13 @@
 -- The text of a tree is written for its tokens.
-use Rattle.std.proofs.Common.{◌≡◌, ℕ, suc, ◌+◌, ◌-◌, ◌<◌, ◌≤◌, List, [], ◌∷◌, ◌++◌, length, drop, codes, Bool, true, false, Option, Some, None, refl, sym, ap, ◌∙◌, subst, append_assoc, append-nil, length-append, length-drop, arith}
+use Rattle.std.proofs.Common.{◌≡◌, ℕ, ◌+◌, ◌<◌, ◌≤◌, List, [], ◌∷◌, ◌++◌, length, drop, codes, true, false, Option, Some, None, refl, sym, ap, subst, append-nil, length-append, length-drop, arith}
+use Rattle.std.proofs.lemmas.List.Elements.{All-head, All-tail}
 use Rattle.std.specs.List.{All, flat_map}
 use Rattle.rs_model.specs.declared.values.Sort.{Sort}
 use Rattle.rs_model.specs.declared.values.Sort.TheVariants as sort
 use Rattle.rs_text.specs.Arms.{sort_text, sort_signs, arm_signs}
 use Rattle.rs_text.specs.Bytes.{is_word_byte}
-use Rattle.rs_text.specs.Lexemes.{Lexeme, Lexed, next_lexeme, signs_of}
-use Rattle.rs_text.specs.Signs.{Sign, rec_word, end_word, plain, arrow, colon, dot, comma, open_brace, close_brace, open_paren, close_paren, word_sign}
+use Rattle.rs_text.specs.Lexemes.{Lexeme, Lexed, next_lexeme}
+use Rattle.rs_text.specs.Signs.{Sign, plain, arrow, colon, dot, comma, open_brace, close_brace, open_paren, close_paren, finish}
 use Rattle.rs_text.specs.Words.{begins, is_word, is_role_word}
 use Rattle.rs_text.specs.Writing.{IsWritten}
 use Rattle.rs_text.proofs.Written.{nothing_written, joined, before_blank, before_mark, before_word, before_role, word_written, role_written, written_cut}
@@ -27,9 +28,12 @@ sort_is_word sort.Whole = refl
 sort_is_word sort.Octets = refl
 sort_is_word sort.Numbers = refl
 
+closing_written : (behind : List ℕ) → IsWritten (close_paren ∷ dot ∷ []) (codes "). ") behind
+closing_written behind = before_mark close_paren (dot ∷ []) (codes ")") (codes ". ") behind refl refl (before_mark dot [] (codes ".") (codes " ") behind refl refl (before_blank 32 [] [] behind refl (nothing_written behind)))
+
 sort_written : (sort : Option Sort) (behind : List ℕ) → IsWritten (sort_signs sort ++ close_paren ∷ dot ∷ []) (shown_text sort ++ codes "). ") behind
-sort_written None behind = before_mark close_paren (dot ∷ []) (codes ")") (codes ". ") behind refl refl (before_mark dot [] (codes ".") (codes " ") behind refl refl (before_blank 32 [] [] behind refl (nothing_written behind)))
-sort_written (Some s) behind = before_role (sort_text s) (close_paren ∷ dot ∷ []) (codes "). ") behind (sort_is_word s) refl (sort_written None behind)
+sort_written None behind = closing_written behind
+sort_written (Some s) behind = before_role (sort_text s) (close_paren ∷ dot ∷ []) (codes "). ") behind (sort_is_word s) refl (closing_written behind)
 
 arm_written : (label : List ℕ) (sort : Option Sort) (behind : List ℕ) → is_word label ≡ true → IsWritten (arm_signs label sort) (arm_text label sort) behind
 arm_written label sort behind h = before_word label (open_paren ∷ (sort_signs sort ++ close_paren ∷ dot ∷ [])) (codes "(" ++ (shown_text sort ++ codes "). ")) behind h refl
@@ -74,22 +78,22 @@ mutual
 -- ---- the roles line
 
 names_written : (names : List (List ℕ)) (name behind : List ℕ) → All (λ x. is_role_word x ≡ true) (name ∷ names) → begins is_word_byte behind ≡ false → IsWritten (plain name ∷ flat_map further_signs names) (names_text (name ∷ names)) behind
-names_written [] name behind h whole = role_written name behind (All-head h) whole
+names_written [] name behind h whole = role_written name behind (All-head (λ x. is_role_word x ≡ true) name [] h) whole
 names_written (other ∷ names) name behind h whole =
-    before_role name (comma ∷ (plain other ∷ flat_map further_signs names)) (codes ", " ++ names_text (other ∷ names)) behind (All-head h) refl
+    before_role name (comma ∷ (plain other ∷ flat_map further_signs names)) (codes ", " ++ names_text (other ∷ names)) behind (All-head (λ x. is_role_word x ≡ true) name (other ∷ names) h) refl
     (before_mark comma (plain other ∷ flat_map further_signs names) (codes ",") (codes " " ++ names_text (other ∷ names)) behind refl refl
-    (before_blank 32 (plain other ∷ flat_map further_signs names) (names_text (other ∷ names)) behind refl (names_written names other behind (All-tail h) whole)))
+    (before_blank 32 (plain other ∷ flat_map further_signs names) (names_text (other ∷ names)) behind refl (names_written names other behind (All-tail (λ x. is_role_word x ≡ true) name (other ∷ names) h) whole)))
 
 pub protocol_written : (t : ProtocolTree) (behind : List ℕ) → AreWords t → IsWritten (protocol_signs t) (protocol_text t) behind
 protocol_written t behind h =
     let line = codes "\nprotocol " ++ (body_text t.body ++ codes "\n") in
     let body : IsWritten (body_signs t.body) (body_text t.body ++ codes "\n") behind =
-      subst (λ signs. IsWritten signs (body_text t.body ++ codes "\n") behind) (append-nil (body_signs t.body))
-      (joined (body_signs t.body) [] (body_text t.body) (codes "\n") behind (body_written t.body (codes "\n" ++ behind) h.body refl) (before_blank 10 [] [] behind refl (nothing_written behind))) in
+    subst (λ signs. IsWritten signs (body_text t.body ++ codes "\n") behind) (append-nil (body_signs t.body))
+    (joined (body_signs t.body) [] (body_text t.body) (codes "\n") behind (body_written t.body (codes "\n" ++ behind) h.body refl) (before_blank 10 [] [] behind refl (nothing_written behind))) in
     let protocol : IsWritten (plain (codes "protocol") ∷ body_signs t.body) line behind =
-      before_blank 10 (plain (codes "protocol") ∷ body_signs t.body) (codes "protocol " ++ (body_text t.body ++ codes "\n")) behind refl
-      (before_role (codes "protocol") (body_signs t.body) (codes " " ++ (body_text t.body ++ codes "\n")) behind refl refl
-      (before_blank 32 (body_signs t.body) (body_text t.body ++ codes "\n") behind refl body)) in
+    before_blank 10 (plain (codes "protocol") ∷ body_signs t.body) (codes "protocol " ++ (body_text t.body ++ codes "\n")) behind refl
+    (before_role (codes "protocol") (body_signs t.body) (codes " " ++ (body_text t.body ++ codes "\n")) behind refl refl
+    (before_blank 32 (body_signs t.body) (body_text t.body ++ codes "\n") behind refl body)) in
     let names : IsWritten (plain t.first ∷ flat_map further_signs (t.second ∷ t.further)) (names_text (roles_of t)) (line ++ behind) = names_written (t.second ∷ t.further) t.first (line ++ behind) h.roles refl in
     before_role (codes "roles") (plain t.first ∷ comma ∷ plain t.second ∷ (flat_map further_signs t.further ++ plain (codes "protocol") ∷ body_signs t.body)) (codes " " ++ (names_text (roles_of t) ++ line)) behind refl refl
     (before_blank 32 (plain t.first ∷ comma ∷ plain t.second ∷ (flat_map further_signs t.further ++ plain (codes "protocol") ∷ body_signs t.body)) (names_text (roles_of t) ++ line) behind refl
@@ -133,6 +137,7 @@ tree_spelt bytes at t rest words fits parts settled =
 
 pub lone_tree_spelt : (t : ProtocolTree) → AreWords t → Fits t → SpellsProtocol (protocol_text t) 0 (names_of t) (graph_of t) (length (protocol_text t))
 lone_tree_spelt t words fits =
-    let stands = end_again (protocol_text t) in
+    let none : 0 + length (protocol_text t) ≡ length (protocol_text t) = omega arith in
+    let stands : next_lexeme (protocol_text t) (0 + length (protocol_text t)) ≡ record { sign = finish; from = length (protocol_text t); until = length (protocol_text t) } = rw none (end_again (protocol_text t)) in
     subst (λ (n : ℕ). SpellsProtocol (protocol_text t) 0 (names_of t) (graph_of t) n) (ap (λ (x : Lexeme). x.from) stands)
-    (tree_spelt (protocol_text t) 0 t [] words fits (sym (append-nil (protocol_text t))) (λ _. rw stands refl))
+    (tree_spelt (protocol_text t) 0 t [] words fits (sym (append-nil (protocol_text t))) (λ _. ap (λ (x : Lexeme). ends_a_name x.sign) stands))

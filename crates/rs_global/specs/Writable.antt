@@ -1,5 +1,5 @@
 -- Trees whose names can be written.
-use Rattle.std.specs.Prelude.{◌≡◌, ℕ, List, true}
+use Rattle.std.specs.Prelude.{◌≡◌, true}
 use Rattle.std.specs.List.{All}
 use Rattle.rs_text.specs.Words.{is_word, is_role_word}
 use Rattle.rs_global.specs.Trees.{Body, ends, again, binds, talks, offers, Branches, one, more, ProtocolTree, roles_of}

@@ -4,6 +4,7 @@
 mod drafts;
 pub mod fault_laws;
 pub mod laws;
+pub mod printing_laws;
 mod protocols;
 mod reading;
 pub mod spelling_laws;
