@@ -20,3 +20,7 @@ pub mod SpeltRuns
 pub mod SpeltLaws
 pub mod PrintedTrees
 pub mod NodeNames
+pub mod Printed
+pub mod BackFlags
+pub mod EndsLast
+pub mod Existence

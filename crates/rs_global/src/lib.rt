@@ -4,6 +4,7 @@
 mod drafts;
 pub mod fault_laws;
 pub mod laws;
+mod printing;
 pub mod printing_laws;
 mod protocols;
 mod reading;
@@ -11,4 +12,5 @@ pub mod spelling_laws;
 #[cfg(test)]
 mod tests;
 
+pub use printing::print_protocol;
 pub use protocols::read_protocol;
