@@ -18,3 +18,5 @@ pub mod SpeltTrees
 pub mod SpeltCuts
 pub mod SpeltRuns
 pub mod SpeltLaws
+pub mod CanonForms
+pub mod Existence
