@@ -1,5 +1,5 @@
 -- The canonical text of a protocol, and which protocols have one.
-use Rattle.std.specs.Prelude.{◌≡◌, ℕ, ◌<◌, ◌≤◌, ◌+◌, List, [], ◌∷◌, ◌++◌, codes, take, Option, Some, None, slice_get}
+use Rattle.std.specs.Prelude.{◌≡◌, ◌≢◌, ℕ, ◌<◌, ◌≤◌, ◌+◌, List, [], ◌∷◌, ◌++◌, codes, length, take, Option, Some, None, slice_get}
 use Rattle.std.specs.Fmt.{decimal}
 use Rattle.rs_model.specs.Data.{Protocol_data, Names_data}
 use Rattle.rs_model.specs.declared.graph.Arm.{Arm}
@@ -80,7 +80,7 @@ abbrev mutual
 
   pub DrawsArms : Names_data → Protocol_data → (from : ℕ) → List Arm → Branches → Type 0
   DrawsArms names protocol from (a ∷ []) (one label sort body) = IsArmOf names label sort a × Draws names protocol from a.next body
-  DrawsArms names protocol from (a ∷ others) (more label sort body arms) = IsArmOf names label sort a × Draws names protocol from a.next body × DrawsArms names protocol from others arms
+  DrawsArms names protocol from (a ∷ as) (more label sort body arms) = IsArmOf names label sort a × Draws names protocol from a.next body × DrawsArms names protocol from as arms
   DrawsArms names protocol from _ _ = ⊥
 
 -- the tree that the canonical text has
