@@ -20,3 +20,4 @@ pub mod SpeltRuns
 pub mod SpeltLaws
 pub mod CanonForms
 pub mod Existence
+pub mod CanonOne
