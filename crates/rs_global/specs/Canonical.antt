@@ -80,7 +80,7 @@ abbrev mutual
 
   pub DrawsArms : Names_data → Protocol_data → (from : ℕ) → List Arm → Branches → Type 0
   DrawsArms names protocol from (a ∷ []) (one label sort body) = IsArmOf names label sort a × Draws names protocol from a.next body
-  DrawsArms names protocol from (a ∷ as) (more label sort body arms) = IsArmOf names label sort a × Draws names protocol from a.next body × DrawsArms names protocol from as arms
+  DrawsArms names protocol from (a ∷ others) (more label sort body arms) = IsArmOf names label sort a × Draws names protocol from a.next body × DrawsArms names protocol from others arms
   DrawsArms names protocol from _ _ = ⊥
 
 -- the tree that the canonical text has
