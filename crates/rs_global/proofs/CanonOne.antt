@@ -49,7 +49,7 @@ node_is x y h = cc
 
 end_behind : (xs : List Node) (c : Bool) (n : ℕ) → list_all is_talk xs ≡ true → slice_get (xs ++ finish_of c) n ≡ Some Finished → length xs ≤ n
 end_behind [] c n h e = omega arith
-end_behind (x ∷ xs) c zero h e = let t : is_talk x ≡ false = ap is_talk (node_is x Finished e) in absurd (cc (first_true (is_talk x) (list_all is_talk xs) h) t)
+end_behind (x ∷ xs) c zero h e = let t : is_talk x ≡ false = ap is_talk (node_is x Finished e) in let f : is_talk x ≡ true = first_true (is_talk x) (list_all is_talk xs) h in absurd (cc (t, f))
 end_behind (x ∷ xs) c (suc n) h e = let k = end_behind xs c n (second_true (is_talk x) (list_all is_talk xs) h) e in omega arith
 
 talk_before : (xs : List Node) (c : Bool) (n : ℕ) (s r : Role) (arms : List Arm) → slice_get (xs ++ finish_of c) n ≡ Some (Talk s r arms) → n < length xs
@@ -118,8 +118,8 @@ same_head names l l' sort sort' a x y = (text_is l l' (sym x.0 ∙ y.0), x.1 ∙
 one_arm_is : (a b : Arm) → a ∷ [] ≡ b ∷ [] → a ≡ b
 one_arm_is a b h = cc
 
-not_two : (a b c : Arm) (more : List Arm) → a ∷ [] ≡ b ∷ c ∷ more → ⊥
-not_two a b c more h = cc
+not_two : (a b c : Arm) (ours : List Arm) → a ∷ [] ≡ b ∷ c ∷ ours → ⊥
+not_two a b c ours h = cc
 
 same_talks : (s s' r r' l l' : List ℕ) (sort sort' : Option Sort) (b b' : Body) → s ≡ s' → r ≡ r' → l ≡ l' → sort ≡ sort' → b ≡ b' → talks s r l sort b ≡ talks s' r' l' sort' b'
 same_talks s s' r r' l l' sort sort' b b' e f g h i = cc
@@ -127,41 +127,63 @@ same_talks s s' r r' l l' sort sort' b b' e f g h i = cc
 same_offers : (s s' r r' : List ℕ) (arms arms' : Branches) → s ≡ s' → r ≡ r' → arms ≡ arms' → offers s r arms ≡ offers s' r' arms'
 same_offers s s' r r' arms arms' e f g = cc
 
+same_one : (s r l s' r' l' : List ℕ) (sort sort' : Option Sort) (a b : Body) (names : Names_data) (p : Protocol_data) (n : ℕ) → EndsLast p → ((next : ℕ) → NoEndBefore p (n + 1) → Draws names p (n + 1) next a → Draws names p (n + 1) next b → a ≡ b)
+    → IsOneArm names p n s r l sort (λ next. Draws names p (n + 1) next a) → IsOneArm names p n s' r' l' sort' (λ next. Draws names p (n + 1) next b) → talks s r l sort a ≡ talks s' r' l' sort' b
+same_one s r l s' r' l' sort sort' a b names p n last k x y =
+    let t = same_talk names p n s r s' r' (x.0 ∷ []) (y.0 ∷ []) x.1 y.1 in
+    let arm : y.0 ≡ x.0 = sym (one_arm_is x.0 y.0 t.are) in
+    let h = same_head names l l' sort sort' x.0 x.2 (subst (λ (z : Arm). IsArmOf names l' sort' z) arm y.2) in
+    same_talks s s' r r' l l' sort sort' a b t.senders t.receivers h.0 h.1
+    (k x.0.next (behind_talk p n x.1.sender x.1.receiver (x.0 ∷ []) last x.1.talks) x.3 (subst (λ (z : Arm). Draws names p (n + 1) z.next b) arm y.3))
+
+same_two : (s r s' r' : List ℕ) (arms others : Branches) (names : Names_data) (p : Protocol_data) (n : ℕ) → EndsLast p → ((ours : List Arm) → NoEndBefore p (n + 1) → DrawsArms names p (n + 1) ours arms → DrawsArms names p (n + 1) ours others → arms ≡ others)
+    → AreArms names p n s r (λ ours. DrawsArms names p (n + 1) ours arms) → AreArms names p n s' r' (λ ours. DrawsArms names p (n + 1) ours others) → offers s r arms ≡ offers s' r' others
+same_two s r s' r' arms others names p n last k x y =
+    let t = same_talk names p n s r s' r' (x.0 ∷ x.1 ∷ x.2) (y.0 ∷ y.1 ∷ y.2) x.3 y.3 in
+    same_offers s s' r r' arms others t.senders t.receivers
+    (k (x.0 ∷ x.1 ∷ x.2) (behind_talk p n x.3.sender x.3.receiver (x.0 ∷ x.1 ∷ x.2) last x.3.talks) x.4 (subst (λ (z : List Arm). DrawsArms names p (n + 1) z others) (sym t.are) y.4))
+
+same_more : (l l' : List ℕ) (sort sort' : Option Sort) (a b : Body) (arms others : Branches) → l ≡ l' → sort ≡ sort' → a ≡ b → arms ≡ others → more l sort a arms ≡ more l' sort' b others
+same_more l l' sort sort' a b arms others e f g h = cc
+
+none_left : (names : Names_data) (p : Protocol_data) (from : ℕ) (arms : Branches) → DrawsArms names p from [] arms → ⊥
+none_left names p from arms h = h
+
 mutual
   same_body : (a b : Body) (names : Names_data) (p : Protocol_data) (from n : ℕ) → EndsLast p → NoEndBefore p from → Draws names p from n a → Draws names p from n b → a ≡ b
-  same_body ends ends names p from n last no x y = refl
-  same_body ends (again name) names p from n last no x y = let le : from ≤ n = no n x in let lt : n < from = y.0 in absurd (omega arith)
-  same_body ends (binds name b) names p from n last no x y = absurd (not_a_talk names p n b x y.3)
-  same_body ends (talks s r l sort b) names p from n last no x y = absurd (not_a_talk names p n (talks s r l sort b) x y.2)
-  same_body ends (offers s r arms) names p from n last no x y = absurd (not_a_talk names p n (offers s r arms) x y.2)
-  same_body (again name) ends names p from n last no x y = let le : from ≤ n = no n y in let lt : n < from = x.0 in absurd (omega arith)
-  same_body (again name) (again other) names p from n last no x y = ap again (x.1 ∙ sym y.1)
-  same_body (again name) (binds other b) names p from n last no x y = let lt : n < from = x.0 in let le : from ≤ n = y.0 in absurd (omega arith)
-  same_body (again name) (talks s r l sort b) names p from n last no x y = let lt : n < from = x.0 in let le : from ≤ n = y.0 in absurd (omega arith)
-  same_body (again name) (offers s r arms) names p from n last no x y = let lt : n < from = x.0 in let le : from ≤ n = y.0 in absurd (omega arith)
-  same_body (binds name a) ends names p from n last no x y = absurd (not_a_talk names p n a y x.3)
-  same_body (binds name a) (again other) names p from n last no x y = let le : from ≤ n = x.0 in let lt : n < from = y.0 in absurd (omega arith)
-  same_body (binds name a) (binds other b) names p from n last no x y = ap (λ z. binds z a) (x.1 ∙ sym y.1) ∙ ap (λ z. binds other z) (same_whole a b names p n last x.3 y.3)
-  same_body (binds name a) (talks s r l sort b) names p from n last no x y = absurd (y.1 x.2)
-  same_body (binds name a) (offers s r arms) names p from n last no x y = absurd (y.1 x.2)
-  same_body (talks s r l sort a) ends names p from n last no x y = absurd (not_a_talk names p n (talks s r l sort a) y x.2)
-  same_body (talks s r l sort a) (again name) names p from n last no x y = let le : from ≤ n = x.0 in let lt : n < from = y.0 in absurd (omega arith)
-  same_body (talks s r l sort a) (binds name b) names p from n last no x y = absurd (x.1 y.2)
-  same_body (talks s r l sort a) (talks s' r' l' sort' b) names p from n last no x y = same_one s r l s' r' l' sort sort' a b names p n last x.2 y.2
-  same_body (talks s r l sort a) (offers s' r' arms) names p from n last no x y =
+  same_body ends ends names p from n last free x y = refl
+  same_body ends (again name) names p from n last free x y = let le : from ≤ n = free n x in let lt : n < from = y.0 in absurd (omega arith)
+  same_body ends (binds name b) names p from n last free x y = absurd (not_a_talk names p n b x y.3)
+  same_body ends (talks s r l sort b) names p from n last free x y = absurd (not_a_talk names p n (talks s r l sort b) x y.2)
+  same_body ends (offers s r arms) names p from n last free x y = absurd (not_a_talk names p n (offers s r arms) x y.2)
+  same_body (again name) ends names p from n last free x y = let le : from ≤ n = free n y in let lt : n < from = x.0 in absurd (omega arith)
+  same_body (again name) (again other) names p from n last free x y = ap again (x.1 ∙ sym y.1)
+  same_body (again name) (binds other b) names p from n last free x y = let lt : n < from = x.0 in let le : from ≤ n = y.0 in absurd (omega arith)
+  same_body (again name) (talks s r l sort b) names p from n last free x y = let lt : n < from = x.0 in let le : from ≤ n = y.0 in absurd (omega arith)
+  same_body (again name) (offers s r arms) names p from n last free x y = let lt : n < from = x.0 in let le : from ≤ n = y.0 in absurd (omega arith)
+  same_body (binds name a) ends names p from n last free x y = absurd (not_a_talk names p n a y x.3)
+  same_body (binds name a) (again other) names p from n last free x y = let le : from ≤ n = x.0 in let lt : n < from = y.0 in absurd (omega arith)
+  same_body (binds name a) (binds other b) names p from n last free x y = ap (λ z. binds z a) (x.1 ∙ sym y.1) ∙ ap (λ z. binds other z) (same_whole a b names p n last x.3 y.3)
+  same_body (binds name a) (talks s r l sort b) names p from n last free x y = absurd (y.1 x.2)
+  same_body (binds name a) (offers s r arms) names p from n last free x y = absurd (y.1 x.2)
+  same_body (talks s r l sort a) ends names p from n last free x y = absurd (not_a_talk names p n (talks s r l sort a) y x.2)
+  same_body (talks s r l sort a) (again name) names p from n last free x y = let le : from ≤ n = x.0 in let lt : n < from = y.0 in absurd (omega arith)
+  same_body (talks s r l sort a) (binds name b) names p from n last free x y = absurd (x.1 y.2)
+  same_body (talks s r l sort a) (talks s' r' l' sort' b) names p from n last free x y = same_one s r l s' r' l' sort sort' a b names p n last (λ next free h k. same_body a b names p (n + 1) next last free h k) x.2 y.2
+  same_body (talks s r l sort a) (offers s' r' arms) names p from n last free x y =
       let t = same_talk names p n s r s' r' (x.2.0 ∷ []) (y.2.0 ∷ y.2.1 ∷ y.2.2) x.2.1 y.2.3 in absurd (not_two x.2.0 y.2.0 y.2.1 y.2.2 t.are)
-  same_body (offers s r arms) ends names p from n last no x y = absurd (not_a_talk names p n (offers s r arms) y x.2)
-  same_body (offers s r arms) (again name) names p from n last no x y = let le : from ≤ n = x.0 in let lt : n < from = y.0 in absurd (omega arith)
-  same_body (offers s r arms) (binds name b) names p from n last no x y = absurd (x.1 y.2)
-  same_body (offers s r arms) (talks s' r' l' sort' b) names p from n last no x y =
+  same_body (offers s r arms) ends names p from n last free x y = absurd (not_a_talk names p n (offers s r arms) y x.2)
+  same_body (offers s r arms) (again name) names p from n last free x y = let le : from ≤ n = x.0 in let lt : n < from = y.0 in absurd (omega arith)
+  same_body (offers s r arms) (binds name b) names p from n last free x y = absurd (x.1 y.2)
+  same_body (offers s r arms) (talks s' r' l' sort' b) names p from n last free x y =
       let t = same_talk names p n s' r' s r (y.2.0 ∷ []) (x.2.0 ∷ x.2.1 ∷ x.2.2) y.2.1 x.2.3 in absurd (not_two y.2.0 x.2.0 x.2.1 x.2.2 t.are)
-  same_body (offers s r arms) (offers s' r' others) names p from n last no x y = same_two s r s' r' arms others names p n last x.2 y.2
+  same_body (offers s r arms) (offers s' r' others) names p from n last free x y = same_two s r s' r' arms others names p n last (λ ours free h k. same_arms arms others ours names p (n + 1) last free h k) x.2 y.2
 
   same_whole : (a b : Body) (names : Names_data) (p : Protocol_data) (n : ℕ) → EndsLast p → DrawsTalk names p n a → DrawsTalk names p n b → a ≡ b
-  same_whole (talks s r l sort a) (talks s' r' l' sort' b) names p n last x y = same_one s r l s' r' l' sort sort' a b names p n last x y
+  same_whole (talks s r l sort a) (talks s' r' l' sort' b) names p n last x y = same_one s r l s' r' l' sort sort' a b names p n last (λ next free h k. same_body a b names p (n + 1) next last free h k) x y
   same_whole (talks s r l sort a) (offers s' r' arms) names p n last x y = let t = same_talk names p n s r s' r' (x.0 ∷ []) (y.0 ∷ y.1 ∷ y.2) x.1 y.3 in absurd (not_two x.0 y.0 y.1 y.2 t.are)
   same_whole (offers s r arms) (talks s' r' l' sort' b) names p n last x y = let t = same_talk names p n s' r' s r (y.0 ∷ []) (x.0 ∷ x.1 ∷ x.2) y.1 x.3 in absurd (not_two y.0 x.0 x.1 x.2 t.are)
-  same_whole (offers s r arms) (offers s' r' others) names p n last x y = same_two s r s' r' arms others names p n last x y
+  same_whole (offers s r arms) (offers s' r' others) names p n last x y = same_two s r s' r' arms others names p n last (λ ours free h k. same_arms arms others ours names p (n + 1) last free h k) x y
   same_whole ends b names p n last x y = absurd x
   same_whole (again name) b names p n last x y = absurd x
   same_whole (binds name a) b names p n last x y = absurd x
@@ -172,47 +194,30 @@ mutual
   same_whole (offers s r arms) (again name) names p n last x y = absurd y
   same_whole (offers s r arms) (binds name b) names p n last x y = absurd y
 
-  same_one : (s r l s' r' l' : List ℕ) (sort sort' : Option Sort) (a b : Body) (names : Names_data) (p : Protocol_data) (n : ℕ) → EndsLast p → IsOneArm names p n s r l sort (λ next. Draws names p (n + 1) next a) → IsOneArm names p n s' r' l' sort' (λ next. Draws names p (n + 1) next b)
-      → talks s r l sort a ≡ talks s' r' l' sort' b
-  same_one s r l s' r' l' sort sort' a b names p n last x y =
-      let t = same_talk names p n s r s' r' (x.0 ∷ []) (y.0 ∷ []) x.1 y.1 in
-      let arm : y.0 ≡ x.0 = sym (one_arm_is x.0 y.0 t.are) in
-      let h = same_head names l l' sort sort' x.0 x.2 (subst (λ (z : Arm). IsArmOf names l' sort' z) arm y.2) in
-      same_talks s s' r r' l l' sort sort' a b t.senders t.receivers h.0 h.1
-      (same_body a b names p (n + 1) x.0.next last (behind_talk p n x.1.sender x.1.receiver (x.0 ∷ []) last x.1.talks) x.3 (subst (λ (z : Arm). Draws names p (n + 1) z.next b) arm y.3))
-
-  same_two : (s r s' r' : List ℕ) (arms others : Branches) (names : Names_data) (p : Protocol_data) (n : ℕ) → EndsLast p → AreArms names p n s r (λ ours. DrawsArms names p (n + 1) ours arms) → AreArms names p n s' r' (λ ours. DrawsArms names p (n + 1) ours others)
-      → offers s r arms ≡ offers s' r' others
-  same_two s r s' r' arms others names p n last x y =
-      let t = same_talk names p n s r s' r' (x.0 ∷ x.1 ∷ x.2) (y.0 ∷ y.1 ∷ y.2) x.3 y.3 in
-      same_offers s s' r r' arms others t.senders t.receivers
-      (same_arms arms others (x.0 ∷ x.1 ∷ x.2) names p (n + 1) last (behind_talk p n x.3.sender x.3.receiver (x.0 ∷ x.1 ∷ x.2) last x.3.talks) x.4 (subst (λ (z : List Arm). DrawsArms names p (n + 1) z others) (sym t.are) y.4))
-
   same_arms : (x y : Branches) (ours : List Arm) (names : Names_data) (p : Protocol_data) (from : ℕ) → EndsLast p → NoEndBefore p from → DrawsArms names p from ours x → DrawsArms names p from ours y → x ≡ y
-  same_arms x y [] names p from last no h k = absurd h
-  same_arms (one l sort a) (one l' sort' b) (o ∷ []) names p from last no h k =
+  same_arms x y [] names p from last free h k = absurd h
+  same_arms (one l sort a) (one l' sort' b) (o ∷ []) names p from last free h k =
       let e = same_head names l l' sort sort' o h.0 k.0 in
-      ap (λ z. one z sort a) e.0 ∙ ap (λ z. one l' z a) e.1 ∙ ap (λ z. one l' sort' z) (same_body a b names p from o.next last no h.1 k.1)
-  same_arms (more l sort a arms) (more l' sort' b others) (o ∷ []) names p from last no h k = same_more l l' sort sort' a b arms others o [] names p from last no h.0 h.1 h.2 k.0 k.1 k.2
-  same_arms (more l sort a arms) (more l' sort' b others) (o ∷ c ∷ cs) names p from last no h k = same_more l l' sort sort' a b arms others o (c ∷ cs) names p from last no h.0 h.1 h.2 k.0 k.1 k.2
-  same_arms (one l sort a) (more l' sort' b others) (o ∷ []) names p from last no h k = absurd (none_left names p from others k.2)
-  same_arms (more l sort a arms) (one l' sort' b) (o ∷ []) names p from last no h k = absurd (none_left names p from arms h.2)
-  same_arms (one l sort a) y (o ∷ c ∷ cs) names p from last no h k = absurd h
-  same_arms (more l sort a arms) (one l' sort' b) (o ∷ c ∷ cs) names p from last no h k = absurd k
-
-  same_more : (l l' : List ℕ) (sort sort' : Option Sort) (a b : Body) (arms others : Branches) (o : Arm) (rest : List Arm) (names : Names_data) (p : Protocol_data) (from : ℕ) → EndsLast p → NoEndBefore p from
-      → IsArmOf names l sort o → Draws names p from o.next a → DrawsArms names p from rest arms → IsArmOf names l' sort' o → Draws names p from o.next b → DrawsArms names p from rest others → more l sort a arms ≡ more l' sort' b others
-  same_more l l' sort sort' a b arms others o rest names p from last no h i j h' i' j' =
-      let e = same_head names l l' sort sort' o h h' in
-      ap (λ z. more z sort a arms) e.0 ∙ ap (λ z. more l' z a arms) e.1 ∙ ap (λ z. more l' sort' z arms) (same_body a b names p from o.next last no i i') ∙ ap (λ z. more l' sort' b z) (same_arms arms others rest names p from last no j j')
-
-  none_left : (names : Names_data) (p : Protocol_data) (from : ℕ) (arms : Branches) → DrawsArms names p from [] arms → ⊥
-  none_left names p from arms h = h
+      ap (λ z. one z sort a) e.0 ∙ ap (λ z. one l' z a) e.1 ∙ ap (λ z. one l' sort' z) (same_body a b names p from o.next last free h.1 k.1)
+  same_arms (more l sort a arms) (more l' sort' b others) (o ∷ []) names p from last free h k = absurd (none_left names p from arms h.2)
+  same_arms (more l sort a arms) (more l' sort' b others) (o ∷ c ∷ cs) names p from last free h k =
+      let e = same_head names l l' sort sort' o h.0 k.0 in
+      same_more l l' sort sort' a b arms others e.0 e.1 (same_body a b names p from o.next last free h.1 k.1) (same_arms arms others (c ∷ cs) names p from last free h.2 k.2)
+  same_arms (one l sort a) (more l' sort' b others) (o ∷ []) names p from last free h k = absurd (none_left names p from others k.2)
+  same_arms (more l sort a arms) (one l' sort' b) (o ∷ []) names p from last free h k = absurd (none_left names p from arms h.2)
+  same_arms (one l sort a) y (o ∷ c ∷ cs) names p from last free h k = absurd h
+  same_arms (more l sort a arms) (one l' sort' b) (o ∷ c ∷ cs) names p from last free h k = absurd k
 
 -- ---- trees and texts
 
+abbrev tree : List ℕ → List ℕ → List (List ℕ) → Body → ProtocolTree
+tree first second further body = record { first = first; second = second; further = further; body = body }
+
+tree_is : (a b a' b' : List ℕ) (c c' : List (List ℕ)) (d d' : Body) → a ∷ b ∷ c ≡ a' ∷ b' ∷ c' → d ≡ d' → tree a b c d ≡ tree a' b' c' d'
+tree_is a b a' b' c c' d d' e f = cc
+
 same_tree : (x y : ProtocolTree) → roles_of x ≡ roles_of y → x.body ≡ y.body → x ≡ y
-same_tree (record { first = a; second = b; further = c; body = d }) (record { first = a'; second = b'; further = c'; body = d' }) e f = cc
+same_tree x y e f = tree_is x.first x.second y.first y.second x.further y.further x.body y.body e f
 
 pub canonical_tree_is_one : (names : Names_data) (protocol : Protocol_data) (x y : ProtocolTree) → IsTextShaped protocol → IsCanonical names protocol x → IsCanonical names protocol y → x ≡ y
 canonical_tree_is_one names protocol x y shaped h k = same_tree x y (h.roles ∙ sym k.roles) (same_body x.body y.body names protocol 0 protocol.root (shaped_ends_last protocol shaped) (λ n e. omega arith) h.body k.body)
