@@ -21,3 +21,5 @@ pub mod SpeltLaws
 pub mod CanonForms
 pub mod Existence
 pub mod CanonOne
+pub mod PrintedTrees
+pub mod NodeNames

@@ -10,3 +10,4 @@ pub mod Feeding
 pub mod Examples
 pub mod Texts
 pub mod Canonical
+pub mod Writable

@@ -5,6 +5,7 @@ pub mod canonical_laws;
 mod drafts;
 pub mod fault_laws;
 pub mod laws;
+pub mod printing_laws;
 mod protocols;
 mod reading;
 pub mod spelling_laws;

@@ -5,3 +5,4 @@ pub mod Starts
 pub mod Nexts
 pub mod Naming
 pub mod Numbers
+pub mod Written

@@ -67,7 +67,7 @@ word_whole b bs h = record {
   whole = run_ends is_word_byte (b ∷ bs);
 }
 
-word_is : (text behind : List ℕ) → IsWholeWord text behind → length text ≤ 64 → IsToken (word_sign text) text behind
+pub word_is : (text behind : List ℕ) → IsWholeWord text behind → length text ≤ 64 → IsToken (word_sign text) text behind
 word_is text behind w short = elim (true_or_false (bytes_eq text (codes "rec"))) [
   | inl h ↦ rw h (w, (bytes_eq-Decides text (codes "rec")).0 h)
   | inr h ↦ rw h (elim (true_or_false (bytes_eq text (codes "end"))) [
@@ -269,7 +269,7 @@ number_large text behind large = elim (leb_tells 4294967296 (value_of text)) [
   | inr h ↦ absurd (omega arith)
 ]
 
-plain_sign : (text : List ℕ) → text ≢ codes "rec" → text ≢ codes "end" → word_sign text ≡ plain text
+pub plain_sign : (text : List ℕ) → text ≢ codes "rec" → text ≢ codes "end" → word_sign text ≡ plain text
 plain_sign text not_rec not_end = elim (true_or_false (bytes_eq text (codes "rec"))) [
   | inl h ↦ absurd (not_rec ((bytes_eq-Decides text (codes "rec")).0 h))
   | inr h ↦ elim (true_or_false (bytes_eq text (codes "end"))) [

@@ -10,3 +10,4 @@ pub mod Sound
 pub mod Faults
 pub mod Arms
 pub mod Seen
+pub mod Writing

@@ -1,14 +1,15 @@
 // What the definitions of tokens, names and numbers say together. The functions do nothing: each states a law.
-ghost use Rattle.std.specs.Prelude.{◌≡◌, ◌≢◌, ◌≤◌, ◌↔◌, ◌||◌, ◌++◌, ◌∷◌, ℕ, List, [], Bool, Some, None, length, slice_get, true, false};
+ghost use Rattle.std.specs.Prelude.{◌≡◌, ◌≢◌, ◌≤◌, ◌↔◌, ◌||◌, ◌++◌, ◌∷◌, ◌+◌, ℕ, List, [], Bool, Some, None, drop, length, slice_get, true, false};
 ghost use Rattle.std.specs.Fmt.{decimal};
-ghost use Rattle.std.specs.List.{list_all};
-ghost use Rattle.rs_text.specs.Bytes.{is_digit};
-ghost use Rattle.rs_text.specs.Lexemes.{Lexeme, Lexed, next_lexeme};
+ghost use Rattle.std.specs.List.{All, list_all};
+ghost use Rattle.rs_text.specs.Bytes.{is_blank, is_digit, is_word_byte};
+ghost use Rattle.rs_text.specs.Lexemes.{Lexeme, Lexed, is_last, next_lexeme, signs_of};
 ghost use Rattle.rs_text.specs.Names.{place_of, is_among, grown, StandsFirst};
-ghost use Rattle.rs_text.specs.Signs.{plain, number, finish};
+ghost use Rattle.rs_text.specs.Signs.{Sign, finish, number, plain, word_sign};
 ghost use Rattle.rs_text.specs.Sound.{differ};
 ghost use Rattle.rs_text.specs.Tokens.{AreTokens, IsNext, IsToken, IsWithin};
-ghost use Rattle.rs_text.specs.Words.{begins, is_role_word};
+ghost use Rattle.rs_text.specs.Words.{begins, is_role_word, is_word};
+ghost use Rattle.rs_text.specs.Writing.{IsWritten};
 
 /// What is cut off from the front of a text is its next token, and nothing else is.
 pub fn next_token_is_next()
@@ -48,6 +49,31 @@ pub fn end_comes_again()
 /// A number that is written in decimal is read as that number, where no digit stands behind it.
 pub fn decimal_is_a_number()
     ensures { (n : ℕ) (behind : List ℕ) → n ≤ 4294967295 → begins is_digit behind ≡ false → IsToken (number n) (decimal n) behind }
+{}
+
+/// A word is a token where no byte of a word stands behind it.
+pub fn word_is_a_token()
+    ensures { (text behind : List ℕ) → is_word text ≡ true → begins is_word_byte behind ≡ false → IsToken (word_sign text) text behind }
+{}
+
+/// A text that is written for some tokens is cut into these, before whatever tokens stand behind it.
+pub fn written_text_is_lexed()
+    ensures { (bytes : List ℕ) (at : ℕ) (signs : List Sign) (text behind : List ℕ) (others : List Lexeme) → drop at bytes ≡ text ++ behind → IsWritten signs text behind → Lexed bytes (at + length text) others → (lexemes : List Lexeme) × (signs_of lexemes ≡ signs) × All (λ l. (at ≤ l.from) × (l.until ≤ at + length text)) lexemes × Lexed bytes at (lexemes ++ others) }
+{}
+
+/// One token is written by its text ..
+pub fn token_is_written()
+    ensures { (sign : Sign) (text behind : List ℕ) → IsToken sign text behind → is_last sign ≡ false → IsWritten (sign ∷ []) text behind }
+{}
+
+/// .. a blank is written for none ..
+pub fn blank_is_written()
+    ensures { (byte : ℕ) (behind : List ℕ) → is_blank byte ≡ true → IsWritten [] (byte ∷ []) behind }
+{}
+
+/// .. and two texts, one behind the other, are written for the tokens of both.
+pub fn written_texts_join()
+    ensures { (signs others : List Sign) (text more behind : List ℕ) → IsWritten signs text (more ++ behind) → IsWritten others more behind → IsWritten (signs ++ others) (text ++ more) behind }
 {}
 
 /// The place of a name is the first at which it stands ..

@@ -1,0 +1,32 @@
+// What printed protocols say. The functions do nothing: each states a law.
+ghost use Rattle.std.specs.Prelude.{◌≡◌, ◌≤◌, ◌+◌, ◌++◌, ℕ, List, drop, length, true};
+ghost use Rattle.rs_text.specs.Lexemes.{next_lexeme};
+ghost use Rattle.rs_text.specs.Words.{is_role_word};
+ghost use Rattle.rs_text.specs.Writing.{IsWritten};
+ghost use Rattle.rs_global.specs.Canonical.{name_of_node};
+ghost use Rattle.rs_global.specs.Graph.{graph_of, names_of};
+ghost use Rattle.rs_global.specs.Spells.{Fits, SpellsProtocol};
+ghost use Rattle.rs_global.specs.Texts.{protocol_text};
+ghost use Rattle.rs_global.specs.Trees.{ProtocolTree, ends_a_name, ends_by_name, protocol_signs};
+ghost use Rattle.rs_global.specs.Writable.{AreWords};
+
+/// The text of a tree is written for its tokens, whatever stands behind it.
+pub fn text_of_a_tree_is_written()
+    ensures { (tree : ProtocolTree) (behind : List ℕ) → AreWords tree → IsWritten (protocol_signs tree) (protocol_text tree) behind }
+{}
+
+/// Where the text of a tree stands, the tree is spelt, as far as the next token. That is no arrow and not faulty, where
+/// a recursion name ends the tree.
+pub fn text_of_a_tree_spells_it()
+    ensures { (bytes : List ℕ) (at : ℕ) (tree : ProtocolTree) (behind : List ℕ) → AreWords tree → Fits tree → drop at bytes ≡ protocol_text tree ++ behind → (ends_by_name tree.body ≡ true → ends_a_name (next_lexeme bytes (at + length (protocol_text tree))).sign ≡ true) → SpellsProtocol bytes at (names_of tree) (graph_of tree) (next_lexeme bytes (at + length (protocol_text tree))).from }
+{}
+
+/// A text that is the tree's alone spells it as far as its end.
+pub fn lone_text_of_a_tree_spells_it()
+    ensures { (tree : ProtocolTree) → AreWords tree → Fits tree → SpellsProtocol (protocol_text tree) 0 (names_of tree) (graph_of tree) (length (protocol_text tree)) }
+{}
+
+/// The name of a node can be a recursion name.
+pub fn node_name_is_a_word()
+    ensures { (n : ℕ) → n ≤ 1024 → is_role_word (name_of_node n) ≡ true }
+{}
