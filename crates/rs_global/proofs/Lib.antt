@@ -21,5 +21,6 @@ pub mod SpeltLaws
 pub mod CanonForms
 pub mod Existence
 pub mod CanonOne
+pub mod CanonSame
 pub mod PrintedTrees
 pub mod NodeNames
