@@ -22,5 +22,6 @@ pub mod CanonForms
 pub mod Existence
 pub mod CanonOne
 pub mod CanonSame
+pub mod CanonNest
 pub mod PrintedTrees
 pub mod NodeNames
