@@ -23,5 +23,6 @@ pub mod Existence
 pub mod CanonOne
 pub mod CanonSame
 pub mod CanonNest
+pub mod CanonNumbers
 pub mod PrintedTrees
 pub mod NodeNames
