@@ -24,5 +24,6 @@ pub mod CanonOne
 pub mod CanonSame
 pub mod CanonNest
 pub mod CanonNumbers
+pub mod CanonWhole
 pub mod PrintedTrees
 pub mod NodeNames

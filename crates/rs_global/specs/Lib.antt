@@ -11,3 +11,4 @@ pub mod Examples
 pub mod Texts
 pub mod Canonical
 pub mod Writable
+pub mod Enough
