@@ -18,9 +18,15 @@ pub mod SpeltTrees
 pub mod SpeltCuts
 pub mod SpeltRuns
 pub mod SpeltLaws
+pub mod CanonForms
+pub mod Existence
+pub mod CanonOne
+pub mod CanonSame
+pub mod CanonNest
+pub mod CanonNumbers
+pub mod CanonWhole
 pub mod PrintedTrees
 pub mod NodeNames
 pub mod Printed
 pub mod BackFlags
 pub mod EndsLast
-pub mod Existence

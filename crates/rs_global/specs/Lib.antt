@@ -11,4 +11,5 @@ pub mod Examples
 pub mod Texts
 pub mod Canonical
 pub mod Writable
+pub mod Enough
 pub mod Printing

@@ -10,10 +10,6 @@ use Rattle.rs_global.specs.declared.printing.Target.{Target}
 use Rattle.rs_global.specs.Canonical.{name_of_node, shown_sort, IsGoneBackTo}
 use Rattle.rs_global.specs.Texts.{arm_text}
 
--- each label of the protocol has a name
-abbrev pub AreNamed : Names_data → Protocol_data → Type 0
-AreNamed names protocol = (n place : ℕ) (sender receiver : Role) (arms : List Arm) (arm : Arm) → slice_get protocol.nodes n ≡ Some (Talk sender receiver arms) → slice_get arms place ≡ Some arm → arm.label.0 < length names.labels
-
 -- ---- which talks are gone back to
 
 -- with a flag at each node that an arm of this node leads to, where it isn't behind the node

@@ -1,6 +1,7 @@
 //! The reader of protocols with choice and recursion.
 #![tactic(auto)]
 
+pub mod canonical_laws;
 mod drafts;
 pub mod fault_laws;
 pub mod laws;

@@ -2,8 +2,9 @@ ghost use Rattle.std.specs.Prelude.{◌≡◌, ◌<◌, ◌^◌, ◌+◌, ◌++�
 ghost use Rattle.std.specs.Fmt.{decimal};
 ghost use Rattle.rs_text.specs.Sound.{IsSound};
 ghost use Rattle.rs_global.specs.Canonical.{IsCanonicalText, IsTextShaped, Draws, name_of_node, shown_sort};
+ghost use Rattle.rs_global.specs.Enough.{AreEnough};
 ghost use Rattle.rs_global.specs.Printing as spec;
-ghost use Rattle.rs_global.specs.Printing.{AreBack, AreNamed, Step, marked, marked_all, named, pair_text, head_text, rec_text, node_step, talk_step, whole_step, arms_step, brace_step};
+ghost use Rattle.rs_global.specs.Printing.{AreBack, Step, marked, marked_all, named, pair_text, head_text, rec_text, node_step, talk_step, whole_step, arms_step, brace_step};
 ghost use Rattle.rs_global.specs.Texts.{body_text, names_text, shown_text};
 ghost use Rattle.rs_global.specs.Trees.{Body};
 
@@ -359,8 +360,7 @@ fn body(alloc: Global, names: &Names, protocol: &Protocol, text: Text) -> Result
 pub fn print_protocol(alloc: Global, names: &Names, protocol: &Protocol) -> Result<Text, NoMemory>
     requires shaped { IsTextShaped protocol.now }
     requires sound { IsSound names.now }
-    requires roles { length names.now.roles ≡ protocol.now.roles }
-    requires labels { AreNamed names.now protocol.now }
+    requires enough { AreEnough names.now protocol.now }
     ensures canonical { IfOk result (λ text. IsCanonicalText names.now protocol.now text) }
 {
     let mut text = Text::new(alloc);

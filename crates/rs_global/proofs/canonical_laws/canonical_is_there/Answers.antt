@@ -1,0 +1,5 @@
+use Rattle.rs_global.proofs.Existence as proof
+use Rattle.rs_global.proofs.canonical_laws.canonical_is_there.Goals as goal
+
+pub returns : goal.returns
+returns c = proof.canonical_is_there

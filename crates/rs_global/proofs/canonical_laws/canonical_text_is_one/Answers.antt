@@ -1,0 +1,5 @@
+use Rattle.rs_global.proofs.CanonOne as proof
+use Rattle.rs_global.proofs.canonical_laws.canonical_text_is_one.Goals as goal
+
+pub returns : goal.returns
+returns c = proof.canonical_text_is_one
