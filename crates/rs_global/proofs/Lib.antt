@@ -30,3 +30,4 @@ pub mod NodeNames
 pub mod Printed
 pub mod BackFlags
 pub mod EndsLast
+pub mod EnoughNames
