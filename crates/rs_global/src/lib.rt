@@ -7,6 +7,8 @@ pub mod fault_laws;
 pub mod laws;
 mod printing;
 pub mod printing_laws;
+#[cfg(test)]
+mod printing_tests;
 mod protocols;
 mod reading;
 pub mod spelling_laws;
