@@ -7,8 +7,7 @@ use Rattle.rs_model.specs.Data.{Protocol_data, Names_data}
 use Rattle.rs_model.specs.declared.graph.Arm.{Arm}
 use Rattle.rs_model.specs.declared.graph.Node.{Node}
 use Rattle.rs_model.specs.declared.graph.Node.TheVariants.{Finished, Talk}
-use Rattle.rs_model.specs.declared.graph.Role.{Role}
-use Rattle.rs_text.specs.Names.{Bound, grown, is_among, number_or, place_of}
+use Rattle.rs_text.specs.Names.{Bound, grown, is_among, place_of}
 use Rattle.rs_text.proofs.Gaps.{true_or_false}
 use Rattle.rs_text.proofs.Naming.{among, grown_stays, not_among, place_of_new}
 use Rattle.rs_text.proofs.Numbers.{place_below}

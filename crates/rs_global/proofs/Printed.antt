@@ -9,8 +9,8 @@ use Rattle.rs_model.specs.declared.graph.Role.{Role}
 use Rattle.rs_model.specs.declared.values.Sort.{Sort}
 use Rattle.rs_text.proofs.Gaps.{true_or_false}
 use Rattle.rs_global.specs.declared.printing.Target.{Target}
-use Rattle.rs_global.specs.Canonical.{name_of_node, shown_sort, IsGoneBackTo, IsTalkOf, IsArmOf, Draws, DrawsTalk, DrawsArms, IsCanonical, IsCanonicalText}
-use Rattle.rs_global.specs.Printing.{AreBack, named, pair_text, head_text, rec_text, others_text, Step, step, opened, target, Brace_data, arms_step, talk_step, whole_step, node_step, brace_step, Printer_data, printed, turned, turned_by, is_left, begins_with}
+use Rattle.rs_global.specs.Canonical.{name_of_node, IsGoneBackTo, IsTalkOf, IsArmOf, Draws, DrawsTalk, DrawsArms, IsCanonical, IsCanonicalText}
+use Rattle.rs_global.specs.Printing.{AreBack, named, pair_text, head_text, rec_text, others_text, Step, step, opened, target, Brace_data, arms_step, whole_step, node_step, brace_step, Printer_data, turned, turned_by, is_left, begins_with}
 use Rattle.rs_global.specs.Texts.{arm_text, body_text, branches_text, names_text}
 use Rattle.rs_global.specs.Trees.{Body, ends, again, binds, talks, offers, Branches, one, more, ProtocolTree, roles_of}
 

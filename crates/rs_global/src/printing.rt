@@ -32,7 +32,7 @@ impl<'a> Model for Brace<'a> {
 
     ghost Value = { Brace_data };
 
-    ghost view = { λ o. record { from = o.from; arms = o.arms.now } };
+    ghost view = { λ b. record { from = b.from; arms = b.arms.now } };
 }
 
 /// For each node whether an arm of it or of a later one leads to it.

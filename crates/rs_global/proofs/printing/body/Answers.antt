@@ -1,4 +1,4 @@
-use Rattle.std.proofs.Common.{rules, ◌≡◌, ◌<◌, ℕ, List, length, sym, ap, ◌∙◌, subst, arith}
+use Rattle.std.proofs.Common.{rules, ◌≡◌, ◌<◌, length, sym, ap, ◌∙◌, subst, arith}
 use Rattle.rs_global.specs.Printing.{Printer_data, turned}
 use Rattle.rs_global.proofs.BackFlags.{flags_are_back}
 use Rattle.rs_global.proofs.EndsLast.{end_is_last}
