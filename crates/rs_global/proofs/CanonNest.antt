@@ -343,7 +343,7 @@ mutual
 
 -- ---- what fits has few talks and labels
 
-few_labels : (ls : List (List ℕ)) (l : List ℕ) → length ls ≤ 256 → (is_among l ls || nat_lt (length ls) 256) ≡ true → length (grown ls (l ∷ [])) ≤ 256
+pub few_labels : (ls : List (List ℕ)) (l : List ℕ) → length ls ≤ 256 → (is_among l ls || nat_lt (length ls) 256) ≡ true → length (grown ls (l ∷ [])) ≤ 256
 few_labels ls l few h = elim (true_or_false (is_among l ls)) [
   | inl e ↦ rw e few
   | inr e ↦ (let g : length ls < 256 = ltb-true (length ls) 256 (rw e at h) in let k : length (ls ++ l ∷ []) ≡ length ls + 1 = length-append ls (l ∷ []) in rw e (omega arith))

@@ -25,5 +25,6 @@ pub mod CanonSame
 pub mod CanonNest
 pub mod CanonNumbers
 pub mod CanonWhole
+pub mod ShapeGoes
 pub mod PrintedTrees
 pub mod NodeNames

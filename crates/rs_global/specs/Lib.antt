@@ -12,3 +12,4 @@ pub mod Texts
 pub mod Canonical
 pub mod Writable
 pub mod Enough
+pub mod Shapes

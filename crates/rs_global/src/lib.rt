@@ -6,6 +6,7 @@ mod drafts;
 pub mod fault_laws;
 pub mod laws;
 pub mod printing_laws;
+mod shapes;
 mod protocols;
 mod reading;
 pub mod spelling_laws;
@@ -13,3 +14,4 @@ pub mod spelling_laws;
 mod tests;
 
 pub use protocols::read_protocol;
+pub use shapes::text_shaped;

@@ -1,3 +1,4 @@
+use Rattle.rs_global.proofs.ShapeGoes.{goes}
 use Rattle.rs_global.proofs.Existence as proof
 use Rattle.rs_global.proofs.canonical_laws.canonical_is_there.Goals as goal
 

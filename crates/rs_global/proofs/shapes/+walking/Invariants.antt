@@ -1,0 +1,16 @@
+use Rattle.std.proofs.Common.{◌≡◌, ◌+◌, ◌*◌, drop}
+use Rattle.rs_global.specs.Shapes as spec
+use Rattle.rs_global.proofs.shapes.+walking.Given as goal
+
+abbrev pub decreases-visited : goal.decreases-visited
+decreases-visited l = l.fuel * 3
+
+abbrev pub decreases-met : goal.decreases-met
+decreases-met l = l.fuel * 3 + 1
+
+abbrev pub decreases-arms_met : goal.decreases-arms_met
+decreases-arms_met l = l.fuel * 3 + 2
+
+abbrev pub invariant-arms_met-loop-arm : goal.invariant-arms_met-loop-arm
+invariant-arms_met-loop-arm l =
+    spec.arms_met (spec.visited l.fuel l.protocol l.depth) (spec.last_of l.protocol.nodes) l.from (drop l.arm-index l.arms) l.walk ≡ spec.arms_met (spec.visited l.fuel l.protocol l.depth) (spec.last_of l.protocol.nodes) l.from l.fn.arms l.fn.walk
