@@ -107,4 +107,4 @@ begin = record { count = 0; labels = 0; ended = false }
 
 -- whether some text reads to the protocol
 abbrev pub is_shaped : Protocol_data → Bool
-is_shaped p = nat_le 2 p.roles && nat_le p.roles 16 && nat_le (last_of p.nodes) 1024 && is_whole p (met (visited 1025 p 0) (last_of p.nodes) 0 p.root begin)
+is_shaped p = nat_le 2 p.roles && nat_le p.roles 16 && nat_le (last_of p.nodes) 1024 && is_whole p (met (visited (suc (last_of p.nodes)) p 0) (last_of p.nodes) 0 p.root begin)

@@ -2,8 +2,9 @@ ghost use Rattle.std.specs.Prelude.{◌≡◌, ◌≤◌, ◌<◌, length, Some,
 ghost use Rattle.std.specs.List.{list_any};
 ghost use Rattle.rs_global.specs.Shapes as spec;
 ghost use Rattle.rs_global.specs.Canonical.{IsTextShaped};
+ghost use Rattle.rs_model.specs.declared.graph.Node.TheVariants as node;
 
-use rs_model::{Arm, Node, Protocol, Role};
+use rs_model::{Arm, Arms, Node, Protocol, Role};
 
 /// What a walk over the talks has met so far.
 #[derive(Clone, Copy)]
@@ -20,8 +21,7 @@ pub struct Walk {
 pub fn text_shaped(protocol: &Protocol) -> bool
     ensures { result ≡ spec.is_shaped protocol.now }
 {
-    let nodes = protocol.nodes.as_slice();
-    let last = last_of(nodes);
+    let last = last_of(protocol.nodes.as_slice());
     if protocol.roles < 2 || protocol.roles > 16 || last > 1024 {
         return false;
     }
@@ -30,10 +30,24 @@ pub fn text_shaped(protocol: &Protocol) -> bool
         labels: 0,
         ended: false,
     };
-    match met(protocol, 1025, 0, 0, protocol.root, begin) {
-        Some(walk) => walk.count as usize == last && walk.ended == ends_last(nodes),
+    is_whole(protocol, met(protocol, last as u32 + 1, 0, 0, protocol.root, begin))
+}
+
+/// Whether all talks were met, and an end where there is one.
+fn is_whole(protocol: &Protocol, walk: Option<Walk>) -> bool
+    ensures { result ≡ spec.is_whole protocol.now walk }
+{
+    let nodes = protocol.nodes.as_slice();
+    match walk {
+        Some(walk) => walk.count as usize == last_of(nodes) && same_bool(walk.ended, ends_last(nodes)),
         None => false,
     }
+}
+
+fn same_bool(a: bool, b: bool) -> bool
+    ensures { result ≡ spec.same_bool a b }
+{
+    if a { b } else { !b }
 }
 
 fn ends_last(nodes: &[Node]) -> bool
@@ -127,7 +141,7 @@ fn is_fit(roles: u8, nesting: u32, sender: Role, receiver: Role, arms: &[Arm]) -
 fn met(protocol: &Protocol, fuel: u32, depth: u32, from: u32, next: u32, walk: Walk) -> Option<Walk>
     requires shallow { depth ≤ 200 }
     requires few { length protocol.now.nodes ≤ 1025 }
-    requires fuelled { fuel ≤ 1025 }
+    requires fuelled { fuel ≤ 1026 }
     ensures { result ≡ spec.met (spec.visited fuel protocol.now depth) (spec.last_of protocol.now.nodes) from next walk }
 {
     let last = last_of(protocol.nodes.as_slice());
@@ -156,7 +170,7 @@ fn arms_met(
 ) -> Option<Walk>
     requires shallow { depth ≤ 200 }
     requires few { length protocol.now.nodes ≤ 1025 }
-    requires fuelled { fuel ≤ 1025 }
+    requires fuelled { fuel ≤ 1026 }
     ensures { result ≡ spec.arms_met (spec.visited fuel protocol.now depth) (spec.last_of protocol.now.nodes) from arms.now walk }
 {
     let mut walk = walk;
@@ -167,34 +181,88 @@ fn arms_met(
     Some(walk)
 }
 
-/// Talk `n` and what stands behind its arms.
+/// No later arm leads back to talk `n`.
+fn closed(nodes: &[Node], n: u32, walk: Walk) -> Option<Walk>
+    ensures { result ≡ spec.closed nodes.now n walk }
+{
+    if leads_from(nodes, walk.count, n) {
+        None
+    } else {
+        Some(walk)
+    }
+}
+
 #[cycle(walking)]
-fn visited(protocol: &Protocol, fuel: u32, depth: u32, n: u32, walk: Walk) -> Option<Walk>
+fn talk_met(
+    protocol: &Protocol,
+    fuel: u32,
+    depth: u32,
+    n: u32,
+    walk: Walk,
+    sender: Role,
+    receiver: Role,
+    arms: &Arms,
+) -> Option<Walk>
     requires shallow { depth ≤ 200 }
     requires few { length protocol.now.nodes ≤ 1025 }
-    requires fuelled { fuel ≤ 1025 }
+    requires fuelled { fuel ≤ 1026 }
     requires counted { walk.count ≤ 1025 }
-    ensures { result ≡ spec.visited fuel protocol.now depth n walk }
+    requires there { n < 1025 }
+    ensures { result ≡ spec.talk_met (λ inner next v. spec.visited fuel protocol.now inner next v) protocol.now depth n walk (Some (node.Talk sender receiver arms.now)) }
 {
-    if fuel == 0 {
-        return None;
-    }
     let nodes = protocol.nodes.as_slice();
-    let Some(Node::Talk { sender, receiver, arms }) = nodes.get(n as usize) else {
-        return None;
-    };
     let inner = nested(nodes, depth, n, arms.as_slice());
-    if !is_fit(protocol.roles, inner, *sender, *receiver, arms.as_slice()) {
+    if !is_fit(protocol.roles, inner, sender, receiver, arms.as_slice()) {
         return None;
     }
     let begin = Walk {
         count: walk.count + 1,
         ..walk
     };
-    let walk = arms_met(protocol, fuel - 1, inner, n + 1, arms.as_slice(), begin)?;
-    if leads_from(nodes, walk.count, n) {
-        None
-    } else {
-        Some(walk)
+    let walk = arms_met(protocol, fuel, inner, n + 1, arms.as_slice(), begin)?;
+    closed(nodes, n, walk)
+}
+
+#[cycle(walking)]
+fn node_met(
+    protocol: &Protocol,
+    fuel: u32,
+    depth: u32,
+    n: u32,
+    walk: Walk,
+    node: &Node,
+) -> Option<Walk>
+    requires shallow { depth ≤ 200 }
+    requires few { length protocol.now.nodes ≤ 1025 }
+    requires fuelled { fuel ≤ 1026 }
+    requires counted { walk.count ≤ 1025 }
+    requires there { n < 1025 }
+    ensures { result ≡ spec.talk_met (λ inner next v. spec.visited fuel protocol.now inner next v) protocol.now depth n walk (Some node.now) }
+{
+    match node {
+        Node::Finished => None,
+        Node::Talk {
+            sender,
+            receiver,
+            arms,
+        } => talk_met(protocol, fuel, depth, n, walk, *sender, *receiver, arms),
+    }
+}
+
+/// Talk `n` and what stands behind its arms.
+#[cycle(walking)]
+fn visited(protocol: &Protocol, fuel: u32, depth: u32, n: u32, walk: Walk) -> Option<Walk>
+    requires shallow { depth ≤ 200 }
+    requires few { length protocol.now.nodes ≤ 1025 }
+    requires fuelled { fuel ≤ 1026 }
+    requires counted { walk.count ≤ 1025 }
+    ensures { result ≡ spec.visited fuel protocol.now depth n walk }
+{
+    if fuel == 0 {
+        return None;
+    }
+    match protocol.nodes.as_slice().get(n as usize) {
+        Some(node) => node_met(protocol, fuel - 1, depth, n, walk, node),
+        None => None,
     }
 }
