@@ -29,5 +29,6 @@ pub mod ShapeSteps
 pub mod ShapeGoes
 pub mod PlainNames
 pub mod ShapeGrown
+pub mod ShapeWhole
 pub mod PrintedTrees
 pub mod NodeNames

@@ -19,6 +19,13 @@ pub struct Walk {
 /// numbered in order of their first places, and roles, talks, labels and the nesting of the canonical text are within
 /// their limits.
 pub fn text_shaped(protocol: &Protocol) -> bool
+    ensures { IsTrue result ↔ IsTextShaped protocol.now }
+{
+    is_shaped(protocol)
+}
+
+/// Whether a walk over the talks in order of text meets them all.
+fn is_shaped(protocol: &Protocol) -> bool
     ensures { result ≡ spec.is_shaped protocol.now }
 {
     let last = last_of(protocol.nodes.as_slice());

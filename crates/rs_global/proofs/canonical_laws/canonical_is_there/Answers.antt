@@ -1,6 +1,3 @@
-use Rattle.rs_global.proofs.ShapeGrown.{Grown}
-use Rattle.rs_global.proofs.PlainNames.{plain_all}
-use Rattle.rs_global.proofs.ShapeGoes.{goes}
 use Rattle.rs_global.proofs.Existence as proof
 use Rattle.rs_global.proofs.canonical_laws.canonical_is_there.Goals as goal
 
