@@ -16,6 +16,7 @@ use Rattle.rs_global.specs.Graph.{talks_in, Numbering, role_of, label_of}
 use Rattle.rs_global.specs.Scenes.{Scene, with_label, in_talk, in_braces, in_rec, behind}
 use Rattle.rs_global.specs.Spells.{is_guarded, body_fits, arms_fit}
 use Rattle.rs_global.specs.Canonical.{name_of_node, shown_sort, IsGoneBackTo}
+use Rattle.rs_global.specs.Shapes.{leads_to, talk_leads, leads_from}
 
 -- ---- what stands in a list
 
@@ -54,16 +55,9 @@ seam A (y ∷ pre) x post = seam A pre x post
 
 -- ---- going back
 
-abbrev pub leads_to : ℕ → Arm → Bool
-leads_to k a = a.next == k
-
-abbrev pub talk_leads : ℕ → Node → Bool
-talk_leads k Finished = false
-talk_leads k (Talk s r arms) = list_any (leads_to k) arms
-
 -- whether an arm of the talk k or a later one leads to k
 abbrev pub goes_back : List Node → ℕ → Bool
-goes_back nodes k = list_any (talk_leads k) (drop k nodes)
+goes_back nodes k = leads_from nodes k k
 
 talk_back : (p : Protocol_data) (n i : ℕ) (node : Node) → n ≤ i → slice_get p.nodes i ≡ Some node → talk_leads n node ≡ true → IsGoneBackTo p n
 talk_back p n i Finished le e h = absurd (cc h)

@@ -17,6 +17,7 @@ use Rattle.rs_global.specs.Graph.{labels_of, labels_of_arms, talks_in, talks_in_
 use Rattle.rs_global.specs.Scenes.{Scene, with_label, in_talk, in_braces, in_rec, behind}
 use Rattle.rs_global.specs.Spells.{is_guarded, has_room_for, body_fits, arms_fit}
 use Rattle.rs_global.specs.Canonical.{name_of_node, IsGoneBackTo}
+use Rattle.rs_global.specs.Shapes.{deeper}
 use Rattle.rs_global.proofs.CanonForms.{goes_back, Writing, role_as, label_as, sort_as, wrapped, offered, canon, canon_arms, Named, NamedArms, Low, low_rec, low_up, both}
 use Rattle.rs_global.proofs.CanonSame.{Leads, Fine, FineArms, Inv, InvAll, inv_rec, inv_talk, inv_all, opened_for, canon_talks, canon_labels}
 use Rattle.rs_global.proofs.Existence.{nodes_length}
@@ -215,16 +216,11 @@ tree_recs m p t c e last named back is =
 abbrev pub scene : List (List ℕ) → Bound → (depth count : ℕ) → List (List ℕ) → Scene
 scene roles bound depth count labels = record { roles = roles; bound = bound; depth = depth; talks = count; labels = labels }
 
--- one more where there is a rec
-abbrev pub deeper : Bool → ℕ → ℕ
-deeper true d = suc d
-deeper false d = d
-
 deeper_within : (c here : Bool) (inner d : ℕ) → (c ≡ true → here ≡ true) → inner ≤ d → (here ≡ true → inner < d) → deeper c inner ≤ d
 deeper_within true here inner d f le lt = let h = lt (f refl) in omega arith
 deeper_within false here inner d f le lt = le
 
-all_true : (a b : Bool) → a ≡ true → b ≡ true → (a && b) ≡ true
+pub all_true : (a b : Bool) → a ≡ true → b ≡ true → (a && b) ≡ true
 all_true true b h k = k
 all_true false b h k = absurd (cc h)
 
@@ -241,7 +237,7 @@ room ls l rest h = elim (true_or_false (is_among l ls)) [
   | inr e ↦ (let g = rw e at h in let m = grown_longer rest (ls ++ l ∷ []) in let k : length (ls ++ l ∷ []) ≡ length ls + 1 = length-append ls (l ∷ []) in rw e (lt-ltb (length ls) 256 (omega arith)))
 ]
 
-wrapped_fits : (c : Bool) (k : ℕ) (b : Body) (roles : List (List ℕ)) (named : Bound) (d : ℕ) (ls : List (List ℕ)) → (c ≡ true → d < 200) → body_fits b (scene roles (opened_for c k named) (deeper c d) k ls) ≡ true → body_fits (wrapped c k b) (scene roles named d k ls) ≡ true
+pub wrapped_fits : (c : Bool) (k : ℕ) (b : Body) (roles : List (List ℕ)) (named : Bound) (d : ℕ) (ls : List (List ℕ)) → (c ≡ true → d < 200) → body_fits b (scene roles (opened_for c k named) (deeper c d) k ls) ≡ true → body_fits (wrapped c k b) (scene roles named d k ls) ≡ true
 wrapped_fits true k b roles named d ls lt h = all_true (nat_lt d 200) (body_fits b (scene roles ((name_of_node k, k) ∷ named) (suc d) k ls)) (lt-ltb d 200 (lt refl)) h
 wrapped_fits false k b roles named d ls lt h = h
 
@@ -343,7 +339,7 @@ mutual
 
 -- ---- what fits has few talks and labels
 
-few_labels : (ls : List (List ℕ)) (l : List ℕ) → length ls ≤ 256 → (is_among l ls || nat_lt (length ls) 256) ≡ true → length (grown ls (l ∷ [])) ≤ 256
+pub few_labels : (ls : List (List ℕ)) (l : List ℕ) → length ls ≤ 256 → (is_among l ls || nat_lt (length ls) 256) ≡ true → length (grown ls (l ∷ [])) ≤ 256
 few_labels ls l few h = elim (true_or_false (is_among l ls)) [
   | inl e ↦ rw e few
   | inr e ↦ (let g : length ls < 256 = ltb-true (length ls) 256 (rw e at h) in let k : length (ls ++ l ∷ []) ≡ length ls + 1 = length-append ls (l ∷ []) in rw e (omega arith))

@@ -96,11 +96,11 @@ inv_all back bound named k low inv x m e b = let lt : m < k + 1 = low x m e in i
 
 -- ---- counts and shapes
 
-wrapped_talks : (c : Bool) (k : ℕ) (b : Body) → talks_in (wrapped c k b) ≡ talks_in b
+pub wrapped_talks : (c : Bool) (k : ℕ) (b : Body) → talks_in (wrapped c k b) ≡ talks_in b
 wrapped_talks true k b = refl
 wrapped_talks false k b = refl
 
-offered_talks : (s r : List ℕ) (arms : Branches) → talks_in (offered s r arms) ≡ suc (talks_in_arms arms)
+pub offered_talks : (s r : List ℕ) (arms : Branches) → talks_in (offered s r arms) ≡ suc (talks_in_arms arms)
 offered_talks s r (one l sort b) = refl
 offered_talks s r (more l sort b arms) = refl
 
@@ -116,11 +116,11 @@ mutual
   canon_arms_talks w (one l sort b) bound k = canon_talks w b bound k
   canon_arms_talks w (more l sort b arms) bound k = ap (λ z. z + talks_in_arms (canon_arms w arms bound (k + talks_in b))) (canon_talks w b bound k) ∙ ap (λ z. talks_in b + z) (canon_arms_talks w arms bound (k + talks_in b))
 
-wrapped_end : (c : Bool) (k : ℕ) (b : Body) → has_end (wrapped c k b) ≡ has_end b
+pub wrapped_end : (c : Bool) (k : ℕ) (b : Body) → has_end (wrapped c k b) ≡ has_end b
 wrapped_end true k b = refl
 wrapped_end false k b = refl
 
-offered_end : (s r : List ℕ) (arms : Branches) → has_end (offered s r arms) ≡ has_end_arms arms
+pub offered_end : (s r : List ℕ) (arms : Branches) → has_end (offered s r arms) ≡ has_end_arms arms
 offered_end s r (one l sort b) = refl
 offered_end s r (more l sort b arms) = refl
 
@@ -136,11 +136,11 @@ mutual
   canon_arms_end w (one l sort b) bound k = canon_end w b bound k
   canon_arms_end w (more l sort b arms) bound k = ap (λ z. z || has_end_arms (canon_arms w arms bound (k + talks_in b))) (canon_end w b bound k) ∙ ap (λ z. has_end b || z) (canon_arms_end w arms bound (k + talks_in b))
 
-wrapped_labels : (c : Bool) (k : ℕ) (b : Body) → labels_of (wrapped c k b) ≡ labels_of b
+pub wrapped_labels : (c : Bool) (k : ℕ) (b : Body) → labels_of (wrapped c k b) ≡ labels_of b
 wrapped_labels true k b = refl
 wrapped_labels false k b = refl
 
-offered_labels : (s r : List ℕ) (arms : Branches) → labels_of (offered s r arms) ≡ labels_of_arms arms
+pub offered_labels : (s r : List ℕ) (arms : Branches) → labels_of (offered s r arms) ≡ labels_of_arms arms
 offered_labels s r (one l sort b) = refl
 offered_labels s r (more l sort b arms) = refl
 
@@ -161,23 +161,23 @@ mutual
 
 -- ---- the same graph
 
-wrapped_nodes : (m : Numbering) (c : Bool) (k : ℕ) (b : Body) (named : Bound) → nodes_of m (wrapped c k b) named k ≡ nodes_of m b (opened_for c k named) k
+pub wrapped_nodes : (m : Numbering) (c : Bool) (k : ℕ) (b : Body) (named : Bound) → nodes_of m (wrapped c k b) named k ≡ nodes_of m b (opened_for c k named) k
 wrapped_nodes m true k b named = refl
 wrapped_nodes m false k b named = refl
 
-wrapped_first : (last : ℕ) (c : Bool) (k : ℕ) (b : Body) (named : Bound) → first_node (wrapped c k b) named k last ≡ first_node b (opened_for c k named) k last
+pub wrapped_first : (last : ℕ) (c : Bool) (k : ℕ) (b : Body) (named : Bound) → first_node (wrapped c k b) named k last ≡ first_node b (opened_for c k named) k last
 wrapped_first last true k b named = refl
 wrapped_first last false k b named = refl
 
-offered_nodes : (m : Numbering) (s r : List ℕ) (arms : Branches) (named : Bound) (k : ℕ) → nodes_of m (offered s r arms) named k ≡ nodes_of m (offers s r arms) named k
+pub offered_nodes : (m : Numbering) (s r : List ℕ) (arms : Branches) (named : Bound) (k : ℕ) → nodes_of m (offered s r arms) named k ≡ nodes_of m (offers s r arms) named k
 offered_nodes m s r (one l sort b) named k = refl
 offered_nodes m s r (more l sort b arms) named k = refl
 
-offered_first : (last : ℕ) (s r : List ℕ) (arms : Branches) (named : Bound) (k : ℕ) → first_node (offered s r arms) named k last ≡ k
+pub offered_first : (last : ℕ) (s r : List ℕ) (arms : Branches) (named : Bound) (k : ℕ) → first_node (offered s r arms) named k last ≡ k
 offered_first last s r (one l sort b) named k = refl
 offered_first last s r (more l sort b arms) named k = refl
 
-sort_same : (s : Sort) → sort_or_unit (shown_sort s) ≡ s
+pub sort_same : (s : Sort) → sort_or_unit (shown_sort s) ≡ s
 sort_same sort.Unit = refl
 sort_same sort.Flag = refl
 sort_same sort.Natural = refl

@@ -112,7 +112,7 @@ below_all : (found : Option ℕ) (n : ℕ) → ((m : ℕ) → found ≡ Some m �
 below_all None n f = omega arith
 below_all (Some m) n f = let lt : m < n + 1 = f m refl in omega arith
 
-one_words : (c : Bool) (k : ℕ) (b : Body) → k ≤ 1024 → AreWordsIn b → AreWordsIn (wrapped c k b)
+pub one_words : (c : Bool) (k : ℕ) (b : Body) → k ≤ 1024 → AreWordsIn b → AreWordsIn (wrapped c k b)
 one_words true k b small h = (node_name_law k small, h)
 one_words false k b small h = h
 

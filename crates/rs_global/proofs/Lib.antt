@@ -25,6 +25,11 @@ pub mod CanonSame
 pub mod CanonNest
 pub mod CanonNumbers
 pub mod CanonWhole
+pub mod ShapeSteps
+pub mod ShapeGoes
+pub mod PlainNames
+pub mod ShapeGrown
+pub mod ShapeWhole
 pub mod PrintedTrees
 pub mod NodeNames
 pub mod Printed

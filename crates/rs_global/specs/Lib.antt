@@ -13,3 +13,4 @@ pub mod Canonical
 pub mod Writable
 pub mod Enough
 pub mod Printing
+pub mod Shapes

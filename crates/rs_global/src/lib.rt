@@ -1,4 +1,4 @@
-//! The reader of protocols with choice and recursion.
+//! The reader and the printer of protocols with choice and recursion.
 #![tactic(auto)]
 
 pub mod canonical_laws;
@@ -11,9 +11,11 @@ pub mod printing_laws;
 mod printing_tests;
 mod protocols;
 mod reading;
+mod shapes;
 pub mod spelling_laws;
 #[cfg(test)]
 mod tests;
 
 pub use printing::print_protocol;
 pub use protocols::read_protocol;
+pub use shapes::text_shaped;
