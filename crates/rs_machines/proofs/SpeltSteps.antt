@@ -1,0 +1,180 @@
+-- What the tokens of a body lead the reader to: where the body fits to this state and no other, else to a fault.
+use Rattle.std.proofs.Common.{◌≡◌, ℕ, suc, ◌+◌, List, [], ◌∷◌, ◌++◌, length, Bool, true, false, ◌&&◌, ◌||◌, if◌then◌else◌, nat_le, nat_lt, Option, Some, None, Ok, Err, refl, sym, ap, ◌∙◌, subst, arith, length-append, slice_get}
+use Rattle.std.proofs.lemmas.List.{length-set}
+use Rattle.std.proofs.lemmas.Option.{slice_get_read}
+use Rattle.std.proofs.lemmas.Bool.{le-ltb, lt-ltb, leb-true, leb-false}
+use Rattle.std.proofs.Math.Seq.{get_or-append_seam, set-append_seam}
+use Rattle.rs_model.specs.declared.graph.Role.{Role}
+use Rattle.rs_model.specs.declared.graph.Label.{Label}
+use Rattle.rs_model.specs.declared.values.Sort.{Sort}
+use Rattle.rs_model.specs.declared.values.Sort.TheVariants as sort
+use Rattle.rs_text.specs.declared.faults.TextKind.{TextKind}
+use Rattle.rs_text.specs.declared.faults.TextKind.TheVariants as kind
+use Rattle.rs_text.specs.Names.{place_of, grown, Bound, bound_to, number_or}
+use Rattle.rs_text.specs.Signs.{Sign, dot, open_paren, close_paren}
+use Rattle.rs_text.proofs.Naming.{among, not_among, grown_stays, place_of_new}
+use Rattle.rs_text.specs.Arms.{sort_signs, arm_signs, sort_or_unit}
+use Rattle.rs_machines.specs.declared.marks.Mark.{Mark}
+use Rattle.rs_machines.specs.declared.reading.Link.{Link}
+use Rattle.rs_machines.specs.declared.reading.Link.TheVariants as link
+use Rattle.rs_machines.specs.declared.reading.Mode.TheVariants as mode
+use Rattle.rs_machines.specs.declared.drafts.DraftArm.{DraftArm}
+use Rattle.rs_machines.specs.Data.{Reader_data, Draft_data}
+use Rattle.rs_machines.specs.Drafts.{with_arm}
+use Rattle.rs_machines.specs.Trees.{Body, ends, again, binds, acts, offers, Branches, one, more}
+use Rattle.rs_machines.specs.Machines.{acts_in, Numbering, role_of, label_of}
+use Rattle.rs_machines.specs.Spells.{has_room_for}
+use Rattle.rs_machines.specs.Feeding.{Fed, fault, linked_drafts, label_of_number, labelled_by, feed_sign}
+use Rattle.rs_machines.proofs.FaultRuns.{sign_behind, lexeme, label_fed}
+use Rattle.rs_machines.proofs.FaultPlaces.{scene_of}
+
+-- the token is taken and leads to such a reader, or this holds
+abbrev pub Tells : Fed → Type 0 → (Reader_data → Type 0) → Type 0
+Tells (Ok d) N Q = Q d
+Tells (Err e) N Q = N
+
+-- the tokens lead from r to such a reader, or this holds; u is the token behind them
+abbrev pub Exact : List Sign → Sign → Type 0 → (Reader_data → Type 0) → Reader_data → Type 0
+Exact [] u N Q r = Q r
+Exact (t ∷ ts) u N Q r = (at from until : ℕ) → Tells (feed_sign t at (lexeme (sign_behind ts u) from until) r) N (λ d. Exact ts u N Q d)
+
+-- this goes on where the test holds, and else the other thing holds
+abbrev pub Hangs : Bool → Type 0 → Type 0 → Type 0
+Hangs a N K = (a ≡ false → N) × (a ≡ true → K)
+
+pub hangs_first : (a b : Bool) (N K : Type 0) → Hangs (a && b) N K → a ≡ false → N
+hangs_first true b N K h e = cc
+hangs_first false b N K h e = h.0 refl
+
+pub hangs_then : (a b : Bool) (N K : Type 0) → Hangs (a && b) N K → a ≡ true → Hangs b N K
+hangs_then true b N K h e = h
+hangs_then false b N K h e = cc
+
+-- both in turn
+pub hangs_both : (a b : Bool) (N K : Type 0) → Hangs (a && b) N K → Hangs a N (Hangs b N K)
+hangs_both a b N K h = (hangs_first a b N K h, hangs_then a b N K h)
+
+pub tells_if : (c : Bool) (k : TextKind) (at : ℕ) (x : Fed) (N : Type 0) (Q : Reader_data → Type 0) → (c ≡ true → N) → (c ≡ false → Tells x N Q) → Tells (if c then fault k at else x) N Q
+tells_if true k at x N Q n h = n refl
+tells_if false k at x N Q n h = h refl
+
+-- two tests of one thing
+pub full : (m n : ℕ) → nat_le m n ≡ true → nat_lt n m ≡ false
+full m n h = le-ltb n m (leb-true m n h)
+
+pub roomy : (m n : ℕ) → nat_lt n m ≡ true → nat_le m n ≡ true → ⊥
+roomy m n h k = absurd (cc (sym h ∙ full m n k))
+
+pub fits_in : (m n : ℕ) → nat_le m n ≡ false → nat_lt n m ≡ true
+fits_in m n h = lt-ltb n m (leb-false m n h)
+
+-- ---- acts that are still read, by the tree
+
+abbrev pub target : Body → Bound → ℕ → Option ℕ
+target ends bound count = None
+target (again x) bound count = Some (number_or (bound_to x bound))
+target (binds x body) bound count = target body ((x, count) ∷ bound) count
+target (acts x y l s body) bound count = Some count
+target (offers x y arms) bound count = Some count
+
+abbrev pub arm_to : Numbering → List ℕ → Option Sort → Option ℕ → DraftArm
+arm_to n l s to = record { label = label_of n l; sort = sort_or_unit s; next = to }
+
+abbrev pub arms_to : Numbering → Branches → Bound → ℕ → List DraftArm
+arms_to n (one l s body) bound count = arm_to n l s (target body bound count) ∷ []
+arms_to n (more l s body arms) bound count = arm_to n l s (target body bound count) ∷ arms_to n arms bound (count + acts_in body)
+
+abbrev pub draft : Role → Mark → List DraftArm → Draft_data
+draft p m arms = record { peer = p; mark = m; arms = arms }
+
+abbrev mutual
+  pub drafts_of : Numbering → Body → Bound → ℕ → List Draft_data
+  drafts_of n ends bound count = []
+  drafts_of n (again x) bound count = []
+  drafts_of n (binds x body) bound count = drafts_of n body ((x, count) ∷ bound) count
+  drafts_of n (acts x y l s body) bound count = draft (role_of n x) y (arm_to n l s (target body bound (suc count)) ∷ []) ∷ drafts_of n body bound (suc count)
+  drafts_of n (offers x y arms) bound count = draft (role_of n x) y (arms_to n arms bound (suc count)) ∷ drafts_in n arms bound (suc count)
+
+  pub drafts_in : Numbering → Branches → Bound → ℕ → List Draft_data
+  drafts_in n (one l s body) bound count = drafts_of n body bound count
+  drafts_in n (more l s body arms) bound count = drafts_of n body bound count ++ drafts_in n arms bound (count + acts_in body)
+
+abbrev pub with_all : Draft_data → List DraftArm → Draft_data
+with_all d arms = draft d.peer d.mark (d.arms ++ arms)
+
+get_seam : (xs : List Draft_data) (d : Draft_data) (ys : List Draft_data) → slice_get (xs ++ d ∷ ys) (length xs) ≡ Some d
+get_seam xs d ys = slice_get_read (xs ++ d ∷ ys) (length (xs ++ d ∷ ys)) (length xs) d refl (let e : length (xs ++ d ∷ ys) ≡ length xs + length (d ∷ ys) = length-append xs (d ∷ ys) in omega arith) (sym (get_or-append_seam xs d ys d))
+
+mid_seam : (xs : List Draft_data) (d : Draft_data) (ys : List Draft_data) (arm : DraftArm) → with_arm arm (slice_get (xs ++ d ∷ ys) (length xs)) (xs ++ d ∷ ys) (length xs) ≡ xs ++ with_all d (arm ∷ []) ∷ ys
+mid_seam xs d ys arm = ap (λ z. with_arm arm z (xs ++ d ∷ ys) (length xs)) (get_seam xs d ys) ∙ set-append_seam xs d ys (with_all d (arm ∷ []))
+
+pub mid_arm : (xs : List Draft_data) (d : Draft_data) (ys : List Draft_data) (arm : DraftArm) (k : ℕ) → length xs ≡ k → with_arm arm (slice_get (xs ++ d ∷ ys) k) (xs ++ d ∷ ys) k ≡ xs ++ with_all d (arm ∷ []) ∷ ys
+mid_arm xs d ys arm k e = subst (λ (z : ℕ). with_arm arm (slice_get (xs ++ d ∷ ys) z) (xs ++ d ∷ ys) z ≡ xs ++ with_all d (arm ∷ []) ∷ ys) e (mid_seam xs d ys arm)
+
+with_arm_length : (arm : DraftArm) (found : Option Draft_data) (drafts : List Draft_data) (k : ℕ) → length (with_arm arm found drafts k) ≡ length drafts
+with_arm_length arm None drafts k = refl
+with_arm_length arm (Some d) drafts k = length-set drafts k _
+
+pub linked_length : (from : Link) (to : Option ℕ) (drafts : List Draft_data) → length (linked_drafts from to drafts) ≡ length drafts
+linked_length link.Start to drafts = refl
+linked_length (link.OfArm act label sort) to drafts = with_arm_length _ (slice_get drafts act) drafts act
+
+-- ---- arms
+
+-- names that have a place have the same place among these
+abbrev pub Stays : List (List ℕ) → List (List ℕ) → Type 0
+Stays names all = (name : List ℕ) (k : ℕ) → place_of name names ≡ Some k → place_of name all ≡ Some k
+
+pub stays_before : (names more all : List (List ℕ)) → Stays (grown names more) all → Stays names all
+stays_before names later all h = λ name k e. h name k (grown_stays later names name k e)
+
+abbrev pub numbered : List (List ℕ) → List (List ℕ) → ℕ → Numbering
+numbered roles labels last = record { names = record { roles = roles; labels = labels }; last = last }
+
+label_is : (roles all : List (List ℕ)) (last : ℕ) (l : List ℕ) (k : ℕ) → place_of l all ≡ Some k → label_of (numbered roles all last) l ≡ label_of_number k
+label_is roles all last l k e = ap (λ z. label_of_number (number_or z)) e
+
+abbrev pub at_arm : Reader_data → List ℕ → Numbering → ℕ → Option Sort → Reader_data
+at_arm r l n act s = record r { labels = grown r.labels (l ∷ []); mode = mode.Body (link.OfArm act (label_of n l) (sort_or_unit s)) }
+
+sort_exact : (s : Option Sort) (act : ℕ) (label : Label) (r : Reader_data) (ts : List Sign) (u : Sign) (N : Type 0) (Q : Reader_data → Type 0) → Exact ts u N Q (record r { mode = mode.Body (link.OfArm act label (sort_or_unit s)) })
+    → Exact (open_paren ∷ ((sort_signs s ++ close_paren ∷ dot ∷ []) ++ ts)) u N Q (record r { mode = mode.Paren act label })
+sort_exact None act label r ts u N Q h = λ a f n. λ a f n. λ a f n. h
+sort_exact (Some sort.Unit) act label r ts u N Q h = λ a f n. λ a f n. λ a f n. λ a f n. h
+sort_exact (Some sort.Flag) act label r ts u N Q h = λ a f n. λ a f n. λ a f n. λ a f n. h
+sort_exact (Some sort.Natural) act label r ts u N Q h = λ a f n. λ a f n. λ a f n. λ a f n. h
+sort_exact (Some sort.Whole) act label r ts u N Q h = λ a f n. λ a f n. λ a f n. λ a f n. h
+sort_exact (Some sort.Octets) act label r ts u N Q h = λ a f n. λ a f n. λ a f n. λ a f n. h
+sort_exact (Some sort.Numbers) act label r ts u N Q h = λ a f n. λ a f n. λ a f n. λ a f n. h
+
+pub grown_old : (names : List (List ℕ)) (l : List ℕ) (k : ℕ) → place_of l names ≡ Some k → grown names (l ∷ []) ≡ names
+grown_old names l k e = ap (λ z. if z then names else names ++ l ∷ []) (among names l 0 k e)
+
+pub grown_new : (names : List (List ℕ)) (l : List ℕ) → place_of l names ≡ None → grown names (l ∷ []) ≡ names ++ l ∷ []
+grown_new names l e = ap (λ z. if z then names else names ++ l ∷ []) (not_among names l 0 e)
+
+labelled_exact : (found : Option ℕ) (l : List ℕ) (act : ℕ) (brace : Bool) (at : ℕ) (r : Reader_data) (N : Type 0) (Q : Reader_data → Type 0) → place_of l r.labels ≡ found → Hangs (has_room_for l (scene_of r)) N ((k : ℕ) → place_of l (grown r.labels (l ∷ [])) ≡ Some k → Q (record r { labels = grown r.labels (l ∷ []); mode = mode.Paren act (label_of_number k) }))
+    → Tells (labelled_by found act l at (record r { mode = mode.AtLabel act brace })) N Q
+labelled_exact (Some k) l act brace at r N Q e h =
+    let same : grown r.labels (l ∷ []) ≡ r.labels = grown_old r.labels l k e in
+    let room : has_room_for l (scene_of r) ≡ true = ap (λ z. z || nat_lt (length r.labels) 256) (among r.labels l 0 k e) in
+    subst (λ (z : List (List ℕ)). Q (record r { labels = z; mode = mode.Paren act (label_of_number k) })) same (h.1 room k (ap (λ z. place_of l z) same ∙ e))
+labelled_exact None l act brace at r N Q e h =
+    let same : grown r.labels (l ∷ []) ≡ r.labels ++ l ∷ [] = grown_new r.labels l e in
+    let room : has_room_for l (scene_of r) ≡ nat_lt (length r.labels) 256 = ap (λ z. z || nat_lt (length r.labels) 256) (not_among r.labels l 0 e) in
+    tells_if (nat_le 256 (length r.labels)) kind.TooManyLabels at (Ok (record r { labels = r.labels ++ l ∷ []; mode = mode.Paren act (label_of_number (length r.labels)) })) N Q
+    (λ f. h.0 (room ∙ full 256 (length r.labels) f))
+    (λ f. subst (λ (z : List (List ℕ)). Q (record r { labels = z; mode = mode.Paren act (label_of_number (length r.labels)) })) same
+    (h.1 (room ∙ fits_in 256 (length r.labels) f) (length r.labels) (ap (λ z. place_of l z) same ∙ place_of_new r.labels l e)))
+
+pub arm_exact : (l : List ℕ) (s : Option Sort) (act : ℕ) (brace : Bool) (r : Reader_data) (roles all : List (List ℕ)) (last : ℕ) (ts : List Sign) (u : Sign) (N : Type 0) (Q : Reader_data → Type 0) → Stays (grown r.labels (l ∷ [])) all
+    → Hangs (has_room_for l (scene_of r)) N (Exact ts u N Q (at_arm r l (numbered roles all last) act s)) → Exact (arm_signs l s ++ ts) u N Q (record r { mode = mode.AtLabel act brace })
+arm_exact l s act brace r roles all last ts u N Q stays h = λ a f n.
+    let P : Reader_data → Type 0 = λ d. Exact (open_paren ∷ ((sort_signs s ++ close_paren ∷ dot ∷ []) ++ ts)) u N Q d in
+    subst (λ (x : Fed). Tells x N P) (sym (label_fed l act brace a _ r))
+    (labelled_exact (place_of l r.labels) l act brace a r N P refl (
+      h.0,
+      λ room k e.
+          sort_exact s act (label_of_number k) (record r { labels = grown r.labels (l ∷ []) }) ts u N Q
+          (subst (λ (z : Label). Exact ts u N Q (record r { labels = grown r.labels (l ∷ []); mode = mode.Body (link.OfArm act z (sort_or_unit s)) })) (label_is roles all last l k (stays l k e)) (h.1 room)),
+    ))

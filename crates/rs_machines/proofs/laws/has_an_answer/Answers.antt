@@ -1,0 +1,5 @@
+use Rattle.rs_machines.proofs.Answers.{an_answer}
+use Rattle.rs_machines.proofs.laws.has_an_answer.Goals as goal
+
+pub returns : goal.returns
+returns c = an_answer

@@ -1,0 +1,5 @@
+use Rattle.rs_machines.proofs.Answers.{one_answer}
+use Rattle.rs_machines.proofs.laws.has_one_answer.Goals as goal
+
+pub returns : goal.returns
+returns c = one_answer

@@ -1,0 +1,34 @@
+-- Acts that are still read, and the machine that is made of them.
+use Rattle.std.specs.Prelude.{ℕ, List, [], ◌∷◌, ◌++◌, length, map, Option, Some, None, slice_set}
+use Rattle.rs_model.specs.Data.{Machine_data, Names_data}
+use Rattle.rs_model.specs.declared.graph.Arm.{Arm}
+use Rattle.rs_model.specs.declared.machines.State.{State}
+use Rattle.rs_machines.specs.declared.drafts.DraftArm.{DraftArm}
+use Rattle.rs_machines.specs.Data.{Draft_data, Reader_data}
+use Rattle.rs_machines.specs.Machines.{done_of, state_of}
+
+-- an end has the number behind the last act
+abbrev pub settled_target : ℕ → Option ℕ → ℕ
+settled_target last None = last
+settled_target last (Some n) = n
+
+abbrev pub settled_arm : ℕ → DraftArm → Arm
+settled_arm last a = record { label = a.label; sort = a.sort; next = settled_target last a.next }
+
+abbrev pub settled : ℕ → Draft_data → State
+settled last d = state_of d.mark d.peer (map (settled_arm last) d.arms)
+
+-- an act with one more arm
+abbrev pub with_arm : DraftArm → Option Draft_data → List Draft_data → ℕ → List Draft_data
+with_arm arm None drafts k = drafts
+with_arm arm (Some d) drafts k = slice_set drafts k (record { peer = d.peer; mark = d.mark; arms = d.arms ++ arm ∷ [] })
+
+abbrev pub machine_read : Reader_data → Machine_data
+machine_read r = record {
+  role = r.role;
+  states = map (settled (length r.drafts)) r.drafts ++ done_of r.ended;
+  start = settled_target (length r.drafts) r.start;
+}
+
+abbrev pub names_read : Reader_data → Names_data
+names_read r = record { roles = r.roles; labels = r.labels }

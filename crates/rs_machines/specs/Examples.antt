@@ -1,0 +1,19 @@
+-- A text and its tree, to read the definitions by.
+use Rattle.std.specs.Prelude.{ℕ, List, [], ◌∷◌, codes, Some, None}
+use Rattle.rs_model.specs.Data.{Names_data}
+use Rattle.rs_model.specs.declared.values.Sort.TheVariants as sort
+use Rattle.rs_machines.specs.declared.marks.Mark.TheVariants as mark
+use Rattle.rs_machines.specs.Trees.{MachineTree, binds, offers, more, one, again, ends}
+
+abbrev pub text : List ℕ
+text = codes "machine A: rec X. B!{x(). X, y(nat). end}"
+
+-- the names that are there before
+abbrev pub old : Names_data
+old = record { roles = codes "A" ∷ codes "B" ∷ []; labels = codes "y" ∷ [] }
+
+abbrev pub tree : MachineTree
+tree = record {
+  role = codes "A";
+  body = binds (codes "X") (offers (codes "B") mark.Puts (more (codes "x") None (again (codes "X")) (one (codes "y") (Some sort.Natural) ends)));
+}

@@ -1,0 +1,283 @@
+-- The reader, token by token.
+use Rattle.std.specs.Prelude.{◌≡◌, ℕ, suc, ◌-◌, List, [], ◌∷◌, ◌++◌, codes, length, drop, slice_get, Option, Some, None, Result, Ok, Err, Bool, true, false, if◌then◌else◌, nat_lt, nat_le}
+use Rattle.std.specs.Str.{bytes_eq}
+use Rattle.rs_model.specs.declared.graph.Role.{Role}
+use Rattle.rs_model.specs.declared.graph.Label.{Label}
+use Rattle.rs_model.specs.declared.values.Sort.{Sort}
+use Rattle.rs_model.specs.declared.values.Sort.TheVariants as sort
+use Rattle.rs_text.specs.declared.faults.TextFault.{TextFault}
+use Rattle.rs_text.specs.declared.faults.TextKind.{TextKind}
+use Rattle.rs_text.specs.declared.faults.TextKind.TheVariants as kind
+use Rattle.rs_text.specs.declared.faults.Wanted.{Wanted}
+use Rattle.rs_text.specs.declared.faults.Wanted.TheVariants as wanted
+use Rattle.rs_text.specs.Faults.{kind_of}
+use Rattle.rs_model.specs.Data.{Names_data, Machine_data}
+use Rattle.rs_text.specs.Lexemes.{Lexeme, Lexed}
+use Rattle.rs_text.specs.Names.{place_of, Bound, bound_to}
+use Rattle.rs_text.specs.Seen.{plain_text, word_text, is_text, sort_named}
+use Rattle.rs_machines.specs.declared.marks.Mark.{Mark}
+use Rattle.rs_machines.specs.declared.marks.Mark.TheVariants as mark
+use Rattle.rs_text.specs.Signs.{Sign, rec_word, end_word, plain, bang, question, colon, dot, comma, open_brace, close_brace, open_paren, close_paren, broken}
+use Rattle.rs_machines.specs.declared.reading.Frame.{Frame}
+use Rattle.rs_machines.specs.declared.reading.Link.{Link}
+use Rattle.rs_machines.specs.declared.reading.Link.TheVariants as link
+use Rattle.rs_machines.specs.declared.reading.Mode.{Mode}
+use Rattle.rs_machines.specs.declared.reading.Mode.TheVariants as mode
+use Rattle.rs_machines.specs.declared.reading.Stop.{Stop}
+use Rattle.rs_machines.specs.declared.reading.Stop.TheVariants as stops
+use Rattle.rs_machines.specs.Data.{Reader_data, Draft_data}
+use Rattle.rs_machines.specs.Drafts.{with_arm, machine_read, names_read}
+
+abbrev pub Fed : Type 0
+Fed = Result Reader_data TextFault
+
+abbrev pub begin : Names_data → Reader_data
+begin old = record { roles = old.roles; labels = old.labels; role = record { 0 = 0 }; drafts = []; start = None; ended = false; bound = []; depth = 0; frames = []; mode = mode.Machine }
+
+abbrev pub fault : TextKind → ℕ → Fed
+fault k at = Err (record { kind = k; at = at })
+
+abbrev pub expected : Wanted → ℕ → Fed
+expected w at = fault (kind.Expected w) at
+
+abbrev pub in_mode : Mode → Reader_data → Fed
+in_mode m r = Ok (record r { mode = m })
+
+-- what the body that begins here leads to
+abbrev pub linked_start : Link → Option ℕ → Option ℕ → Option ℕ
+linked_start link.Start target start = target
+linked_start (link.OfArm act label sort) target start = start
+
+abbrev pub linked_drafts : Link → Option ℕ → List Draft_data → List Draft_data
+linked_drafts link.Start target drafts = drafts
+linked_drafts (link.OfArm act label sort) target drafts = with_arm (record { label = label; sort = sort; next = target }) (slice_get drafts act) drafts act
+
+abbrev pub linked : Link → Option ℕ → Reader_data → Reader_data
+linked from target r = record r { start = linked_start from target r.start; drafts = linked_drafts from target r.drafts }
+
+-- the machine's role
+abbrev pub feed_machine : Sign → ℕ → Reader_data → Fed
+feed_machine t at r = if is_text (codes "machine") (plain_text t) then in_mode mode.AtRole r else expected wanted.PartOrEnd at
+
+abbrev pub role_by : Option ℕ → ℕ → Reader_data → Fed
+role_by None at r = fault kind.UnknownRole at
+role_by (Some k) at r = Ok (record r { role = record { 0 = k }; mode = mode.AtColon })
+
+abbrev pub feed_role : Option (List ℕ) → ℕ → Reader_data → Fed
+feed_role None at r = expected wanted.Role at
+feed_role (Some word) at r = role_by (place_of word r.roles) at r
+
+abbrev pub feed_colon : Sign → ℕ → Reader_data → Fed
+feed_colon colon at r = in_mode (mode.Body link.Start) r
+feed_colon _ at r = expected wanted.Colon at
+
+-- a body
+abbrev pub met_by : Option ℕ → Link → ℕ → Reader_data → Fed
+met_by None from at r = fault kind.UnknownRole at
+met_by (Some k) from at r = if nat_le 256 (length r.drafts) then fault kind.TooManyNodes at else in_mode (mode.AtMark from (record { 0 = k })) r
+
+abbrev pub named : Option ℕ → Link → ℕ → Reader_data → Fed
+named None from at r = fault kind.UnboundName at
+named (Some k) from at r = if nat_lt k (length r.drafts) then in_mode mode.Next (linked from (Some k) r) else fault kind.Unguarded at
+
+-- a word is a peer or a name by the token behind it
+abbrev pub feed_word : Link → List ℕ → Sign → (at next : ℕ) → Reader_data → Fed
+feed_word from word bang at next r = met_by (place_of word r.roles) from at r
+feed_word from word question at next r = met_by (place_of word r.roles) from at r
+feed_word from word (broken k) at next r = fault (kind_of k) next
+feed_word from word _ at next r = named (bound_to word r.bound) from at r
+
+abbrev pub feed_rec : Link → ℕ → Reader_data → Fed
+feed_rec from at r = if nat_le 200 r.depth then fault kind.TooDeep at else Ok (record r { depth = suc r.depth; mode = mode.RecName from })
+
+abbrev pub feed_body : Link → Sign → ℕ → Lexeme → Reader_data → Fed
+feed_body from rec_word at next r = feed_rec from at r
+feed_body from end_word at next r = Ok (record (linked from None r) { ended = true; mode = mode.Next })
+feed_body from (plain word) at next r = feed_word from word next.sign at next.from r
+feed_body from _ at next r = expected wanted.Body at
+
+abbrev pub feed_rec_name : Link → Option (List ℕ) → ℕ → Reader_data → Fed
+feed_rec_name from None at r = expected wanted.Name at
+feed_rec_name from (Some word) at r = Ok (record r { bound = (word, length r.drafts) ∷ r.bound; mode = mode.RecDot from })
+
+abbrev pub feed_rec_dot : Link → Sign → ℕ → Reader_data → Fed
+feed_rec_dot from dot at r = in_mode (mode.Body from) r
+feed_rec_dot from _ at r = expected wanted.Dot at
+
+-- the new act
+abbrev pub placed : Link → Role → Mark → Reader_data → Reader_data
+placed from p m r =
+    let l : Reader_data = linked from (Some (length r.drafts)) r in
+    record l { drafts = l.drafts ++ record { peer = p; mark = m; arms = [] } ∷ []; mode = mode.AtLabel (length r.drafts) true }
+
+abbrev pub marked : Link → Role → Mark → ℕ → Reader_data → Fed
+marked from p m at r = if nat_le 256 (length r.drafts) then fault kind.TooManyNodes at else Ok (placed from p m r)
+
+-- at a mark that was seen
+abbrev pub feed_mark : Link → Role → Sign → ℕ → Reader_data → Fed
+feed_mark from p bang at r = marked from p mark.Puts at r
+feed_mark from p question at r = marked from p mark.Takes at r
+feed_mark from p _ at r = expected wanted.Mark at
+
+abbrev pub opened : ℕ → Reader_data → Reader_data
+opened act r = record r { depth = suc r.depth; frames = record { act = act; bound = length r.bound; depth = suc r.depth } ∷ r.frames; mode = mode.AtLabel act false }
+
+abbrev pub feed_brace : ℕ → ℕ → Reader_data → Fed
+feed_brace act at r = if nat_le 200 r.depth then fault kind.TooDeep at else Ok (opened act r)
+
+abbrev pub label_of_number : ℕ → Label
+label_of_number k = record { 0 = k }
+
+-- an arm
+abbrev pub labelled_by : Option ℕ → ℕ → List ℕ → ℕ → Reader_data → Fed
+labelled_by (Some k) act word at r = in_mode (mode.Paren act (label_of_number k)) r
+labelled_by None act word at r = if nat_le 256 (length r.labels) then fault kind.TooManyLabels at else Ok (record r { labels = r.labels ++ word ∷ []; mode = mode.Paren act (label_of_number (length r.labels)) })
+
+-- behind a mark a brace may stand too
+abbrev pub label_wanted : Bool → Wanted
+label_wanted true = wanted.LabelOrBrace
+label_wanted false = wanted.Label
+
+abbrev pub feed_label : ℕ → Wanted → Option (List ℕ) → ℕ → Reader_data → Fed
+feed_label act w None at r = expected w at
+feed_label act w (Some word) at r = labelled_by (place_of word r.labels) act word at r
+
+abbrev pub feed_head : ℕ → Sign → Bool → ℕ → Reader_data → Fed
+feed_head act open_brace true at r = feed_brace act at r
+feed_head act t brace at r = feed_label act (label_wanted brace) (word_text t) at r
+
+abbrev pub feed_paren : ℕ → Label → Sign → ℕ → Reader_data → Fed
+feed_paren act label open_paren at r = in_mode (mode.AtSort act label) r
+feed_paren act label _ at r = expected wanted.OpenParen at
+
+abbrev pub sorted_by : Option Sort → ℕ → Label → ℕ → Reader_data → Fed
+sorted_by None act label at r = expected wanted.SortOrCloseParen at
+sorted_by (Some s) act label at r = in_mode (mode.CloseParen act label s) r
+
+abbrev pub sort_word : ℕ → Label → Option (List ℕ) → ℕ → Reader_data → Fed
+sort_word act label None at r = expected wanted.SortOrCloseParen at
+sort_word act label (Some word) at r = sorted_by (sort_named word) act label at r
+
+abbrev pub feed_sort : ℕ → Label → Sign → ℕ → Reader_data → Fed
+feed_sort act label close_paren at r = in_mode (mode.ArmDot act label sort.Unit) r
+feed_sort act label t at r = sort_word act label (plain_text t) at r
+
+abbrev pub feed_close_paren : ℕ → Label → Sort → Sign → ℕ → Reader_data → Fed
+feed_close_paren act label s close_paren at r = in_mode (mode.ArmDot act label s) r
+feed_close_paren act label s _ at r = expected wanted.CloseParen at
+
+abbrev pub feed_arm_dot : ℕ → Label → Sort → Sign → ℕ → Reader_data → Fed
+feed_arm_dot act label s dot at r = in_mode (mode.Body (link.OfArm act label s)) r
+feed_arm_dot act label s _ at r = expected wanted.Dot at
+
+-- behind a body: names and nesting are again as the brace began
+abbrev pub restored : Frame → Reader_data → Reader_data
+restored f r = record r { bound = drop (length r.bound - f.bound) r.bound; depth = f.depth }
+
+abbrev pub feed_next : List Frame → Sign → ℕ → Reader_data → Fed
+feed_next [] t at r = expected wanted.PartOrEnd at
+feed_next (f ∷ fs) comma at r = Ok (record (restored f r) { mode = mode.AtLabel f.act false })
+feed_next (f ∷ fs) close_brace at r = Ok (record (restored f r) { mode = mode.Next; frames = fs })
+feed_next (f ∷ fs) _ at r = expected wanted.CommaOrCloseBrace at
+
+abbrev pub feed_behind : Sign → ℕ → Reader_data → Fed
+feed_behind t at r = feed_next r.frames t at r
+
+-- one token, with the one behind it
+abbrev pub feed_at : Mode → Sign → ℕ → Lexeme → Reader_data → Fed
+feed_at mode.Machine t at next r = feed_machine t at r
+feed_at mode.AtRole t at next r = feed_role (plain_text t) at r
+feed_at mode.AtColon t at next r = feed_colon t at r
+feed_at (mode.Body from) t at next r = feed_body from t at next r
+feed_at (mode.RecName from) t at next r = feed_rec_name from (plain_text t) at r
+feed_at (mode.RecDot from) t at next r = feed_rec_dot from t at r
+feed_at (mode.AtMark from p) t at next r = feed_mark from p t at r
+feed_at (mode.AtLabel act brace) t at next r = feed_head act t brace at r
+feed_at (mode.Paren act label) t at next r = feed_paren act label t at r
+feed_at (mode.AtSort act label) t at next r = feed_sort act label t at r
+feed_at (mode.CloseParen act label s) t at next r = feed_close_paren act label s t at r
+feed_at (mode.ArmDot act label s) t at next r = feed_arm_dot act label s t at r
+feed_at mode.Next t at next r = feed_behind t at r
+
+abbrev pub feed_of : Sign → ℕ → Lexeme → Reader_data → Fed
+feed_of t at next r = feed_at r.mode t at next r
+
+-- a faulty token is its own fault, whatever was wanted
+abbrev pub feed_sign : Sign → ℕ → Lexeme → Reader_data → Fed
+feed_sign (broken k) at next r = fault (kind_of k) at
+feed_sign t at next r = feed_of t at next r
+
+abbrev pub behind_body : Mode → Bool
+behind_body mode.Next = true
+behind_body _ = false
+
+abbrev pub no_frames : List Frame → Bool
+no_frames [] = true
+no_frames (f ∷ fs) = false
+
+-- the whole machine is read
+abbrev pub is_read : Reader_data → Bool
+is_read r = if no_frames r.frames then behind_body r.mode else false
+
+pub record Reading : Type 0 where
+  pub reader : Reader_data
+  pub until : ℕ
+
+-- nothing stands behind the last token
+abbrev pub next_lexeme_of : Lexeme → List Lexeme → Lexeme
+next_lexeme_of l [] = l
+next_lexeme_of l (x ∷ xs) = x
+
+-- all tokens, as far as the machine goes
+abbrev pub read_all : Fed → List Lexeme → Result Reading TextFault
+read_all (Err e) ls = Err e
+read_all (Ok r) [] = Err (record { kind = kind.Expected wanted.PartOrEnd; at = 0 })
+read_all (Ok r) (l ∷ ls) = if is_read r then Ok (record { reader = r; until = l.from }) else read_all (feed_sign l.sign l.from (next_lexeme_of l ls) r) ls
+
+-- names, machine and the offset behind them
+pub record Answer : Type 0 where
+  pub names : Names_data
+  pub machine : Machine_data
+  pub until : ℕ
+
+abbrev pub answered : Result Reading TextFault → Result Answer TextFault
+answered (Err e) = Err e
+answered (Ok x) = Ok (record { names = names_read x.reader; machine = machine_read x.reader; until = x.until })
+
+-- what the tokens of the bytes from `at` on are read as, with the old names
+abbrev pub ReadsAs : Names_data → List ℕ → ℕ → Result Answer TextFault → Type 0
+ReadsAs old bytes at answer = (lexemes : List Lexeme) → Lexed bytes at lexemes → answered (read_all (Ok (begin old)) lexemes) ≡ answer
+
+-- what the tokens lead a reader to
+abbrev pub Reads : Reader_data → List ℕ → ℕ → Result Reading TextFault → Type 0
+Reads r bytes at reading = (lexemes : List Lexeme) → Lexed bytes at lexemes → read_all (Ok r) lexemes ≡ reading
+
+-- the reader as it stands before the first token that it refuses, or behind the machine; r is the one before this token
+abbrev pub last_of : Reader_data → Fed → List Lexeme → Reader_data
+last_of r (Err e) ls = r
+last_of r (Ok d) [] = d
+last_of r (Ok d) (l ∷ ls) = if is_read d then d else last_of d (feed_sign l.sign l.from (next_lexeme_of l ls) d) ls
+
+-- the labels that the reader has then
+abbrev pub Leaves : Reader_data → List ℕ → ℕ → List (List ℕ) → Type 0
+Leaves r bytes at labels = (lexemes : List Lexeme) → Lexed bytes at lexemes → (last_of r (Ok r) lexemes).labels ≡ labels
+
+-- a stop at a fault leaves these labels; one by want of memory may come anywhere
+abbrev pub StopsAs : Stop → Reader_data → List ℕ → ℕ → List (List ℕ) → Type 0
+StopsAs stops.Memory r bytes at labels = Unit {0}
+StopsAs (stops.Fault f) r bytes at labels = Reads r bytes at (Err f) × Leaves r bytes at labels
+
+-- a refusal of memory is told at the offset where the reading began
+abbrev pub told : Stop → ℕ → TextFault
+told stops.Memory at = record { kind = kind.NoMemory; at = at }
+told (stops.Fault f) at = f
+
+-- the last number that a name is bound to, by bindings in order
+abbrev pub last_bound : List ℕ → Bound → Option ℕ → Option ℕ
+last_bound name [] found = found
+last_bound name (b ∷ bs) found = last_bound name bs (if bytes_eq b.0 name then Some b.1 else found)
+
+-- a stop by want of memory may come at any token; any other one is the fault that was fed
+abbrev pub Fails : Stop → Fed → Type 0
+Fails stops.Memory fed = Unit {0}
+Fails (stops.Fault f) fed = fed ≡ Err f
