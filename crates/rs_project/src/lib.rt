@@ -1,0 +1,2 @@
+//! The projection of a protocol onto a role.
+#![tactic(auto)]
