@@ -1,2 +1,16 @@
-//! The projection of a protocol onto a role.
+//! The projection of a protocol onto a role: what the role has to do, where it can't tell apart all the nodes at which
+//! the session may be.
 #![tactic(auto)]
+
+mod clashes;
+mod finding;
+mod fronts;
+mod merging;
+mod projecting;
+mod rounds;
+mod spreading;
+mod surveying;
+#[cfg(test)]
+mod tests;
+
+pub use projecting::{ProjFault, Projection, project};
