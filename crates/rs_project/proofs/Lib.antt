@@ -9,3 +9,6 @@ pub mod Agreeing
 pub mod Numbers
 pub mod Behind
 pub mod Steps
+pub mod Lockstep
+pub mod OneAnswer
+pub mod OneProjection

@@ -5,6 +5,7 @@
 mod clashes;
 mod finding;
 mod fronts;
+pub mod laws;
 mod merging;
 mod projecting;
 mod rounds;

@@ -1,5 +1,6 @@
 use crate::{ProjFault, Projection, project};
 use rs_model::{Arm, Arms, Label, Machine, NoMemory, Node, Protocol, Role, Sort, State};
+use rs_wellformed::well_formed;
 use std::alloc::Global;
 use std::mem;
 use std::test::Fail;
@@ -107,6 +108,14 @@ fn is_projection(
     Ok(same && place == found.sets.len())
 }
 
+// The projection of a protocol that is well formed, with that role.
+fn projected(alloc: Global, protocol: &Protocol, role: u8) -> Result<Projection, ProjFault> {
+    if protocol.nodes.len() > 4096 || role >= protocol.roles || well_formed(protocol).is_err() {
+        return Err(ProjFault::NoMemory);
+    }
+    project(alloc, protocol, Role(role))
+}
+
 const DOUBLE_BUFFER: &str = "0>1:0u1 2>0:0u2 1>0:1b3,2u4 0>2:1b0 0>1:0u5 0>2:2u6 end";
 
 #[test]
@@ -123,7 +132,7 @@ fn projections(rt: HostRuntime) -> Result<(), Fail> {
     ];
     let protocol = protocol(alloc, DOUBLE_BUFFER)?;
     for (role, states, sets) in table {
-        let found = project(alloc, &protocol, Role(role))?;
+        let found = projected(alloc, &protocol, role)?;
         assert!(rt; is_projection(alloc, &found, role, states, sets)?);
     }
     Ok(())
@@ -153,7 +162,7 @@ fn refusals(rt: HostRuntime) -> Result<(), Fail> {
     ];
     for (role, signs, fault) in table {
         let protocol = protocol(alloc, signs)?;
-        assert!(rt; project(alloc, &protocol, Role(role)).err() == Some(fault));
+        assert!(rt; projected(alloc, &protocol, role).err() == Some(fault));
     }
     Ok(())
 }
@@ -197,10 +206,10 @@ fn most_states(rt: HostRuntime) -> Result<(), Fail> {
     let alloc = rt.alloc();
     let protocol = two_rounds(alloc, 1)?;
     for (role, states) in [(0, 1024), (1, 66), (2, 2)] {
-        assert!(rt; project(alloc, &protocol, Role(role))?.machine.states.len() == states);
+        assert!(rt; projected(alloc, &protocol, role)?.machine.states.len() == states);
     }
     let longer = two_rounds(alloc, 2)?;
     let many = ProjFault::TooManyStates { role: Role(0) };
-    assert!(rt; project(alloc, &longer, Role(0)).err() == Some(many));
+    assert!(rt; projected(alloc, &longer, 0).err() == Some(many));
     Ok(())
 }
