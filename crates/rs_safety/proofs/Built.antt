@@ -17,9 +17,9 @@ use Rattle.rs_core.specs.Straight.{StraightTalk}
 use Rattle.rs_core.proofs.Items.{Item, sends, recvs, Ordered}
 use Rattle.rs_core.proofs.Stands.{Known, Trace, Stands, Good, Lasts, Peered}
 use Rattle.rs_core.proofs.Going.{safe-of-good}
-use Rattle.rs_safety.specs.Data.{Projection_data}
-use Rattle.rs_safety.specs.Graph.{LeadsTo, IsReached}
-use Rattle.rs_safety.specs.Projection.{IsProjection}
+use Rattle.rs_project.specs.Data.{Projection_data}
+use Rattle.rs_project.specs.Graph.{LeadsTo, IsReached}
+use Rattle.rs_project.specs.Projection.{IsProjection}
 use Rattle.rs_safety.proofs.Kept.{seen, Spaced, seen-bound}
 use Rattle.rs_safety.proofs.Trail.{canon, lines-agree, pigeonhole}
 use Rattle.rs_safety.proofs.Walks.{numbered, reach-on, idle-end}

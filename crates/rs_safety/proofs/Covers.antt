@@ -13,9 +13,9 @@ use Rattle.rs_model.specs.declared.graph.Role.{Role}
 use Rattle.rs_model.specs.declared.machines.State.{State}
 use Rattle.rs_model.specs.declared.machines.State.TheVariants.{Done, Puts, Takes}
 use Rattle.rs_wellformed.specs.Faults.{Talks}
-use Rattle.rs_safety.specs.Data.{Projection_data}
-use Rattle.rs_safety.specs.Graph.{LeadsTo, Involves, IsIdle, MeetsFirst, MeetsTheEnd}
-use Rattle.rs_safety.specs.Projection.{IsSet, Choice, choice_of, choices_of, HaveSameChoices, HaveSameSorts, Agree, BothSend, BothReceive, first_choices, merged_choices, MeetsBehind, EndsBehind, IsStateOf, IsDone, IsPuts, IsTakes, IsProjection}
+use Rattle.rs_project.specs.Data.{Projection_data}
+use Rattle.rs_project.specs.Graph.{LeadsTo, Involves, IsIdle, MeetsFirst, MeetsTheEnd}
+use Rattle.rs_project.specs.Projection.{IsSet, Choice, choice_of, choices_of, HaveSameChoices, HaveSameSorts, Agree, BothSend, BothReceive, first_choices, merged_choices, MeetsBehind, EndsBehind, IsStateOf, IsDone, IsPuts, IsTakes, IsProjection}
 use Rattle.rs_safety.proofs.Members.{Among, contained, contains, among-left, among-right, among-split, no-member}
 use Rattle.rs_safety.proofs.Walks.{step_of, involves-sender, involves-receiver}
 

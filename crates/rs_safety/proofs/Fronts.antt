@@ -4,8 +4,8 @@ use Rattle.std.specs.List.{AllPairs, Contains}
 use Rattle.rs_model.specs.Data.{Protocol_data}
 use Rattle.rs_model.specs.declared.graph.Label.{Label}
 use Rattle.rs_model.specs.declared.graph.Role.{Role}
-use Rattle.rs_safety.specs.Graph.{PathStep, LeadsTo, IsPath, Involves, IsIdle, PassesBy, AllPassBy, MeetsFirst, MeetsTheEnd}
-use Rattle.rs_safety.specs.Projection.{IsSet, LeadsOn, MeetsBehind, EndsBehind, Agree}
+use Rattle.rs_project.specs.Graph.{PathStep, LeadsTo, IsPath, Involves, IsIdle, PassesBy, AllPassBy, MeetsFirst, MeetsTheEnd}
+use Rattle.rs_project.specs.Projection.{IsSet, LeadsOn, MeetsBehind, EndsBehind, Agree}
 use Rattle.rs_safety.proofs.Members.{contained, contains}
 use Rattle.rs_safety.proofs.Walks.{step_of}
 

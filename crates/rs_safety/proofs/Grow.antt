@@ -14,9 +14,9 @@ use Rattle.rs_core.specs.Straight.{StraightTalk}
 use Rattle.rs_core.proofs.Items.{Item, Give, Get, Entry, sends, recvs, sends-append, recvs-append, Ordered}
 use Rattle.rs_core.proofs.Parts.{own, own-sender, own-receiver, own-other}
 use Rattle.rs_core.proofs.Stands.{Trace}
-use Rattle.rs_safety.specs.Data.{Projection_data}
-use Rattle.rs_safety.specs.Graph.{LeadsTo, IsReached, Involves, PassesBy}
-use Rattle.rs_safety.specs.Projection.{IsProjection}
+use Rattle.rs_project.specs.Data.{Projection_data}
+use Rattle.rs_project.specs.Graph.{LeadsTo, IsReached, Involves, PassesBy}
+use Rattle.rs_project.specs.Projection.{IsProjection}
 use Rattle.rs_safety.proofs.Kept.{place_of, Below, seen, Spaced, seen-snoc, spaced-snoc, each-more, Kept, ordered-push, below-push}
 use Rattle.rs_safety.proofs.Members.{Among}
 use Rattle.rs_safety.proofs.Trail.{canon, Fresh, AllBelow, pigeonhole}

@@ -13,8 +13,8 @@ use Rattle.rs_model.specs.declared.machines.State.{State}
 use Rattle.rs_model.specs.declared.machines.State.TheVariants.{Puts, Takes}
 use Rattle.rs_wellformed.specs.Faults.{Talks}
 use Rattle.rs_wellformed.specs.WellFormed.{IsWellFormed}
-use Rattle.rs_safety.specs.Data.{Projection_data}
-use Rattle.rs_safety.specs.Projection.{Choice, choice_of, choices_of, first_choices, merged_choices, AreArmsOf, IsStateOf, IsDone, IsPuts, IsTakes, IsProjection}
+use Rattle.rs_project.specs.Data.{Projection_data}
+use Rattle.rs_project.specs.Projection.{Choice, choice_of, choices_of, first_choices, merged_choices, AreArmsOf, IsStateOf, IsDone, IsPuts, IsTakes, IsProjection}
 use Rattle.rs_safety.proofs.Members.{Among, contains}
 use Rattle.rs_safety.proofs.Covers.{has_label, label-last, merged-label, arm-choice}
 

@@ -1,8 +1,8 @@
 -- Protocols that have no projection onto a role.
 use Rattle.std.proofs.Common.{[], ◌∷◌, refl}
-use Rattle.rs_safety.specs.Data.{Projection_data}
-use Rattle.rs_safety.specs.Graph.{LeadsTo, Involves, PassesBy}
-use Rattle.rs_safety.specs.Projection.{IsProjection}
+use Rattle.rs_project.specs.Data.{Projection_data}
+use Rattle.rs_project.specs.Graph.{LeadsTo, Involves, PassesBy}
+use Rattle.rs_project.specs.Projection.{IsProjection}
 use Rattle.rs_safety.specs.Examples.{a, b, c, to, not_told, left_waiting}
 use Rattle.rs_safety.proofs.Members.{no-member}
 use Rattle.rs_safety.proofs.Walks.{step_of, not-empty, involves-receiver, involves-neither, idle-end}

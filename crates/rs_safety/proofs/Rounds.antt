@@ -6,8 +6,8 @@ use Rattle.rs_model.specs.declared.graph.Node.TheVariants.{Talk}
 use Rattle.rs_model.specs.declared.graph.Role.{Role}
 use Rattle.rs_wellformed.specs.Faults.{Talks}
 use Rattle.rs_wellformed.specs.WellFormed.{TalkFits, IsWellFormed}
-use Rattle.rs_safety.specs.Graph.{LeadsTo, IsPath, Involves, IsIdle, PassesBy}
-use Rattle.rs_safety.specs.Projection.{LeadsOn}
+use Rattle.rs_project.specs.Graph.{LeadsTo, IsPath, Involves, IsIdle, PassesBy}
+use Rattle.rs_project.specs.Projection.{LeadsOn}
 use Rattle.rs_safety.specs.Examples.{a, b, c, to, rounds}
 use Rattle.rs_safety.proofs.Walks.{step_of, involves-sender, involves-receiver, involves-neither, idle-end}
 

@@ -7,9 +7,9 @@ use Rattle.rs_model.specs.declared.machines.State.{State}
 use Rattle.rs_model.specs.declared.machines.State.TheVariants.{Done, Puts, Takes}
 use Rattle.rs_model.specs.declared.values.Sort.TheVariants as sort
 use Rattle.rs_wellformed.specs.Faults.{Talks}
-use Rattle.rs_safety.specs.Data.{Projection_data}
-use Rattle.rs_safety.specs.Graph.{PathStep, LeadsTo, IsPath, Involves, IsIdle, PassesBy, AllPassBy, MeetsFirst, MeetsTheEnd, IsUnreached}
-use Rattle.rs_safety.specs.Projection.{IsSet, Choice, choice_of, Agree, BothSend, BothReceive, LeadsOn, MeetsBehind, EndsBehind, IsStateOf, IsDone, IsPuts, IsTakes, IsProjection, AreProjections}
+use Rattle.rs_project.specs.Data.{Projection_data}
+use Rattle.rs_project.specs.Graph.{PathStep, LeadsTo, IsPath, Involves, IsIdle, PassesBy, AllPassBy, MeetsFirst, MeetsTheEnd, IsUnreached}
+use Rattle.rs_project.specs.Projection.{IsSet, Choice, choice_of, Agree, BothSend, BothReceive, LeadsOn, MeetsBehind, EndsBehind, IsStateOf, IsDone, IsPuts, IsTakes, IsProjection, AreProjections}
 use Rattle.rs_safety.specs.Examples.{a, b, c, to, rounds, rounds_for_a, rounds_for_b, rounds_for_c, projections_of_rounds}
 use Rattle.rs_safety.proofs.Members.{contained, contains}
 use Rattle.rs_safety.proofs.Fronts.{meets-itself, meets-on, Met, Here, There, met, met-here, no-end-here, Ended, Rests, Later, ended, rising-two, single-set, end-set, through, behind-set, agree-single}

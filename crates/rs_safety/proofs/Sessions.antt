@@ -6,8 +6,8 @@ use Rattle.rs_model.specs.WellFormed.{IsWellFormedMachine}
 use Rattle.rs_wellformed.specs.WellFormed.{IsWellFormed}
 use Rattle.rs_core.specs.Safety.{IsSafe}
 use Rattle.rs_core.proofs.Stands.{Peered}
-use Rattle.rs_safety.specs.Data.{Projection_data}
-use Rattle.rs_safety.specs.Projection.{AreProjections}
+use Rattle.rs_project.specs.Data.{Projection_data}
+use Rattle.rs_project.specs.Projection.{AreProjections}
 use Rattle.rs_safety.proofs.Walks.{numbered}
 use Rattle.rs_safety.proofs.Machines.{projection-machine}
 use Rattle.rs_safety.proofs.Built.{safe-of-parts}

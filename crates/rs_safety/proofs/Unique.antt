@@ -8,9 +8,9 @@ use Rattle.rs_model.specs.declared.graph.Node.TheVariants.{Talk}
 use Rattle.rs_model.specs.declared.graph.Role.{Role}
 use Rattle.rs_model.specs.declared.machines.State.{State}
 use Rattle.rs_wellformed.specs.WellFormed.{IsWellFormed}
-use Rattle.rs_safety.specs.Data.{Projection_data}
-use Rattle.rs_safety.specs.Graph.{MeetsFirst, MeetsTheEnd}
-use Rattle.rs_safety.specs.Projection.{IsSet, Choice, choice_of, MeetsBehind, EndsBehind, AreArmsOf, IsStateOf, IsDone, IsPuts, IsTakes, IsProjection}
+use Rattle.rs_project.specs.Data.{Projection_data}
+use Rattle.rs_project.specs.Graph.{MeetsFirst, MeetsTheEnd}
+use Rattle.rs_project.specs.Projection.{IsSet, Choice, choice_of, MeetsBehind, EndsBehind, AreArmsOf, IsStateOf, IsDone, IsPuts, IsTakes, IsProjection}
 use Rattle.rs_safety.specs.Alike.{StandAlike, LeadAlike, ActAlike, BothDone, BothPut, BothTake, AreAlike}
 use Rattle.rs_safety.proofs.Members.{Among, contained, contains}
 use Rattle.rs_safety.proofs.Covers.{stood}

@@ -4,7 +4,7 @@ use Rattle.rs_model.specs.Data.{Protocol_data}
 use Rattle.rs_model.specs.declared.graph.Arm.{Arm}
 use Rattle.rs_model.specs.declared.graph.Role.{Role}
 use Rattle.rs_wellformed.specs.Faults.{Talks}
-use Rattle.rs_safety.specs.Graph.{PathStep, LeadsTo, IsPath, IsReachedFrom, Involves, IsIdle, PassesBy, AllPassBy}
+use Rattle.rs_project.specs.Graph.{PathStep, LeadsTo, IsPath, IsReachedFrom, Involves, IsIdle, PassesBy, AllPassBy}
 
 abbrev pub step_of : ℕ → ℕ → PathStep
 step_of g a = record { node = g; place = a }

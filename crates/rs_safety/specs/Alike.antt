@@ -3,8 +3,8 @@ use Rattle.std.specs.Prelude.{◌≡◌, ℕ, List, map, Some, slice_get}
 use Rattle.rs_model.specs.declared.graph.Arm.{Arm}
 use Rattle.rs_model.specs.declared.graph.Role.{Role}
 use Rattle.rs_model.specs.declared.machines.State.TheVariants.{Done, Puts, Takes}
-use Rattle.rs_safety.specs.Data.{Projection_data}
-use Rattle.rs_safety.specs.Projection.{choice_of}
+use Rattle.rs_project.specs.Data.{Projection_data}
+use Rattle.rs_project.specs.Projection.{choice_of}
 
 -- state s of the one and state t of the other stand for the same talks
 abbrev pub StandAlike : Projection_data → Projection_data → ℕ → ℕ → Type 0

@@ -7,7 +7,7 @@ use Rattle.rs_model.specs.declared.graph.Role.{Role}
 use Rattle.rs_model.specs.declared.machines.State.{State}
 use Rattle.rs_model.specs.declared.machines.State.TheVariants.{Done, Puts, Takes}
 use Rattle.rs_model.specs.declared.values.Sort.TheVariants as sort
-use Rattle.rs_safety.specs.Data.{Projection_data}
+use Rattle.rs_project.specs.Data.{Projection_data}
 
 abbrev pub a : Role
 a = record { 0 = 0 }

@@ -6,9 +6,9 @@ ghost use Rattle.rs_model.specs.Data.{Machine_data, Protocol_data};
 ghost use Rattle.rs_model.specs.WellFormed.{IsWellFormedMachine};
 ghost use Rattle.rs_model.specs.declared.graph.Role.{Role};
 ghost use Rattle.rs_safety.specs.Alike.{AreAlike};
-ghost use Rattle.rs_safety.specs.Data.{Projection_data};
+ghost use Rattle.rs_project.specs.Data.{Projection_data};
 ghost use Rattle.rs_safety.specs.Examples.{c, left_waiting, not_told, projections_of_rounds, rounds};
-ghost use Rattle.rs_safety.specs.Projection.{AreProjections, IsProjection};
+ghost use Rattle.rs_project.specs.Projection.{AreProjections, IsProjection};
 ghost use Rattle.rs_wellformed.specs.WellFormed.{IsWellFormed};
 
 /// Machines that are the projections of a well-formed protocol, in role order, are safe.

@@ -12,8 +12,8 @@ use Rattle.rs_model.specs.declared.machines.State.{State}
 use Rattle.rs_model.specs.declared.machines.State.TheVariants.{Done, Puts, Takes}
 use Rattle.rs_model.specs.declared.values.Sort.{Sort}
 use Rattle.rs_wellformed.specs.Faults.{Talks}
-use Rattle.rs_safety.specs.Data.{Projection_data}
-use Rattle.rs_safety.specs.Graph.{LeadsTo, MeetsFirst, MeetsTheEnd, IsUnreached}
+use Rattle.rs_project.specs.Data.{Projection_data}
+use Rattle.rs_project.specs.Graph.{LeadsTo, MeetsFirst, MeetsTheEnd, IsUnreached}
 
 -- the set of that number has exactly these talks, in order of their numbers, and is empty exactly where the role may
 -- meet the end. So a set with a talk and the end isn't there.

@@ -1,0 +1,14 @@
+pub mod Lists
+pub mod Flags
+pub mod Spread
+pub mod Surveys
+pub mod Cycles
+pub mod Merged
+pub mod Meetings
+pub mod Agreeing
+pub mod Numbers
+pub mod Behind
+pub mod Steps
+pub mod Lockstep
+pub mod OneAnswer
+pub mod OneProjection

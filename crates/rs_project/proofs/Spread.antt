@@ -1,0 +1,177 @@
+-- Marks that spread from starts through flagged nodes.
+use Rattle.std.proofs.Common.{◌≡◌, inl, inr, ℕ, zero, suc, ◌<◌, Bool, true, false, List, [], ◌∷◌, ◌++◌, length, set, get_or, replicate, Some, slice_get, refl, sym, subst, arith}
+use Rattle.std.proofs.lemmas.Option.{slice_get-get_or}
+use Rattle.rs_model.specs.Data.{Protocol_data}
+use Rattle.rs_model.specs.declared.graph.Arm.{Arm}
+use Rattle.rs_model.specs.declared.graph.Node.{Node}
+use Rattle.rs_model.specs.declared.graph.Node.TheVariants.{Finished, Talk}
+use Rattle.rs_project.specs.Graph.{PathStep, LeadsTo, IsPath}
+use Rattle.rs_wellformed.specs.WellFormed.{IsWellFormed}
+use Rattle.rs_project.specs.Marks.{Among, LeadsWithin, IsOn, AllOn, Spreads, Spreading, IsSpread, nexts_of_node}
+use Rattle.rs_project.specs.Projected.{nexts_of}
+use Rattle.rs_project.proofs.Lists.{among-split, among-left, among-right, at-among, at-map}
+use Rattle.rs_project.proofs.Flags.{on-within, none-on, set-on, set-itself, set-only}
+
+abbrev pub step_of : ℕ → ℕ → PathStep
+step_of g a = record { node = g; place = a }
+
+pub path-snoc : (pr : Protocol_data) (ss : List PathStep) (g h a k : ℕ) → IsPath pr g ss h → LeadsTo pr h a k
+    → IsPath pr g (ss ++ (step_of h a ∷ [])) k
+path-snoc pr [] g h a k p goes = let P : ℕ → Type 0 = λ z. LeadsTo pr z a k in (k, sym p, subst P (sym p) goes, refl)
+path-snoc pr (s ∷ ss) g h a k p goes = (p.0, p.1, p.2, path-snoc pr ss p.0 h a k p.3 goes)
+
+on-snoc : (flags : List Bool) (ss : List PathStep) (h a : ℕ) → AllOn flags ss → IsOn flags h → AllOn flags (ss ++ (step_of h a ∷ []))
+on-snoc flags [] h a all one = (one, tt)
+on-snoc flags (s ∷ ss) h a all one = (all.0, on-snoc flags ss h a all.1 one)
+
+spreads-on : (pr : Protocol_data) (th : List Bool) (starts : List ℕ) (n place next : ℕ) → Spreads pr th starts n → IsOn th n → LeadsTo pr n place next → Spreads pr th starts next
+spreads-on pr th starts n place next s on goes = record {
+  start = s.start;
+  among = s.among;
+  steps = s.steps ++ (step_of n place ∷ []);
+  path = path-snoc pr s.steps s.start n place next s.path goes;
+  earlier = on-snoc th s.steps n place s.earlier on;
+}
+
+-- nothing is marked yet
+pub begun : (pr : Protocol_data) (th : List Bool) (starts : List ℕ) (count : ℕ) → Spreading pr th starts (replicate count false) [] starts
+begun pr th starts count = record {
+  sound = λ n h. absurd (none-on count n h);
+  right = λ n h. record { start = n; among = h; steps = []; path = refl; earlier = tt };
+  listed = λ n h. absurd h;
+  begun = λ s h. inr h;
+  closed = λ n place next h on goes. absurd (none-on count n h);
+}
+
+-- the node is marked already
+pub marked-before : (pr : Protocol_data) (th : List Bool) (starts : List ℕ) (marks : List Bool) (todo : List ℕ) (x : ℕ) (soon : List ℕ) → IsOn marks x
+    → Spreading pr th starts marks todo (x ∷ soon) → Spreading pr th starts marks todo soon
+marked-before pr th starts marks todo x soon on s = record {
+  sound = s.sound;
+  right = λ n h. s.right n (inr h);
+  listed = s.listed;
+  begun = λ b h. elim (s.begun b h) [ inl k ↦ inl k | inr (inl e) ↦ inl (let P : ℕ → Type 0 = λ z. IsOn marks z in subst P e on) | inr (inr k) ↦ inr k ];
+  closed = λ n place next h o goes. elim (s.closed n place next h o goes) [
+    | inl k ↦ inl k
+    | inr (inl k) ↦ inr (inl k)
+    | inr (inr (inl e)) ↦ inl (let P : ℕ → Type 0 = λ z. IsOn marks z in subst P e on)
+    | inr (inr (inr k)) ↦ inr (inr k)
+  ];
+}
+
+-- the node is marked now, and listed
+pub marked-now : (pr : Protocol_data) (th : List Bool) (starts : List ℕ) (marks : List Bool) (todo : List ℕ) (x : ℕ) (soon : List ℕ) → x < length marks
+    → Spreading pr th starts marks todo (x ∷ soon) → Spreading pr th starts (set marks x true) (todo ++ (x ∷ [])) soon
+marked-now pr th starts marks todo x soon within s = record {
+  sound = λ n h. elim (set-only marks x n h) [ inl k ↦ s.sound n k | inr e ↦ s.right n (inl e) ];
+  right = λ n h. s.right n (inr h);
+  listed = λ n h. elim (among-split todo (x ∷ []) n h) [
+    | inl k ↦ set-on marks x n (s.listed n k)
+    | inr (inl e) ↦ (let P : ℕ → Type 0 = λ z. IsOn (set marks x true) z in subst P e (set-itself marks x within))
+    | inr (inr k) ↦ absurd k
+  ];
+  begun = λ b h. elim (s.begun b h) [
+    | inl k ↦ inl (set-on marks x b k)
+    | inr (inl e) ↦ inl (let P : ℕ → Type 0 = λ z. IsOn (set marks x true) z in subst P e (set-itself marks x within))
+    | inr (inr k) ↦ inr k
+  ];
+  closed = λ n place next h o goes. elim (set-only marks x n h) [
+    | inl k ↦ elim (s.closed n place next k o goes) [
+      | inl m ↦ inl (set-on marks x next m)
+      | inr (inl m) ↦ inr (inl (among-left todo (x ∷ []) n m))
+      | inr (inr (inl e)) ↦ inl (let P : ℕ → Type 0 = λ z. IsOn (set marks x true) z in subst P e (set-itself marks x within))
+      | inr (inr (inr m)) ↦ inr (inr m)
+    ]
+    | inr e ↦ inr (inl (among-right todo (x ∷ []) n (inl e)))
+  ];
+}
+
+-- what a node leads to stands among its nexts
+pub leads-among : (pr : Protocol_data) (n place next : ℕ) (node : Node) → slice_get pr.nodes n ≡ Some node → LeadsTo pr n place next → Among (nexts_of_node node) next
+leads-among pr n place next node is goes =
+    let e : Talk goes.sender goes.receiver goes.arms ≡ node = cc (is, goes.talks) in
+    let P : Node → Type 0 = λ z. Among (nexts_of_node z) next in
+    let Q : ℕ → Type 0 = λ z. Among (nexts_of goes.arms) z in
+    subst P e (subst Q goes.leads (at-among (nexts_of goes.arms) place goes.arm.next (at-map (λ (a : Arm). a.next) goes.arms place goes.arm goes.stands)))
+
+among-next : (arms : List Arm) (next : ℕ) → Among (nexts_of arms) next → (place : ℕ) × (arm : Arm) × (slice_get arms place ≡ Some arm) × (arm.next ≡ next)
+among-next [] next h = absurd h
+among-next (a ∷ as') next (inl e) = (zero, a, refl, e)
+among-next (a ∷ as') next (inr h) = let r = among-next as' next h in (suc r.0, r.1, r.2, r.3)
+
+pub among-leads : (pr : Protocol_data) (n next : ℕ) (node : Node) → slice_get pr.nodes n ≡ Some node → Among (nexts_of_node node) next → (place : ℕ) × LeadsTo pr n place next
+among-leads pr n next Finished is h = absurd h
+among-leads pr n next (Talk sender receiver arms) is h =
+    let r = among-next arms next h in
+    (r.0, record { sender = sender; receiver = receiver; arms = arms; arm = r.1; talks = is; stands = r.2; leads = r.3 })
+
+-- the last of those listed is gone on from, through
+pub gone-on : (pr : Protocol_data) (th : List Bool) (starts : List ℕ) (marks : List Bool) (all todo : List ℕ) (n : ℕ) (node : Node) → all ≡ todo ++ (n ∷ [])
+    → slice_get pr.nodes n ≡ Some node → IsOn th n → Spreading pr th starts marks all [] → Spreading pr th starts marks todo (nexts_of_node node)
+gone-on pr th starts marks all todo n node e is on s = record {
+  sound = s.sound;
+  right = λ m h. (let r = among-leads pr n m node is h in
+      let P : List ℕ → Type 0 = λ z. Among z n in
+      spreads-on pr th starts n r.0 m (s.sound n (s.listed n (subst P (sym e) (among-right todo (n ∷ []) n (inl refl))))) on r.1);
+  listed = λ m h. (let P : List ℕ → Type 0 = λ z. Among z m in s.listed m (subst P (sym e) (among-left todo (n ∷ []) m h)));
+  begun = λ b h. elim (s.begun b h) [ inl k ↦ inl k | inr k ↦ absurd k ];
+  closed = λ m place next h o goes. elim (s.closed m place next h o goes) [
+    | inl k ↦ inl k
+    | inr (inl k) ↦ (let P : List ℕ → Type 0 = λ z. Among z m in elim (among-split todo (n ∷ []) m (subst P e k)) [
+      | inl j ↦ inr (inl j)
+      | inr (inl f) ↦ (let Q : ℕ → Type 0 = λ z. LeadsTo pr z place next in inr (inr (leads-among pr n place next node is (subst Q (sym f) goes))))
+      | inr (inr j) ↦ absurd j
+    ])
+    | inr (inr k) ↦ absurd k
+  ];
+}
+
+-- .. not through
+pub stopped : (pr : Protocol_data) (th : List Bool) (starts : List ℕ) (marks : List Bool) (all todo : List ℕ) (n : ℕ) → all ≡ todo ++ (n ∷ [])
+    → get_or th n false ≡ false → Spreading pr th starts marks all [] → Spreading pr th starts marks todo []
+stopped pr th starts marks all todo n e off s = record {
+  sound = s.sound;
+  right = s.right;
+  listed = λ m h. (let P : List ℕ → Type 0 = λ z. Among z m in s.listed m (subst P (sym e) (among-left todo (n ∷ []) m h)));
+  begun = s.begun;
+  closed = λ m place next h o goes. elim (s.closed m place next h o goes) [
+    | inl k ↦ inl k
+    | inr (inl k) ↦ (let P : List ℕ → Type 0 = λ z. Among z m in elim (among-split todo (n ∷ []) m (subst P e k)) [
+      | inl j ↦ inr (inl j)
+      | inr (inl f) ↦ (let Q : ℕ → Type 0 = λ z. IsOn th z in let on : IsOn th n = subst Q (sym f) o in absurd (cc (on, off)))
+      | inr (inr j) ↦ absurd j
+    ])
+    | inr (inr k) ↦ absurd k
+  ];
+}
+
+spread-along : (pr : Protocol_data) (th : List Bool) (starts : List ℕ) (marks : List Bool) → Spreading pr th starts marks [] []
+    → (ss : List PathStep) (g n : ℕ) → IsOn marks g → IsPath pr g ss n → AllOn th ss → IsOn marks n
+spread-along pr th starts marks s [] g n on path all = let P : ℕ → Type 0 = λ z. IsOn marks z in subst P path on
+spread-along pr th starts marks s (t ∷ ts) g n on path all =
+    let P : ℕ → Type 0 = λ z. IsOn th z in
+    elim (s.closed g t.place path.0 on (subst P path.1 all.0) path.2) [
+      | inl k ↦ spread-along pr th starts marks s ts path.0 n k path.3 all.1
+      | inr (inl k) ↦ absurd k
+      | inr (inr k) ↦ absurd k
+    ]
+
+-- nothing is left to be done
+pub spread-whole : (pr : Protocol_data) (th : List Bool) (starts : List ℕ) (marks : List Bool) → length marks ≡ length pr.nodes → Spreading pr th starts marks [] [] → IsSpread pr th starts marks
+spread-whole pr th starts marks size s = record {
+  size = size;
+  sound = s.sound;
+  whole = λ n w. elim (s.begun w.start w.among) [ inl k ↦ spread-along pr th starts marks s w.steps w.start n k w.path w.earlier | inr k ↦ absurd k ];
+}
+
+pub popped-within : (pr : Protocol_data) (th : List Bool) (starts : List ℕ) (marks : List Bool) (all todo : List ℕ) (n : ℕ) → all ≡ todo ++ (n ∷ [])
+    → length marks ≡ length pr.nodes → Spreading pr th starts marks all [] → n < length pr.nodes
+popped-within pr th starts marks all todo n e size s =
+    let P : List ℕ → Type 0 = λ z. Among z n in
+    let w = on-within marks n (s.listed n (subst P (sym e) (among-right todo (n ∷ []) n (inl refl)))) in
+    omega arith
+
+pub leads-within : (pr : Protocol_data) (n : ℕ) (node : Node) (count : ℕ) → IsWellFormed pr → slice_get pr.nodes n ≡ Some node → count ≡ length pr.nodes → LeadsWithin count node
+leads-within pr n Finished count wf is e = tt
+leads-within pr n (Talk sender receiver arms) count wf is e = λ k d h.
+    (let w = (wf.talks n sender receiver arms is).nexts k (get_or arms k d) (slice_get-get_or arms k d h) in omega arith)

@@ -1,0 +1,171 @@
+-- What is known of the nodes of a protocol for one role.
+use Rattle.std.proofs.Common.{◌≡◌, ◌⊎◌, ◌↔◌, inl, inr, ℕ, zero, suc, ◌<◌, Bool, true, false, not, ◌&&◌, ◌||◌, ◌==◌, List, [], ◌∷◌, length, set, get_or, map, Some, slice_get, refl, sym, ap, ◌∙◌, subst, arith, if◌then◌else◌}
+use Rattle.std.proofs.lemmas.Bool.Decides.{eqb_tells}
+use Rattle.rs_model.specs.Data.{Protocol_data}
+use Rattle.rs_model.specs.declared.graph.Arm.{Arm}
+use Rattle.rs_model.specs.declared.graph.Node.{Node}
+use Rattle.rs_model.specs.declared.graph.Node.TheVariants.{Finished, Talk}
+use Rattle.rs_model.specs.declared.graph.Role.{Role}
+use Rattle.rs_project.specs.Graph.{PathStep, LeadsTo, IsPath, Involves, IsIdle}
+use Rattle.rs_project.specs.Marks.{Among, IsOn, IsAwaited, AllAwaited, HasFlags, IsSettled, IsSurvey, any_on, leads_on, involves_role}
+use Rattle.rs_project.specs.Projected.{nexts_of}
+use Rattle.rs_project.proofs.Flags.{on-within, on-decide, set-only}
+use Rattle.rs_project.proofs.Spread.{step_of, among-leads, leads-among}
+
+any-some : (flags : List Bool) (arms : List Arm) → any_on flags arms ≡ true → (next : ℕ) × Among (nexts_of arms) next × IsOn flags next
+any-some flags [] h = absurd (cc (h))
+any-some flags (a ∷ arms) h = go (get_or flags a.next false) refl h (λ k. any-some flags arms k)
+  where
+    go : (b : Bool) → get_or flags a.next false ≡ b → (if b then true else any_on flags arms) ≡ true
+        → (any_on flags arms ≡ true → (next : ℕ) × Among (nexts_of arms) next × IsOn flags next) → (next : ℕ) × Among (nexts_of (a ∷ arms)) next × IsOn flags next
+    go true e k rest = (a.next, inl refl, e)
+    go false e k rest = let r = rest k in (r.0, inr r.1, r.2)
+
+any-all : (flags : List Bool) (arms : List Arm) (next : ℕ) → Among (nexts_of arms) next → IsOn flags next → any_on flags arms ≡ true
+any-all flags [] next h on = absurd h
+any-all flags (a ∷ arms) next h on = go (get_or flags a.next false) refl h (λ k. any-all flags arms next k on)
+  where
+    go : (b : Bool) → get_or flags a.next false ≡ b → Among (nexts_of (a ∷ arms)) next → (Among (nexts_of arms) next → any_on flags arms ≡ true) → (if b then true else any_on flags arms) ≡ true
+    go true e k rest = refl
+    go false e (inl k) rest = (let P : ℕ → Type 0 = λ z. IsOn flags z in let o : IsOn flags a.next = subst P (sym k) on in absurd (cc (o, e)))
+    go false e (inr k) rest = rest k
+
+awaited-step : (pr : Protocol_data) (role : Role) (n place next : ℕ) → LeadsTo pr n place next → IsAwaited pr role next → IsAwaited pr role n
+awaited-step pr role n place next goes w = record {
+  talk = w.talk;
+  reached = (step_of n place ∷ w.reached.0, (next, refl, goes, w.reached.1));
+  involved = w.involved;
+}
+
+-- a node that leads to one from which a talk of the role can be reached
+pub awaited-by : (pr : Protocol_data) (role : Role) (flags : List Bool) (n : ℕ) (node : Node) → AllAwaited pr role flags → slice_get pr.nodes n ≡ Some node → leads_on flags node ≡ true → IsAwaited pr role n
+awaited-by pr role flags n Finished all is h = absurd (cc (h))
+awaited-by pr role flags n (Talk sender receiver arms) all is h =
+    let r = any-some flags arms h in
+    let g = among-leads pr n r.0 (Talk sender receiver arms) is r.1 in
+    awaited-step pr role n g.0 r.0 g.1 (all r.0 r.2)
+
+pub awaited-set : (pr : Protocol_data) (role : Role) (flags : List Bool) (n : ℕ) (node : Node) → slice_get pr.nodes n ≡ Some node → leads_on flags node ≡ true → AllAwaited pr role flags
+    → AllAwaited pr role (set flags n true)
+awaited-set pr role flags n node is h all = λ m on. elim (set-only flags n m on) [
+  | inl k ↦ all m k
+  | inr e ↦ (let P : ℕ → Type 0 = λ z. IsAwaited pr role z in subst P e (awaited-by pr role flags n node all is h))
+]
+
+leads-on-by : (pr : Protocol_data) (flags : List Bool) (n place next : ℕ) (node : Node) → slice_get pr.nodes n ≡ Some node → LeadsTo pr n place next → IsOn flags next → leads_on flags node ≡ true
+leads-on-by pr flags n place next Finished is goes on = absurd (leads-among pr n place next Finished is goes)
+leads-on-by pr flags n place next (Talk sender receiver arms) is goes on = any-all flags arms next (leads-among pr n place next (Talk sender receiver arms) is goes) on
+
+on-back : (pr : Protocol_data) (flags : List Bool) → IsSettled pr flags → (ss : List PathStep) (n m : ℕ) → IsPath pr n ss m → IsOn flags m → IsOn flags n
+on-back pr flags settled [] n m path on = let P : ℕ → Type 0 = λ z. IsOn flags z in subst P (sym path) on
+on-back pr flags settled (s ∷ ss) n m path on =
+    let h = on-back pr flags settled ss path.0 m path.3 on in
+    let node : Node = Talk path.2.sender path.2.receiver path.2.arms in
+    let P : ℕ → Type 0 = λ z. IsOn flags z in
+    subst P path.1 (settled s.node node (let Q : ℕ → Type 0 = λ z. slice_get pr.nodes z ≡ Some node in subst Q (sym path.1) path.2.talks)
+    (leads-on-by pr flags n s.place path.0 node path.2.talks path.2 h))
+
+on-map : (f : Node → Bool) (nodes : List Node) (n : ℕ) → IsOn (map f nodes) n → (node : Node) × (slice_get nodes n ≡ Some node) × (f node ≡ true)
+on-map f [] n h = absurd (cc (h))
+on-map f (x ∷ xs) zero h = (x, refl, h)
+on-map f (x ∷ xs) (suc n) h = on-map f xs n h
+
+map-on : (f : Node → Bool) (nodes : List Node) (n : ℕ) (node : Node) → slice_get nodes n ≡ Some node → f node ≡ true → IsOn (map f nodes) n
+map-on f [] n node is h = absurd (cc (is))
+map-on f (x ∷ xs) zero node is h = (let e : x ≡ node = cc (is) in ap f e ∙ h)
+map-on f (x ∷ xs) (suc n) node is h = map-on f xs n node is h
+
+pub same-role : (x y : Role) → x.0 ≡ y.0 → x ≡ y
+same-role x y e = let mk : ℕ → Role = λ p. record { 0 = p } in ap mk e
+
+pub or-split : (a b : Bool) → (a || b) ≡ true → (a ≡ true) ⊎ (b ≡ true)
+or-split true b h = inl refl
+or-split false b h = inr h
+
+pub or-right : (a b : Bool) → b ≡ true → (a || b) ≡ true
+or-right true b h = refl
+or-right false b h = h
+
+pub or-left : (a b : Bool) → a ≡ true → (a || b) ≡ true
+or-left true b h = refl
+or-left false b h = absurd (cc (h))
+
+pub role-by : (x y : Role) → (x.0 == y.0) ≡ true → x ≡ y
+role-by x y h = elim (eqb_tells x.0 y.0) [ inl t ↦ same-role x y t.1 | inr t ↦ absurd (cc (h, t.0)) ]
+
+pub role-eq : (x y : Role) → x ≡ y → (x.0 == y.0) ≡ true
+role-eq x y e = elim (eqb_tells x.0 y.0) [ inl t ↦ t.0 | inr t ↦ absurd (t.1 (ap (λ (z : Role). z.0) e)) ]
+
+pub involves-by : (pr : Protocol_data) (role : Role) (n : ℕ) (node : Node) → slice_get pr.nodes n ≡ Some node → involves_role role node ≡ true → Involves pr role n
+involves-by pr role n Finished is h = absurd (cc (h))
+involves-by pr role n (Talk sender receiver arms) is h = record {
+  sender = sender;
+  receiver = receiver;
+  arms = arms;
+  talks = is;
+  part = elim (or-split (sender.0 == role.0) (receiver.0 == role.0) h) [ inl k ↦ inl (role-by sender role k) | inr k ↦ inr (role-by receiver role k) ];
+}
+
+involved-flags : (pr : Protocol_data) (role : Role) (n : ℕ) → IsOn (map (λ k. involves_role role k) pr.nodes) n ↔ Involves pr role n
+involved-flags pr role n = (
+  (λ h. (let r = on-map (λ k. involves_role role k) pr.nodes n h in involves-by pr role n r.0 r.1 r.2)),
+  (λ i. map-on (λ k. involves_role role k) pr.nodes n (Talk i.sender i.receiver i.arms) i.talks (elim i.part [
+    | inl e ↦ or-left (i.sender.0 == role.0) (i.receiver.0 == role.0) (role-eq i.sender role e)
+    | inr e ↦ or-right (i.sender.0 == role.0) (i.receiver.0 == role.0) (role-eq i.receiver role e)
+  ])),
+)
+
+involved-awaited : (pr : Protocol_data) (role : Role) (n : ℕ) → Involves pr role n → IsAwaited pr role n
+involved-awaited pr role n i = record { talk = n; reached = ([], refl); involved = i }
+
+and-both : (a b : Bool) → (a && not b) ≡ true → (a ≡ true) × (b ≡ false)
+and-both true false h = (refl, refl)
+and-both true true h = absurd (cc (h))
+and-both false b h = absurd (cc (h))
+
+both-and : (a b : Bool) → a ≡ true → (b ≡ true → ⊥) → (a && not b) ≡ true
+both-and true false h k = refl
+both-and true true h k = absurd (k refl)
+both-and false b h k = absurd (cc (h))
+
+map-length : (f : Node → Bool) (nodes : List Node) → length (map f nodes) ≡ length nodes
+map-length f [] = refl
+map-length f (x ∷ xs) = ap suc (map-length f xs)
+
+pub is-survey : (pr : Protocol_data) (role : Role) (involved awaited passing : List Bool) → involved ≡ map (λ k. involves_role role k) pr.nodes
+    → length awaited ≡ length pr.nodes → length passing ≡ length involved
+    → ((r : Role) → AllAwaited pr r involved → AllAwaited pr r awaited) → HasFlags involved awaited → IsSettled pr awaited
+    → ((n : ℕ) → n < length involved → get_or passing n false ≡ (get_or awaited n false && not (get_or involved n false)))
+    → IsSurvey pr role record { role = role; involved = involved; awaited = awaited; passing = passing }
+is-survey pr role involved awaited passing e asize psize sound has settled each = record {
+  involved_size = isize;
+  awaited_size = asize;
+  passing_size = psize ∙ isize;
+  involved = inv;
+  awaited = aw;
+  idle = idle;
+  passing = λ n. (
+    (λ h. (let w = on-within passing n h in
+        let b = and-both (get_or awaited n false) (get_or involved n false) (sym (each n (omega (arith, w, psize))) ∙ h) in
+        record {
+          uninvolved = λ i. (let o = (inv n).1 i in absurd (cc (o, b.1)));
+          awaited = λ k. (let a = aw n b.0 in k a.talk a.reached a.involved);
+        })),
+    (λ p. (elim (on-decide awaited n) [
+      | inl o ↦ (let w = on-within awaited n o in each n (omega (arith, w, asize, isize)) ∙ both-and (get_or awaited n false) (get_or involved n false) o (λ k. p.uninvolved ((inv n).0 k)))
+      | inr none ↦ absurd (p.awaited (idle n none))
+    ])),
+  );
+}
+  where
+    isize : length involved ≡ length pr.nodes
+    isize = ap (λ (z : List Bool). length z) e ∙ map-length (λ k. involves_role role k) pr.nodes
+
+    inv : (n : ℕ) → IsOn involved n ↔ Involves pr role n
+    inv n = let P : List Bool → Type 0 = λ z. IsOn z n ↔ Involves pr role n in subst P (sym e) (involved-flags pr role n)
+
+    aw : (n : ℕ) → IsOn awaited n → IsAwaited pr role n
+    aw n h = sound role (λ m o. involved-awaited pr role m ((inv m).0 o)) n h
+
+    idle : (n : ℕ) → (IsOn awaited n → ⊥) → IsIdle pr role n
+    idle n none = λ talk path i. none (on-back pr awaited settled path.0 n talk path.1 (has talk ((inv talk).1 i)))

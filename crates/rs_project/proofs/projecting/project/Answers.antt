@@ -1,0 +1,24 @@
+use Rattle.std.proofs.Common.{◌≤◌, inr, ℕ, [], ◌∷◌, Option, MatchOption, refl, ap, subst}
+use Rattle.rs_model.specs.Data.{Protocol_data}
+use Rattle.rs_model.specs.declared.graph.Role.{Role}
+use Rattle.rs_project.specs.Graph.{IsUnreached}
+use Rattle.rs_project.specs.Marks.{StartMeets, StartEnds}
+use Rattle.rs_project.specs.Refusals.{IsFront, NoneUnreached}
+use Rattle.rs_project.proofs.Steps.{front-root}
+use Rattle.rs_project.proofs.projecting.project.Goals as goal
+
+pub returns-in-Some-clause-err : goal.returns-in-Some-clause-err
+returns-in-Some-clause-err c =
+    let pr = c.args.protocol.now in
+    let own = c.in_ok-survey.survey.role in
+    let P : Option ℕ → Type 0 = λ o. MatchOption o (NoneUnreached pr own) (λ node. IsUnreached pr own node × ((n : ℕ) → IsUnreached pr own n → node ≤ n)) in
+    let Q : Role → Type 0 = λ z. IsUnreached pr z c.in-Some.node × ((n : ℕ) → IsUnreached pr z n → c.in-Some.node ≤ n) in
+    let h = subst Q c.in_ok-survey.ensures.role (subst P c.in-Some.is c.in_ok-node.ensures) in
+    inr (refl, h.0, h.1)
+
+pub work-requires-clause-start : goal.work-requires-clause-start
+work-requires-clause-start c =
+    let pr = c.args.protocol.now in
+    let own = c.in_ok-survey.survey.role in
+    let P : ℕ → Type 0 = λ z. IsFront c.in_ok-start.start (StartMeets pr own (z ∷ [])) (StartEnds pr own (z ∷ [])) in
+    front-root pr own c.in_ok-start.start (subst P (ap (λ (z : Protocol_data). z.root) c.protocol.view_is) c.in_ok-start.ensures)

@@ -1,0 +1,9 @@
+pub mod Data
+pub mod Graph
+pub mod Projection
+pub mod Order
+pub mod Projected
+pub mod Refusals
+pub mod Marks
+pub mod Clashes
+pub mod Working

@@ -1,0 +1,157 @@
+-- What the search over the graph keeps: flags of nodes.
+use Rattle.std.specs.Prelude.{◌≡◌, ◌≢◌, ◌⊎◌, ◌↔◌, ℕ, ◌<◌, Bool, true, false, suc, List, [], ◌∷◌, length, slice_index_or, if◌then◌else◌, ◌==◌, ◌||◌, Option, None, Some, slice_get}
+use Rattle.std.specs.List.{All, AllPairs}
+use Rattle.rs_model.specs.Data.{Protocol_data}
+use Rattle.rs_model.specs.declared.graph.Arm.{Arm}
+use Rattle.rs_model.specs.declared.graph.Label.{Label}
+use Rattle.rs_model.specs.declared.graph.Node.{Node}
+use Rattle.rs_model.specs.declared.graph.Node.TheVariants.{Finished, Talk}
+use Rattle.rs_model.specs.declared.graph.Role.{Role}
+use Rattle.rs_project.specs.Projected.{nexts_of}
+use Rattle.rs_project.specs.Graph.{PathStep, LeadsTo, IsPath, IsReached, IsReachedFrom, Involves, IsIdle, PassesBy, AllPassBy, MeetsFirst, MeetsTheEnd}
+
+-- the list has x
+abbrev pub Among : {X : Type 0} → List X → X → Type 0
+Among [] x = ⊥
+Among (y ∷ ys) x = (y ≡ x) ⊎ Among ys x
+
+-- the flag of node n stands
+abbrev pub IsOn : List Bool → ℕ → Type 0
+IsOn flags n = slice_index_or flags n false ≡ true
+
+-- how many flags don't stand
+abbrev pub unmarked : List Bool → ℕ
+unmarked [] = 0
+unmarked (b ∷ bs) = if b then unmarked bs else suc (unmarked bs)
+
+-- the flags of all nodes at which a step is made stand
+abbrev pub AllOn : List Bool → List PathStep → Type 0
+AllOn flags [] = Unit {0}
+AllOn flags (s ∷ ss) = IsOn flags s.node × AllOn flags ss
+
+-- node n is reached from one of the starts, on a path through flagged nodes
+pub record Spreads (protocol : Protocol_data) (through : List Bool) (starts : List ℕ) (n : ℕ) : Type 0 where
+  pub start : ℕ
+  pub among : Among starts start
+  pub steps : List PathStep
+  pub path : IsPath protocol start steps n
+  pub earlier : AllOn through steps
+
+-- the numbers behind the arms of a node
+abbrev pub nexts_of_node : Node → List ℕ
+nexts_of_node Finished = []
+nexts_of_node (Talk sender receiver arms) = nexts_of arms
+
+-- each arm leads to one of so many nodes
+abbrev pub LeadsWithin : ℕ → Node → Type 0
+LeadsWithin count Finished = Unit {0}
+LeadsWithin count (Talk sender receiver arms) = All (λ (a : Arm). a.next < count) arms
+
+-- marks that spread so far: the nodes of `todo` are still to be gone on from, and those of `soon` are still to be marked
+pub record Spreading (protocol : Protocol_data) (through : List Bool) (starts : List ℕ) (marks : List Bool) (todo soon : List ℕ) : Type 0 where
+  pub sound : (n : ℕ) → IsOn marks n → Spreads protocol through starts n
+  pub right : (n : ℕ) → Among soon n → Spreads protocol through starts n
+  pub listed : (n : ℕ) → Among todo n → IsOn marks n
+  pub begun : (s : ℕ) → Among starts s → IsOn marks s ⊎ Among soon s
+  pub closed : (n place next : ℕ) → IsOn marks n → IsOn through n → LeadsTo protocol n place next
+      → IsOn marks next ⊎ (Among todo n ⊎ Among soon next)
+
+-- the marks are those of all nodes to which the starts spread
+pub record IsSpread (protocol : Protocol_data) (through : List Bool) (starts : List ℕ) (marks : List Bool) : Type 0 where
+  pub size : length marks ≡ length protocol.nodes
+  pub sound : (n : ℕ) → IsOn marks n → Spreads protocol through starts n
+  pub whole : (n : ℕ) → Spreads protocol through starts n → IsOn marks n
+
+-- from node n a talk of the role can be reached
+pub record IsAwaited (protocol : Protocol_data) (role : Role) (n : ℕ) : Type 0 where
+  pub talk : ℕ
+  pub reached : IsReachedFrom protocol n talk
+  pub involved : Involves protocol role talk
+
+-- some arm leads to a flagged node
+abbrev pub any_on : List Bool → List Arm → Bool
+any_on flags [] = false
+any_on flags (a ∷ arms) = if slice_index_or flags a.next false then true else any_on flags arms
+
+-- .. of a node
+abbrev pub leads_on : List Bool → Node → Bool
+leads_on flags Finished = false
+leads_on flags (Talk sender receiver arms) = any_on flags arms
+
+-- the node is a talk of the role
+abbrev pub involves_role : Role → Node → Bool
+involves_role role Finished = false
+involves_role role (Talk sender receiver arms) = (sender.0 == role.0) || (receiver.0 == role.0)
+
+-- only nodes are flagged from which a talk of the role can be reached
+abbrev pub AllAwaited : Protocol_data → Role → List Bool → Type 0
+AllAwaited protocol role flags = (n : ℕ) → IsOn flags n → IsAwaited protocol role n
+
+-- a node that leads to a flagged node is flagged
+abbrev pub IsSettled : Protocol_data → List Bool → Type 0
+IsSettled protocol flags = (n : ℕ) (node : Node) → slice_get protocol.nodes n ≡ Some node → leads_on flags node ≡ true → IsOn flags n
+
+-- the second list has all flags of the first
+abbrev pub HasFlags : List Bool → List Bool → Type 0
+HasFlags old new = (n : ℕ) → IsOn old n → IsOn new n
+
+-- one can come from node n back to it through nodes that pass by the role
+pub record GoesRound (protocol : Protocol_data) (role : Role) (n : ℕ) : Type 0 where
+  pub steps : List PathStep
+  pub some : steps ≢ []
+  pub cycle : IsPath protocol n steps n
+  pub around : AllPassBy protocol role steps
+
+-- the flags are those of the nodes that are reached from the root and pass by the role
+pub record IsLive (protocol : Protocol_data) (role : Role) (flags : List Bool) : Type 0 where
+  pub size : length flags ≡ length protocol.nodes
+  pub reached : (n : ℕ) → IsOn flags n → IsReached protocol n
+  pub passing : (n : ℕ) → IsOn flags n → PassesBy protocol role n
+  pub whole : (n : ℕ) → IsReached protocol n → PassesBy protocol role n → IsOn flags n
+
+-- what is known of the nodes for the role: which involve the role, from which a talk of it can be reached, and which pass by it
+pub record Survey_data : Type 0 where
+  pub role : Role
+  pub involved : List Bool
+  pub awaited : List Bool
+  pub passing : List Bool
+
+pub record IsSurvey (protocol : Protocol_data) (role : Role) (survey : Survey_data) : Type 0 where
+  pub involved_size : length survey.involved ≡ length protocol.nodes
+  pub awaited_size : length survey.awaited ≡ length protocol.nodes
+  pub passing_size : length survey.passing ≡ length protocol.nodes
+  pub involved : (n : ℕ) → IsOn survey.involved n ↔ Involves protocol role n
+  pub awaited : (n : ℕ) → IsOn survey.awaited n → IsAwaited protocol role n
+  pub idle : (n : ℕ) → (IsOn survey.awaited n → ⊥) → IsIdle protocol role n
+  pub passing : (n : ℕ) → IsOn survey.passing n ↔ PassesBy protocol role n
+
+-- one of the starts meets the talk first
+pub record StartMeets (protocol : Protocol_data) (role : Role) (starts : List ℕ) (talk : ℕ) : Type 0 where
+  pub start : ℕ
+  pub among : Among starts start
+  pub meets : MeetsFirst protocol role start talk
+
+-- one of the starts may meet the end
+pub record StartEnds (protocol : Protocol_data) (role : Role) (starts : List ℕ) : Type 0 where
+  pub start : ℕ
+  pub among : Among starts start
+  pub ends : MeetsTheEnd protocol role start
+
+-- the numbers are those of the flags that stand in both lists among the first so many, in order
+pub record AreCommon (one other : List Bool) (count : ℕ) (numbers : List ℕ) : Type 0 where
+  pub rising : AllPairs (λ (n m : ℕ). n < m) numbers
+  pub below : (n : ℕ) → Among numbers n → n < count
+  pub in_one : (n : ℕ) → Among numbers n → IsOn one n
+  pub in_other : (n : ℕ) → Among numbers n → IsOn other n
+  pub whole : (n : ℕ) → n < count → IsOn one n → IsOn other n → Among numbers n
+
+-- the numbers behind the arms with the label
+abbrev pub labelled_nexts : Label → List Arm → List ℕ
+labelled_nexts label [] = []
+labelled_nexts label (a ∷ arms) = if a.label.0 == label.0 then a.next ∷ labelled_nexts label arms else labelled_nexts label arms
+
+-- .. behind those of a node
+abbrev pub labelled_nexts_of : Label → Option Node → List ℕ
+labelled_nexts_of label None = []
+labelled_nexts_of label (Some Finished) = []
+labelled_nexts_of label (Some (Talk sender receiver arms)) = labelled_nexts label arms

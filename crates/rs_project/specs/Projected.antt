@@ -1,0 +1,28 @@
+-- The whole meaning of the projection of a protocol onto a role: also its numbers are fixed.
+use Rattle.std.specs.Prelude.{◌≤◌, ℕ, List, [], map, length}
+use Rattle.rs_model.specs.Data.{Protocol_data}
+use Rattle.rs_model.specs.declared.graph.Arm.{Arm}
+use Rattle.rs_model.specs.declared.graph.Role.{Role}
+use Rattle.rs_model.specs.declared.machines.State.{State}
+use Rattle.rs_model.specs.declared.machines.State.TheVariants.{Done, Puts, Takes}
+use Rattle.rs_project.specs.Data.{Projection_data}
+use Rattle.rs_project.specs.Order.{IsOnce, Worked}
+use Rattle.rs_project.specs.Projection.{IsProjection}
+
+-- the numbers behind arms, in order
+abbrev pub nexts_of : List Arm → List ℕ
+nexts_of arms = map (λ (a : Arm). a.next) arms
+
+-- .. behind the arms of a state
+abbrev pub nexts_behind : State → List ℕ
+nexts_behind Done = []
+nexts_behind (Puts peer arms) = nexts_of arms
+nexts_behind (Takes peer arms) = nexts_of arms
+
+-- it is a projection, its states are numbered in the order in which their sets are found, working on the states in
+-- order of number and on the arms of each in order, no set stands twice, and there are at most 1,024
+pub record Projected (protocol : Protocol_data) (role : Role) (projection : Projection_data) : Type 0 where
+  pub is : IsProjection protocol role projection
+  pub order : Worked 0 1 (map nexts_behind projection.machine.states) (length projection.sets)
+  pub once : IsOnce projection.sets
+  pub few : length projection.sets ≤ 1024

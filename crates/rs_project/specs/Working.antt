@@ -1,0 +1,146 @@
+-- What the work on the states keeps, and what it comes to.
+use Rattle.std.specs.Prelude.{◌≡◌, ◌≢◌, ◌⊎◌, ℕ, ◌<◌, ◌≤◌, true, List, [], ◌∷◌, ◌++◌, map, length, Option, Some, slice_get}
+use Rattle.std.specs.List.{Contains}
+use Rattle.rs_model.specs.Data.{Protocol_data}
+use Rattle.rs_model.specs.declared.graph.Arm.{Arm}
+use Rattle.rs_model.specs.declared.graph.Label.{Label}
+use Rattle.rs_model.specs.declared.graph.Role.{Role}
+use Rattle.rs_model.specs.declared.machines.State.{State}
+use Rattle.rs_model.specs.declared.machines.State.TheVariants.{Done, Puts, Takes}
+use Rattle.rs_wellformed.specs.Faults.{Talks}
+use Rattle.rs_project.specs.Data.{Front_data}
+use Rattle.rs_project.specs.Graph.{Involves, MeetsFirst, MeetsTheEnd}
+use Rattle.rs_project.specs.Marks.{Among}
+use Rattle.rs_project.specs.Order.{IsOnce, Numbered, Worked}
+use Rattle.rs_project.specs.Projected.{nexts_behind}
+use Rattle.rs_project.specs.Projection.{Choice, choice_of, merged_choices, MeetsBehind, EndsBehind}
+use Rattle.rs_project.specs.Refusals.{IsFront, IsFrontAt, Merges, AreBehind, FirstClash}
+use Rattle.rs_project.specs.declared.projecting.ProjFault.{ProjFault}
+use Rattle.rs_project.specs.declared.projecting.ProjFault.TheVariants.{Unmergeable, Unreached, TooManyStates, NoMemory}
+
+-- the front is what the role meets first behind the label
+abbrev pub IsFrontBehind : Protocol_data → Role → List ℕ → Label → Front_data → Type 0
+IsFrontBehind protocol role talks label front = IsFront front (MeetsBehind protocol role talks label) (EndsBehind protocol role talks label)
+
+-- the front stands nowhere among these
+abbrev pub IsNew : List Front_data → Front_data → Type 0
+IsNew fronts front = (k : ℕ) → slice_get fronts k ≡ Some front → ⊥
+
+-- each front keeps its number
+abbrev pub Keeps : List Front_data → List Front_data → Type 0
+Keeps old new = (n : ℕ) (f : Front_data) → slice_get old n ≡ Some f → slice_get new n ≡ Some f
+
+-- the number of a front in a list, to which it is added where it is new and there is room
+abbrev pub Adds : List Front_data → Front_data → List Front_data → ℕ → Type 0
+Adds old front new n =
+    ((slice_get old n ≡ Some front) × (new ≡ old))
+    ⊎ ((n ≡ length old) × (new ≡ old ++ (front ∷ [])) × (length old < 1024) × IsNew old front)
+
+-- .. and where there is no room
+abbrev pub NumberFault : Role → List Front_data → Front_data → ProjFault → Type 0
+NumberFault role old front (TooManyStates r) = (r ≡ role) × (length old ≡ 1024) × IsNew old front
+NumberFault role old front (Unmergeable r a b) = ⊥
+NumberFault role old front (Unreached r n) = ⊥
+NumberFault role old front NoMemory = Unit {0}
+
+-- the number of the front behind a label
+pub record Finds (protocol : Protocol_data) (role : Role) (old : List Front_data) (talks : List ℕ) (label : Label) (new : List Front_data) (n : ℕ) : Type 0 where
+  pub front : Front_data
+  pub is : IsFrontBehind protocol role talks label front
+  pub adds : Adds old front new n
+
+-- there are 1,024 fronts, and the one behind the label is another one
+pub record FindsNone (protocol : Protocol_data) (role : Role) (old : List Front_data) (talks : List ℕ) (label : Label) : Type 0 where
+  pub front : Front_data
+  pub is : IsFrontBehind protocol role talks label front
+  pub many : length old ≡ 1024
+  pub new : IsNew old front
+
+abbrev pub FindFault : Protocol_data → Role → List Front_data → List ℕ → Label → ProjFault → Type 0
+FindFault protocol role old talks label (TooManyStates r) = (r ≡ role) × FindsNone protocol role old talks label
+FindFault protocol role old talks label (Unmergeable r a b) = ⊥
+FindFault protocol role old talks label (Unreached r n) = ⊥
+FindFault protocol role old talks label NoMemory = Unit {0}
+
+-- what is known of the fronts that were found: none stands twice, there are at most 1,024, they have only talks of the
+-- role, and one without talks has the end
+pub record AreFound (protocol : Protocol_data) (role : Role) (fronts : List Front_data) : Type 0 where
+  pub once : IsOnce fronts
+  pub few : length fronts ≤ 1024
+  pub right : (k : ℕ) (f : Front_data) (t : ℕ) → slice_get fronts k ≡ Some f → Among f.talks t → Involves protocol role t
+  pub told : (k : ℕ) (f : Front_data) → slice_get fronts k ≡ Some f → f.talks ≡ [] → f.ends ≡ true
+
+-- behind these choices stand the fronts with the numbers of the row, and those that weren't found before were added
+pub record Discovers (protocol : Protocol_data) (role : Role) (old : List Front_data) (talks : List ℕ) (choices : List Choice) (new : List Front_data) (row : List ℕ) : Type 0 where
+  pub found : AreFound protocol role new
+  pub kept : Keeps old new
+  pub numbered : Numbered (length old) row (length new)
+  pub behind : AreBehind protocol role new talks choices row
+
+-- the work on the choices comes to one whose front is none of 1,024
+pub record TooManyAt (protocol : Protocol_data) (role : Role) (old : List Front_data) (talks : List ℕ) (choices : List Choice) : Type 0 where
+  pub fronts : List Front_data
+  pub row : List ℕ
+  pub before : List Choice
+  pub choice : Choice
+  pub after : List Choice
+  pub split : choices ≡ before ++ (choice ∷ after)
+  pub discovers : Discovers protocol role old talks before fronts row
+  pub none : FindsNone protocol role fronts talks choice.label
+
+abbrev pub ArmsFault : Protocol_data → Role → List Front_data → List ℕ → List Choice → ProjFault → Type 0
+ArmsFault protocol role old talks choices (TooManyStates r) = (r ≡ role) × TooManyAt protocol role old talks choices
+ArmsFault protocol role old talks choices (Unmergeable r a b) = ⊥
+ArmsFault protocol role old talks choices (Unreached r n) = ⊥
+ArmsFault protocol role old talks choices NoMemory = Unit {0}
+
+-- the role does in the state what it does in all these talks
+abbrev pub HasShape : Protocol_data → Role → List ℕ → State → Type 0
+HasShape protocol role talks Done = talks ≡ []
+HasShape protocol role talks (Puts peer arms) =
+    (talks ≢ []) × ((t : ℕ) → Contains talks t → (theirs : List Arm) × Talks protocol t role peer theirs)
+    × (map choice_of arms ≡ merged_choices protocol talks)
+HasShape protocol role talks (Takes peer arms) =
+    (talks ≢ []) × ((t : ℕ) → Contains talks t → (theirs : List Arm) × Talks protocol t peer role theirs)
+    × (map choice_of arms ≡ merged_choices protocol talks)
+
+-- the state stands for the front of that number
+pub record WorksOn (protocol : Protocol_data) (role : Role) (old : List Front_data) (number : ℕ) (new : List Front_data) (state : State) : Type 0 where
+  pub front : Front_data
+  pub here : slice_get old number ≡ Some front
+  pub merges : Merges protocol role front
+  pub discovers : Discovers protocol role old front.talks (merged_choices protocol front.talks) new (nexts_behind state)
+  pub shape : HasShape protocol role front.talks state
+
+-- two of its members clash first
+pub record ClashesAt (protocol : Protocol_data) (role : Role) (fronts : List Front_data) (number a : ℕ) (b : Option ℕ) : Type 0 where
+  pub front : Front_data
+  pub here : slice_get fronts number ≡ Some front
+  pub clash : FirstClash protocol role front a b
+
+-- none clash, and there are too many fronts behind it
+pub record OverflowsAt (protocol : Protocol_data) (role : Role) (fronts : List Front_data) (number : ℕ) : Type 0 where
+  pub front : Front_data
+  pub here : slice_get fronts number ≡ Some front
+  pub merges : Merges protocol role front
+  pub many : TooManyAt protocol role fronts front.talks (merged_choices protocol front.talks)
+
+abbrev pub StateFault : Protocol_data → Role → List Front_data → ℕ → ProjFault → Type 0
+StateFault protocol role fronts number (Unmergeable r a b) = (r ≡ role) × ClashesAt protocol role fronts number a b
+StateFault protocol role fronts number (TooManyStates r) = (r ≡ role) × OverflowsAt protocol role fronts number
+StateFault protocol role fronts number (Unreached r n) = ⊥
+StateFault protocol role fronts number NoMemory = Unit {0}
+
+-- the state stands for the front, and its nexts are the numbers of those behind
+pub record IsDoneWith (protocol : Protocol_data) (role : Role) (fronts : List Front_data) (front : Front_data) (state : State) : Type 0 where
+  pub merges : Merges protocol role front
+  pub behind : AreBehind protocol role fronts front.talks (merged_choices protocol front.talks) (nexts_behind state)
+  pub shape : HasShape protocol role front.talks state
+
+-- as far as the work has come
+pub record Working (protocol : Protocol_data) (role : Role) (fronts : List Front_data) (states : List State) : Type 0 where
+  pub found : AreFound protocol role fronts
+  pub first : IsFrontAt fronts 0 (MeetsFirst protocol role protocol.root) (MeetsTheEnd protocol role protocol.root)
+  pub order : Worked 0 1 (map nexts_behind states) (length fronts)
+  pub ahead : length states ≤ length fronts
+  pub done : (k : ℕ) (f : Front_data) (state : State) → slice_get fronts k ≡ Some f → slice_get states k ≡ Some state → IsDoneWith protocol role fronts f state

@@ -1,0 +1,138 @@
+ghost use Rattle.std.specs.Prelude.{◌≡◌, ◌<◌, ◌≤◌, ◌^◌, ◌∷◌, [], ℕ, true, false, map, length, slice_get, Some, IfOk, IfErr, MatchOption};
+ghost use Rattle.std.specs.List.{All};
+ghost use Rattle.rs_project.specs.Marks.{IsSurvey};
+ghost use Rattle.rs_project.specs.Order.{IsOnce};
+ghost use Rattle.rs_project.specs.Projected.{nexts_of};
+ghost use Rattle.rs_project.specs.Projection.{choice_of, merged_choices};
+ghost use Rattle.rs_project.specs.Working.{Adds, AreFound, ArmsFault, Discovers, FindFault, Finds, IsFrontBehind, IsNew, NumberFault};
+ghost use Rattle.rs_wellformed.specs.WellFormed.{IsWellFormed};
+
+use crate::ProjFault;
+use crate::fronts::{Front, front_of};
+use crate::merging::starts_behind;
+use crate::surveying::Survey;
+use rs_model::{Arm, Arms, Label, NoMemory, Protocol, Role};
+use std::alloc::Global;
+
+const MOST_STATES: usize = 1024;
+
+/// The arms of the state that stands for these talks, with these choices. Fronts that weren't found before are added.
+pub fn arms_of(
+    alloc: Global,
+    protocol: &Protocol,
+    survey: &Survey,
+    talks: &[u32],
+    choices: &[Arm],
+    fronts: &mut Vec<Front>,
+) -> Result<Arms, ProjFault>
+    requires well_formed { IsWellFormed protocol.now }
+    requires few { length protocol.now.nodes < 2 ^ 32 }
+    requires survey { IsSurvey protocol.now survey.now.role survey.now }
+    requires talks { All (λ t. t < length protocol.now.nodes) talks.now }
+    requires choices { map choice_of choices.now ≡ merged_choices protocol.now talks.now }
+    requires found { AreFound protocol.now survey.now.role fronts.old.items }
+    ensures ok { IfOk result (λ arms. Discovers protocol.now survey.now.role fronts.old.items talks.now (map choice_of choices.now) fronts.new.items (nexts_of arms)) }
+    ensures choices { IfOk result (λ arms. map choice_of arms ≡ map choice_of choices.now) }
+    ensures err { IfErr result (λ e. ArmsFault protocol.now survey.now.role fronts.old.items talks.now (map choice_of choices.now) e) }
+{
+    let mut arms = Arms::new(alloc);
+    for choice in choices {
+        let next = match find(alloc, protocol, survey, talks, choice.label, fronts) {
+            Ok(next) => next,
+            Err(fault) => return Err(fault),
+        };
+        arms.push(Arm {
+            label: choice.label,
+            sort: choice.sort,
+            next,
+        })?;
+    }
+    Ok(arms)
+}
+
+// The number of what the role meets first behind the label.
+fn find(
+    alloc: Global,
+    protocol: &Protocol,
+    survey: &Survey,
+    talks: &[u32],
+    label: Label,
+    fronts: &mut Vec<Front>,
+) -> Result<u32, ProjFault>
+    requires well_formed { IsWellFormed protocol.now }
+    requires few { length protocol.now.nodes < 2 ^ 32 }
+    requires survey { IsSurvey protocol.now survey.now.role survey.now }
+    requires talks { All (λ t. t < length protocol.now.nodes) talks.now }
+    requires fronts { length fronts.old.items ≤ 1024 }
+    ensures ok { IfOk result (λ n. Finds protocol.now survey.now.role fronts.old.items talks.now label fronts.new.items n) }
+    ensures err { IfErr result (λ e. FindFault protocol.now survey.now.role fronts.old.items talks.now label e) }
+{
+    let front = front_behind(alloc, protocol, survey, talks, label)?;
+    match number_of(survey.role, fronts, front) {
+        Ok(number) => Ok(number),
+        Err(fault) => Err(fault),
+    }
+}
+
+fn front_behind(
+    alloc: Global,
+    protocol: &Protocol,
+    survey: &Survey,
+    talks: &[u32],
+    label: Label,
+) -> Result<Front, NoMemory>
+    requires well_formed { IsWellFormed protocol.now }
+    requires few { length protocol.now.nodes < 2 ^ 32 }
+    requires survey { IsSurvey protocol.now survey.now.role survey.now }
+    requires talks { All (λ t. t < length protocol.now.nodes) talks.now }
+    ensures { IfOk result (λ f. IsFrontBehind protocol.now survey.now.role talks.now label f) }
+{
+    let starts = starts_behind(alloc, protocol, talks, label)?;
+    let front = front_of(alloc, protocol, survey, &starts)?;
+    Ok(front)
+}
+
+// The number of a front, which is added where it is new.
+fn number_of(role: Role, fronts: &mut Vec<Front>, front: Front) -> Result<u32, ProjFault>
+    requires { length fronts.old.items ≤ 1024 }
+    ensures ok { IfOk result (λ n. Adds fronts.old.items front fronts.new.items n) }
+    ensures err { IfErr result (λ e. NumberFault role fronts.old.items front e) }
+{
+    if let Some(place) = place_of(fronts.as_slice(), &front) {
+        return Ok(place as u32);
+    }
+    let number = fronts.len();
+    if number == MOST_STATES {
+        return Err(ProjFault::TooManyStates { role });
+    }
+    fronts.push(front)?;
+    Ok(number as u32)
+}
+
+fn place_of(fronts: &[Front], front: &Front) -> Option<usize>
+    ensures { MatchOption result (IsNew fronts.now front.now) (λ n. slice_get fronts.now n ≡ Some front.now) }
+{
+    for i in 0..fronts.len() {
+        if same_front(&fronts[i], front) {
+            return Some(i);
+        }
+    }
+    None
+}
+
+fn same_front(one: &Front, other: &Front) -> bool
+    ensures sound { result ≡ true → one.now ≡ other.now }
+    ensures whole { result ≡ false → one.now ≡ other.now → ⊥ }
+{
+    if one.ends != other.ends {
+        return false;
+    }
+    same_talks(&one.talks, &other.talks)
+}
+
+fn same_talks(one: &[u32], other: &[u32]) -> bool
+    ensures sound { result ≡ true → one.now ≡ other.now }
+    ensures whole { result ≡ false → one.now ≡ other.now → ⊥ }
+{
+    one == other
+}

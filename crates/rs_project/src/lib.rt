@@ -1,0 +1,17 @@
+//! The projection of a protocol onto a role: what the role has to do, where it can't tell apart all the nodes at which
+//! the session may be.
+#![tactic(auto)]
+
+mod clashes;
+mod finding;
+mod fronts;
+pub mod laws;
+mod merging;
+mod projecting;
+mod rounds;
+mod spreading;
+mod surveying;
+#[cfg(test)]
+mod tests;
+
+pub use projecting::{ProjFault, Projection, project};

@@ -1,0 +1,90 @@
+ghost use Rattle.std.specs.Prelude.{◌≡◌, ◌<◌, ◌++◌, ◌∷◌, [], ◌==◌, map, length, slice_get, Some, IfOk, OnOk};
+ghost use Rattle.std.specs.List.{All, flat_map, list_any};
+ghost use Rattle.rs_project.specs.Marks.{labelled_nexts, labelled_nexts_of};
+ghost use Rattle.rs_project.specs.Projection.{choice_of, choices_of, first_choices, merged_choices};
+
+use rs_model::{Arm, Label, NoMemory, Node, Protocol};
+use std::alloc::Global;
+
+/// The arms of the talks, one talk after the other, each label once.
+pub fn merged_arms(alloc: Global, protocol: &Protocol, talks: &[u32]) -> Result<Vec<Arm>, NoMemory>
+    requires { All (λ t. t < length protocol.now.nodes) talks.now }
+    ensures { IfOk result (λ v. map choice_of v.items ≡ merged_choices protocol.now talks.now) }
+{
+    let mut merged = Vec::new(alloc);
+    for talk in talks {
+        add_node(&mut merged, &protocol.nodes[*talk as usize])?;
+    }
+    Ok(merged)
+}
+
+fn add_node(merged: &mut Vec<Arm>, node: &Node) -> Result<(), NoMemory>
+    ensures { OnOk result (map choice_of merged.new.items ≡ map choice_of merged.old.items ++ first_choices (choices_of (Some node.now)) (map choice_of merged.old.items)) }
+{
+    match node {
+        Node::Finished => Ok(()),
+        Node::Talk { arms, .. } => add_arms(merged, arms.as_slice()),
+    }
+}
+
+fn add_arms(merged: &mut Vec<Arm>, arms: &[Arm]) -> Result<(), NoMemory>
+    ensures { OnOk result (map choice_of merged.new.items ≡ map choice_of merged.old.items ++ first_choices (map choice_of arms.now) (map choice_of merged.old.items)) }
+{
+    for arm in arms {
+        add_arm(merged, *arm)?;
+    }
+    Ok(())
+}
+
+fn add_arm(merged: &mut Vec<Arm>, arm: Arm) -> Result<(), NoMemory>
+    ensures { OnOk result (map choice_of merged.new.items ≡ map choice_of merged.old.items ++ first_choices (choice_of arm ∷ []) (map choice_of merged.old.items)) }
+{
+    if has_label(merged.as_slice(), arm.label) {
+        return Ok(());
+    }
+    merged.push(arm)?;
+    Ok(())
+}
+
+fn has_label(arms: &[Arm], label: Label) -> bool
+    ensures { result ≡ list_any (λ a. a.label.0 == label.0) arms.now }
+{
+    arms.iter().any(|arm| arm.label == label)
+}
+
+/// The nodes to which arms of the talks with the label lead.
+pub fn starts_behind(
+    alloc: Global,
+    protocol: &Protocol,
+    talks: &[u32],
+    label: Label,
+) -> Result<Vec<u32>, NoMemory>
+    requires { All (λ t. t < length protocol.now.nodes) talks.now }
+    ensures { IfOk result (λ v. v.items ≡ flat_map (λ t. labelled_nexts_of label (slice_get protocol.now.nodes t)) talks.now) }
+{
+    let mut starts = Vec::new(alloc);
+    for talk in talks {
+        add_starts(&mut starts, &protocol.nodes[*talk as usize], label)?;
+    }
+    Ok(starts)
+}
+
+fn add_starts(starts: &mut Vec<u32>, node: &Node, label: Label) -> Result<(), NoMemory>
+    ensures { OnOk result (starts.new.items ≡ starts.old.items ++ labelled_nexts_of label (Some node.now)) }
+{
+    match node {
+        Node::Finished => Ok(()),
+        Node::Talk { arms, .. } => add_nexts(starts, arms.as_slice(), label),
+    }
+}
+
+fn add_nexts(starts: &mut Vec<u32>, arms: &[Arm], label: Label) -> Result<(), NoMemory>
+    ensures { OnOk result (starts.new.items ≡ starts.old.items ++ labelled_nexts label arms.now) }
+{
+    for arm in arms {
+        if arm.label == label {
+            starts.push(arm.next)?;
+        }
+    }
+    Ok(())
+}

@@ -1,0 +1,237 @@
+ghost use Rattle.std.specs.Prelude.{◌≡◌, ◌⊎◌, ◌<◌, ◌≤◌, ◌^◌, ℕ, map, length, IfOk, IfErr};
+ghost use Rattle.std.specs.List.{Contains};
+ghost use Rattle.rs_project.specs.Graph.{Involves, MeetsFirst, MeetsTheEnd};
+ghost use Rattle.rs_project.specs.Marks.{Among, IsSurvey};
+ghost use Rattle.rs_project.specs.Projected.{Projected, nexts_behind, nexts_of};
+ghost use Rattle.rs_project.specs.Projection.{Agree, choice_of, merged_choices};
+ghost use Rattle.rs_project.specs.Refusals.{FirstRefusal, IsFront, NoneUnreached};
+ghost use Rattle.rs_project.specs.Working.{AreFound, ArmsFault, Discovers, HasShape, StateFault, WorksOn};
+ghost use Rattle.rs_wellformed.specs.WellFormed.{IsWellFormed};
+
+use crate::clashes::first_clash;
+use crate::finding::arms_of;
+use crate::fronts::{Front, front_of};
+use crate::merging::merged_arms;
+use crate::rounds::first_unreached;
+use crate::surveying::{Survey, survey_of};
+use rs_model::{Arms, Machine, NoMemory, Node, Protocol, Role, State};
+use std::alloc::{AllocError, AllocFailed, Global};
+use std::marker::Model;
+
+/// What a protocol asks of one of its roles: the role's machine, which starts at state 0, and for each state the talks
+/// for which the state stands, by the numbers of their nodes in order; none for the end.
+#[derive(Drop, Debug)]
+pub struct Projection {
+    pub machine: Machine,
+    pub sets: Vec<Vec<u32>>,
+}
+
+impl Model for Projection {
+    ghost use Rattle.std.specs.Prelude.{map};
+    ghost use Rattle.rs_project.specs.Data.{Projection_data};
+
+    ghost Value = { Projection_data };
+
+    ghost view = { λ p. record { machine = p.machine; sets = map (λ s. s.items) p.sets.items } };
+}
+
+/// Why a protocol has no projection onto a role.
+#[derive(Drop, Debug, PartialEq, Eq)]
+pub enum ProjFault {
+    /// The role may meet both talks first and can't tell them apart, and doesn't do the same in both. `a` and `b` are
+    /// their numbers, `a` the lesser one; `b` is None where the role may as well meet the end.
+    Unmergeable { role: Role, a: u32, b: Option<u32> },
+    /// The session may come to the node and go round for ever, with the role left waiting. It is the least such node.
+    Unreached { role: Role, node: u32 },
+    /// The role's machine has more than 1,024 states.
+    TooManyStates { role: Role },
+    /// Memory was refused.
+    NoMemory,
+}
+
+impl From<NoMemory> for ProjFault {
+    ghost use Rattle.std.specs.Prelude.{◌≡◌};
+    ghost use Rattle.rs_project.specs.declared.projecting.ProjFault.TheVariants.{NoMemory};
+
+    ghost from_gives = { λ _ e. e ≡ NoMemory };
+
+    fn from(_error: NoMemory) -> Self {
+        ProjFault::NoMemory
+    }
+}
+
+impl From<AllocError> for ProjFault {
+    ghost use Rattle.std.specs.Prelude.{◌≡◌};
+    ghost use Rattle.rs_project.specs.declared.projecting.ProjFault.TheVariants.{NoMemory};
+
+    ghost from_gives = { λ _ e. e ≡ NoMemory };
+
+    fn from(_error: AllocError) -> Self {
+        ProjFault::NoMemory
+    }
+}
+
+impl<T: Drop> From<AllocFailed<T>> for ProjFault {
+    ghost use Rattle.std.specs.Prelude.{◌≡◌};
+    ghost use Rattle.rs_project.specs.declared.projecting.ProjFault.TheVariants.{NoMemory};
+
+    ghost from_gives = { λ _ e. e ≡ NoMemory };
+
+    fn from(_error: AllocFailed<T>) -> Self {
+        ProjFault::NoMemory
+    }
+}
+
+/// The projection of a well-formed protocol onto one of its roles.
+///
+/// The error is the first in this order: the least node that is unreached; then, working on the states in order of
+/// number, for each state the first two members that clash, and after them, arm by arm, a set of talks that would be
+/// the 1,025th state.
+pub fn project(alloc: Global, protocol: &Protocol, role: Role) -> Result<Projection, ProjFault>
+    requires well_formed { IsWellFormed protocol.now }
+    requires role { role.0 < protocol.now.roles }
+    requires few { length protocol.now.nodes < 2 ^ 32 }
+    ensures ok { IfOk result (λ p. Projected protocol.now role p) }
+    ensures err { IfErr result (λ e. (e ≡ ProjFault.NoMemory) ⊎ FirstRefusal protocol.now role e) }
+{
+    let survey = survey_of(alloc, protocol, role)?;
+    if let Some(node) = first_unreached(alloc, protocol, &survey)? {
+        return Err(ProjFault::Unreached { role, node });
+    }
+    let start = front_of(alloc, protocol, &survey, &[protocol.root])?;
+    work(alloc, protocol, &survey, start)
+}
+
+fn work(
+    alloc: Global,
+    protocol: &Protocol,
+    survey: &Survey,
+    start: Front,
+) -> Result<Projection, ProjFault>
+    requires well_formed { IsWellFormed protocol.now }
+    requires few { length protocol.now.nodes < 2 ^ 32 }
+    requires survey { IsSurvey protocol.now survey.now.role survey.now }
+    requires reached { NoneUnreached protocol.now survey.now.role }
+    requires start { IsFront start (MeetsFirst protocol.now survey.now.role protocol.now.root) (MeetsTheEnd protocol.now survey.now.role protocol.now.root) }
+    ensures ok { IfOk result (λ p. Projected protocol.now survey.now.role p) }
+    ensures err { IfErr result (λ e. (e ≡ ProjFault.NoMemory) ⊎ FirstRefusal protocol.now survey.now.role e) }
+{
+    let mut fronts = Vec::new(alloc);
+    fronts.push(start)?;
+    let mut states: Vec<State> = Vec::new(alloc);
+    while states.len() < fronts.len() {
+        let state = match state_of(alloc, protocol, survey, states.len(), &mut fronts) {
+            Ok(state) => state,
+            Err(fault) => return Err(fault),
+        };
+        states.push(state)?;
+    }
+    let sets = sets_of(alloc, &fronts)?;
+    let machine = Machine {
+        role: survey.role,
+        states,
+        start: 0,
+    };
+    Ok(Projection { machine, sets })
+}
+
+fn state_of(
+    alloc: Global,
+    protocol: &Protocol,
+    survey: &Survey,
+    number: usize,
+    fronts: &mut Vec<Front>,
+) -> Result<State, ProjFault>
+    requires well_formed { IsWellFormed protocol.now }
+    requires few { length protocol.now.nodes < 2 ^ 32 }
+    requires survey { IsSurvey protocol.now survey.now.role survey.now }
+    requires found { AreFound protocol.now survey.now.role fronts.old.items }
+    requires number { number < length fronts.old.items }
+    ensures ok { IfOk result (λ s. WorksOn protocol.now survey.now.role fronts.old.items number fronts.new.items s) }
+    ensures err { IfErr result (λ e. StateFault protocol.now survey.now.role fronts.old.items number e) }
+{
+    let front = &fronts[number];
+    if let Some(clash) = first_clash(protocol, survey.role, front) {
+        return Err(ProjFault::Unmergeable {
+            role: survey.role,
+            a: clash.a,
+            b: clash.b,
+        });
+    }
+    let talks = Vec::from_slice(alloc, &front.talks)?;
+    let state = match merged_state(alloc, protocol, survey, &talks, fronts) {
+        Ok(state) => state,
+        Err(fault) => return Err(fault),
+    };
+    Ok(state)
+}
+
+// The state that stands for these talks, which don't clash.
+fn merged_state(
+    alloc: Global,
+    protocol: &Protocol,
+    survey: &Survey,
+    talks: &[u32],
+    fronts: &mut Vec<Front>,
+) -> Result<State, ProjFault>
+    requires well_formed { IsWellFormed protocol.now }
+    requires few { length protocol.now.nodes < 2 ^ 32 }
+    requires survey { IsSurvey protocol.now survey.now.role survey.now }
+    requires found { AreFound protocol.now survey.now.role fronts.old.items }
+    requires involved { (t : ℕ) → Among talks.now t → Involves protocol.now survey.now.role t }
+    requires agree { (one other : ℕ) → Contains talks.now one → Contains talks.now other → Agree protocol.now survey.now.role one other }
+    ensures ok { IfOk result (λ s. Discovers protocol.now survey.now.role fronts.old.items talks.now (merged_choices protocol.now talks.now) fronts.new.items (nexts_behind s)) }
+    ensures shape { IfOk result (λ s. HasShape protocol.now survey.now.role talks.now s) }
+    ensures err { IfErr result (λ e. ArmsFault protocol.now survey.now.role fronts.old.items talks.now (merged_choices protocol.now talks.now) e) }
+{
+    let choices = merged_arms(alloc, protocol, talks)?;
+    let arms = match arms_of(alloc, protocol, survey, talks, &choices, fronts) {
+        Ok(arms) => arms,
+        Err(fault) => return Err(fault),
+    };
+    Ok(act_of(protocol, survey.role, talks, arms))
+}
+
+// The state of a role that does what it does in the first of these talks, or of one that is done where there are none.
+fn act_of(protocol: &Protocol, role: Role, talks: &[u32], arms: Arms) -> State
+    requires well_formed { IsWellFormed protocol.now }
+    requires involved { (t : ℕ) → Among talks.now t → Involves protocol.now role t }
+    requires agree { (one other : ℕ) → Contains talks.now one → Contains talks.now other → Agree protocol.now role one other }
+    requires choices { map choice_of arms ≡ merged_choices protocol.now talks.now }
+    ensures shape { HasShape protocol.now role talks.now result }
+    ensures nexts { nexts_behind result ≡ nexts_of arms }
+{
+    if talks.is_empty() {
+        return State::Done;
+    }
+    match &protocol.nodes[talks[0] as usize] {
+        Node::Finished => State::Done,
+        Node::Talk {
+            sender,
+            receiver,
+            ..
+        } => {
+            if *sender == role {
+                State::Puts {
+                    peer: *receiver,
+                    arms,
+                }
+            } else {
+                State::Takes {
+                    peer: *sender,
+                    arms,
+                }
+            }
+        }
+    }
+}
+
+fn sets_of(alloc: Global, fronts: &[Front]) -> Result<Vec<Vec<u32>>, NoMemory>
+    ensures { IfOk result (λ v. map (λ s. s.items) v.items ≡ map (λ f. f.talks) fronts.now) }
+{
+    let mut sets = Vec::new(alloc);
+    for front in fronts {
+        sets.push(Vec::from_slice(alloc, &front.talks)?)?;
+    }
+    Ok(sets)
+}

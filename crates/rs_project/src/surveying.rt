@@ -1,0 +1,164 @@
+ghost use Rattle.std.specs.Prelude.{◌≡◌, ◌↔◌, ◌≤◌, ◌<◌, ◌&&◌, ℕ, true, false, not, map, length, slice_index_or, slice_get, Some, IfOk};
+ghost use Rattle.rs_model.specs.declared.graph.Node.{Node};
+ghost use Rattle.rs_model.specs.declared.graph.Role.{Role};
+ghost use Rattle.rs_project.specs.Graph.{Involves, IsIdle};
+ghost use Rattle.rs_project.specs.Marks.{AllAwaited, HasFlags, IsOn, IsSettled, IsSurvey, LeadsWithin, any_on, involves_role, leads_on, unmarked};
+ghost use Rattle.rs_wellformed.specs.WellFormed.{IsWellFormed};
+ghost use Rattle.std.specs.List.{All};
+
+use rs_model::{Arm, NoMemory, Node, Protocol, Role};
+use std::alloc::Global;
+use std::marker::Model;
+
+/// What is known of the nodes of a protocol for one role: whether a node is a talk that involves the role, whether such a
+/// talk can be reached from it, and whether it passes by the role.
+#[derive(Drop)]
+pub struct Survey {
+    pub role: Role,
+    pub involved: Vec<bool>,
+    pub awaited: Vec<bool>,
+    pub passing: Vec<bool>,
+}
+
+impl Model for Survey {
+    ghost use Rattle.rs_project.specs.Marks.{Survey_data};
+
+    ghost Value = { Survey_data };
+
+    ghost view = { λ s. record { role = s.role; involved = s.involved.items; awaited = s.awaited.items; passing = s.passing.items } };
+}
+
+/// What is known of the protocol's nodes for the role.
+pub fn survey_of(alloc: Global, protocol: &Protocol, role: Role) -> Result<Survey, NoMemory>
+    requires { IsWellFormed protocol.now }
+    ensures survey { IfOk result (λ s. IsSurvey protocol.now role s) }
+    ensures role { IfOk result (λ s. s.role ≡ role) }
+{
+    let involved = involved_nodes(alloc, protocol, role)?;
+    let awaited = awaited_nodes(alloc, protocol, &involved)?;
+    let passing = passing_nodes(alloc, &involved, &awaited)?;
+    Ok(Survey {
+        role,
+        involved,
+        awaited,
+        passing,
+    })
+}
+
+fn involved_nodes(alloc: Global, protocol: &Protocol, role: Role) -> Result<Vec<bool>, NoMemory>
+    ensures { IfOk result (λ v. v.items ≡ map (λ n. involves_role role n) protocol.now.nodes) }
+{
+    let mut involved = Vec::new(alloc);
+    for node in &protocol.nodes {
+        involved.push(involves(node, role))?;
+    }
+    Ok(involved)
+}
+
+fn involves(node: &Node, role: Role) -> bool
+    ensures { result ≡ involves_role role node.now }
+{
+    match node {
+        Node::Finished => false,
+        Node::Talk {
+            sender,
+            receiver,
+            ..
+        } => *sender == role || *receiver == role,
+    }
+}
+
+// From which nodes a talk of the role can be reached.
+fn awaited_nodes(
+    alloc: Global,
+    protocol: &Protocol,
+    involved: &[bool],
+) -> Result<Vec<bool>, NoMemory>
+    requires well_formed { IsWellFormed protocol.now }
+    requires size { length involved.now ≡ length protocol.now.nodes }
+    ensures size { IfOk result (λ v. length v.items ≡ length protocol.now.nodes) }
+    ensures sound { IfOk result (λ v. (role : Role) → AllAwaited protocol.now role involved.now → AllAwaited protocol.now role v.items) }
+    ensures has { IfOk result (λ v. HasFlags involved.now v.items) }
+    ensures settled { IfOk result (λ v. IsSettled protocol.now v.items) }
+{
+    let mut awaited = Vec::from_slice(alloc, involved)?;
+    while await_more(protocol, &mut awaited) {}
+    Ok(awaited)
+}
+
+// Marks nodes that lead to a marked one, from the last to the first; whether some were marked.
+fn await_more(protocol: &Protocol, awaited: &mut Vec<bool>) -> bool
+    requires well_formed { IsWellFormed protocol.now }
+    requires size { length awaited.old.items ≡ length protocol.now.nodes }
+    ensures size { length awaited.new.items ≡ length protocol.now.nodes }
+    ensures sound { (role : Role) → AllAwaited protocol.now role awaited.old.items → AllAwaited protocol.now role awaited.new.items }
+    ensures has { HasFlags awaited.old.items awaited.new.items }
+    ensures less { result ≡ true → unmarked awaited.new.items < unmarked awaited.old.items }
+    ensures settled { result ≡ false → IsSettled protocol.now awaited.new.items }
+{
+    let mut more = false;
+    let mut left = protocol.nodes.len();
+    while left > 0 {
+        left -= 1;
+        if await_one(protocol, awaited, left) {
+            more = true;
+        }
+    }
+    more
+}
+
+// Marks the node where it isn't marked and leads to a marked one; whether it did.
+fn await_one(protocol: &Protocol, awaited: &mut Vec<bool>, number: usize) -> bool
+    requires well_formed { IsWellFormed protocol.now }
+    requires size { length awaited.old.items ≡ length protocol.now.nodes }
+    requires node { number < length protocol.now.nodes }
+    ensures size { length awaited.new.items ≡ length protocol.now.nodes }
+    ensures sound { (role : Role) → AllAwaited protocol.now role awaited.old.items → AllAwaited protocol.now role awaited.new.items }
+    ensures has { HasFlags awaited.old.items awaited.new.items }
+    ensures less { result ≡ true → unmarked awaited.new.items < unmarked awaited.old.items }
+    ensures same { result ≡ false → awaited.new.items ≡ awaited.old.items }
+    ensures settled { result ≡ false → (node : Node) → slice_get protocol.now.nodes number ≡ Some node → leads_on awaited.old.items node ≡ true → IsOn awaited.old.items number }
+{
+    if awaited[number] {
+        return false;
+    }
+    if !leads_to_one(&protocol.nodes[number], awaited) {
+        return false;
+    }
+    awaited[number] = true;
+    true
+}
+
+fn leads_to_one(node: &Node, awaited: &[bool]) -> bool
+    requires { LeadsWithin (length awaited.now) node.now }
+    ensures { result ≡ leads_on awaited.now node.now }
+{
+    match node {
+        Node::Finished => false,
+        Node::Talk { arms, .. } => has_next_on(arms.as_slice(), awaited),
+    }
+}
+
+fn has_next_on(arms: &[Arm], awaited: &[bool]) -> bool
+    requires { All (λ a. a.next < length awaited.now) arms.now }
+    ensures { result ≡ any_on awaited.now arms.now }
+{
+    for arm in arms {
+        if awaited[arm.next as usize] {
+            return true;
+        }
+    }
+    false
+}
+
+fn passing_nodes(alloc: Global, involved: &[bool], awaited: &[bool]) -> Result<Vec<bool>, NoMemory>
+    requires { length awaited.now ≡ length involved.now }
+    ensures size { IfOk result (λ v. length v.items ≡ length involved.now) }
+    ensures each { IfOk result (λ v. (n : ℕ) → n < length involved.now → slice_index_or v.items n false ≡ (slice_index_or awaited.now n false && not (slice_index_or involved.now n false))) }
+{
+    let mut passing = Vec::new(alloc);
+    for i in 0..involved.len() {
+        passing.push(awaited[i] && !involved[i])?;
+    }
+    Ok(passing)
+}
