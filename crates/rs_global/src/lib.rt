@@ -6,9 +6,11 @@ mod drafts;
 pub mod fault_laws;
 pub mod laws;
 pub mod printing_laws;
-mod shapes;
 mod protocols;
 mod reading;
+#[cfg(test)]
+mod shape_tests;
+mod shapes;
 pub mod spelling_laws;
 #[cfg(test)]
 mod tests;

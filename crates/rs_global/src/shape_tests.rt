@@ -1,0 +1,254 @@
+use crate::{read_protocol, text_shaped};
+use rs_model::{Arm, Arms, Label, NoMemory, Node, Protocol, Role, Sort};
+use std::alloc::Global;
+use std::test::Fail;
+
+/// A talk with arms for labels and nodes.
+fn talk(alloc: Global, sender: u8, receiver: u8, arms: &[(u16, u32)]) -> Result<Node, NoMemory> {
+    let mut all = Arms::new(alloc);
+    for (label, next) in arms {
+        all.push(Arm {
+            label: Label(*label),
+            sort: Sort::Unit,
+            next: *next,
+        })?;
+    }
+    Ok(Node::Talk {
+        sender: Role(sender),
+        receiver: Role(receiver),
+        arms: all,
+    })
+}
+
+/// A protocol of talks from role 0 to role 1 with these arms, and an end behind them where there is one.
+fn graph(
+    alloc: Global,
+    roles: u8,
+    talks: &[&[(u16, u32)]],
+    ended: bool,
+    root: u32,
+) -> Result<Protocol, NoMemory> {
+    let mut nodes = Vec::new(alloc);
+    for arms in talks {
+        nodes.push(talk(alloc, 0, 1, arms)?)?;
+    }
+    if ended {
+        nodes.push(Node::Finished)?;
+    }
+    Ok(Protocol { roles, nodes, root })
+}
+
+#[test]
+fn tells_shapes(rt: HostRuntime) -> Result<(), Fail> {
+    let none: &[&[(u16, u32)]] = &[];
+    let cases = [
+        ("an end", 2, none, true, 0, true),
+        ("one role", 1, none, true, 0, false),
+        ("sixteen roles", 16, none, true, 0, true),
+        ("seventeen roles", 17, none, true, 0, false),
+        ("no node", 2, none, false, 0, false),
+        ("one talk", 2, &[&[(0, 1)]], true, 0, true),
+        ("no end", 2, &[&[(0, 1)]], false, 0, false),
+        ("a loop", 2, &[&[(0, 0)]], false, 0, true),
+        (
+            "an end that nothing leads to",
+            2,
+            &[&[(0, 0)]],
+            true,
+            0,
+            false,
+        ),
+        ("no arms", 2, &[&[]], false, 0, false),
+        ("a label twice", 2, &[&[(0, 1), (0, 1)]], true, 0, true),
+        ("two talks", 2, &[&[(0, 1)], &[(1, 2)]], true, 0, true),
+        ("another root", 2, &[&[(0, 2)], &[(1, 0)]], true, 1, false),
+        (
+            "labels in another order",
+            2,
+            &[&[(1, 1)], &[(0, 2)]],
+            true,
+            0,
+            false,
+        ),
+        (
+            "a label left out",
+            2,
+            &[&[(0, 1)], &[(2, 2)]],
+            true,
+            0,
+            false,
+        ),
+        (
+            "an end before a talk",
+            2,
+            &[&[(0, 2)], &[(0, 2)]],
+            true,
+            0,
+            false,
+        ),
+        (
+            "a choice",
+            2,
+            &[&[(0, 1), (1, 2)], &[(0, 3)], &[(1, 3)]],
+            true,
+            0,
+            true,
+        ),
+        (
+            "talks in another order",
+            2,
+            &[&[(0, 2), (1, 1)], &[(0, 3)], &[(1, 3)]],
+            true,
+            0,
+            false,
+        ),
+        (
+            "a way back to the first",
+            2,
+            &[&[(0, 1), (1, 2)], &[(0, 3)], &[(1, 0)]],
+            true,
+            0,
+            true,
+        ),
+        (
+            "a way back to another arm",
+            2,
+            &[&[(0, 1), (1, 2)], &[(0, 3)], &[(1, 1)]],
+            true,
+            0,
+            false,
+        ),
+        (
+            "one talk for two arms",
+            2,
+            &[&[(0, 1), (1, 1)], &[(0, 2)]],
+            true,
+            0,
+            false,
+        ),
+        (
+            "a talk that nothing leads to",
+            2,
+            &[&[(0, 2)], &[(0, 2)]],
+            true,
+            0,
+            false,
+        ),
+    ];
+    for (name, roles, talks, ended, root, want) in cases {
+        let protocol = graph(rt.alloc(), roles, talks, ended, root)?;
+        assert_eq!(rt; text_shaped(&protocol), want, "{name}");
+    }
+    Ok(())
+}
+
+#[test]
+fn tells_roles(rt: HostRuntime) -> Result<(), Fail> {
+    let cases = [
+        (0, 1, true),
+        (1, 0, true),
+        (1, 1, true),
+        (0, 2, false),
+        (2, 0, false),
+    ];
+    for (sender, receiver, want) in cases {
+        let mut nodes = Vec::new(rt.alloc());
+        nodes.push(talk(rt.alloc(), sender, receiver, &[(0, 1)])?)?;
+        nodes.push(Node::Finished)?;
+        let protocol = Protocol {
+            roles: 2,
+            nodes,
+            root: 0,
+        };
+        assert_eq!(rt; text_shaped(&protocol), want, "{sender} {receiver}");
+    }
+    Ok(())
+}
+
+/// So many talks, each in the first arm of the one before, with a second arm to the end where `braces` says so.
+fn row(alloc: Global, count: u32, braces: bool) -> Result<Protocol, NoMemory> {
+    let mut nodes = Vec::new(alloc);
+    for n in 0..count {
+        let first = (0, n + 1);
+        if braces {
+            nodes.push(talk(alloc, 0, 1, &[first, (0, count)])?)?;
+        } else {
+            nodes.push(talk(alloc, 0, 1, &[first])?)?;
+        }
+    }
+    nodes.push(Node::Finished)?;
+    Ok(Protocol {
+        roles: 2,
+        nodes,
+        root: 0,
+    })
+}
+
+/// A talk with so many labels.
+fn labelled(alloc: Global, count: u16) -> Result<Protocol, NoMemory> {
+    let mut arms = Arms::new(alloc);
+    for label in 0..count {
+        arms.push(Arm {
+            label: Label(label),
+            sort: Sort::Unit,
+            next: 1,
+        })?;
+    }
+    let mut nodes = Vec::new(alloc);
+    nodes.push(Node::Talk {
+        sender: Role(0),
+        receiver: Role(1),
+        arms,
+    })?;
+    nodes.push(Node::Finished)?;
+    Ok(Protocol {
+        roles: 2,
+        nodes,
+        root: 0,
+    })
+}
+
+#[test]
+fn tells_limits(rt: HostRuntime) -> Result<(), Fail> {
+    let rows = [
+        (1024, false, true),
+        (1025, false, false),
+        (200, true, true),
+        (201, true, false),
+    ];
+    for (count, braces, want) in rows {
+        let protocol = row(rt.alloc(), count, braces)?;
+        assert_eq!(rt; text_shaped(&protocol), want, "{count}");
+    }
+    for (count, want) in [(256, true), (257, false)] {
+        let protocol = labelled(rt.alloc(), count)?;
+        assert_eq!(rt; text_shaped(&protocol), want, "{count}");
+    }
+    Ok(())
+}
+
+/// Whether a text is read as a protocol that is text-shaped.
+fn is_read_in_shape(alloc: Global, bytes: &[u8]) -> bool {
+    match read_protocol(alloc, bytes, 0) {
+        Ok((_names, protocol, _until)) => text_shaped(&protocol),
+        Err(_fault) => false,
+    }
+}
+
+#[test]
+fn tells_what_is_read(rt: HostRuntime) -> Result<(), Fail> {
+    let texts = [
+        b"roles A, B protocol end".as_slice(),
+        b"roles A, B protocol rec X. rec Y. A->B{a(). X, b(nat). Y}",
+        b"roles A, B protocol rec X. A->B:x(). rec X. B->A{x(). X, y(). end}",
+        b"roles S, T protocol rec X. T->S:ready(). S->T{value(bytes). X, stop(). end}",
+        b"roles C, S protocol rec X. C->S{add(nat). C->S:second(nat). S->C:sum(nat). X, bye(). S->C:bye(). end}",
+        b"roles S, C, A protocol S->C{login(). C->A:passwd(bytes). A->S:auth(bool). end, cancel(). C->A:quit(). end}",
+        b"roles K, S, T protocol rec X. K->S:ready(). T->K:ready(). S->K{copy(bytes). K->T:copy(bytes). X, stop(). K->S:ready(). K->T:stop(). end}",
+        b"roles A, B, C protocol rec X. A->B:add(nat). B->C{add(nat). C->A:add(nat). X, sub(nat). C->A:sub(nat). X}",
+    ];
+    for text in texts {
+        assert!(rt; is_read_in_shape(rt.alloc(), text));
+    }
+    Ok(())
+}
