@@ -32,3 +32,7 @@ pub mod ShapeGrown
 pub mod ShapeWhole
 pub mod PrintedTrees
 pub mod NodeNames
+pub mod Printed
+pub mod BackFlags
+pub mod EndsLast
+pub mod EnoughNames

@@ -5,7 +5,10 @@ pub mod canonical_laws;
 mod drafts;
 pub mod fault_laws;
 pub mod laws;
+mod printing;
 pub mod printing_laws;
+#[cfg(test)]
+mod printing_tests;
 mod protocols;
 mod reading;
 #[cfg(test)]
@@ -15,5 +18,6 @@ pub mod spelling_laws;
 #[cfg(test)]
 mod tests;
 
+pub use printing::print_protocol;
 pub use protocols::read_protocol;
 pub use shapes::text_shaped;

@@ -1,9 +1,11 @@
 // What printed protocols say. The functions do nothing: each states a law.
 ghost use Rattle.std.specs.Prelude.{◌≡◌, ◌≤◌, ◌+◌, ◌++◌, ℕ, List, drop, length, true};
+ghost use Rattle.rs_model.specs.Data.{Names_data, Protocol_data};
 ghost use Rattle.rs_text.specs.Lexemes.{next_lexeme};
 ghost use Rattle.rs_text.specs.Words.{is_role_word};
 ghost use Rattle.rs_text.specs.Writing.{IsWritten};
-ghost use Rattle.rs_global.specs.Canonical.{name_of_node};
+ghost use Rattle.rs_global.specs.Canonical.{IsTextShaped, name_of_node};
+ghost use Rattle.rs_global.specs.Enough.{AreEnough};
 ghost use Rattle.rs_global.specs.Graph.{graph_of, names_of};
 ghost use Rattle.rs_global.specs.Spells.{Fits, SpellsProtocol};
 ghost use Rattle.rs_global.specs.Texts.{protocol_text};
@@ -29,4 +31,14 @@ pub fn lone_text_of_a_tree_spells_it()
 /// The name of a node can be a recursion name.
 pub fn node_name_is_a_word()
     ensures { (n : ℕ) → n ≤ 1024 → is_role_word (name_of_node n) ≡ true }
+{}
+
+/// A protocol that a text spells is text-shaped ..
+pub fn spelt_protocol_is_text_shaped()
+    ensures { (bytes : List ℕ) (at : ℕ) (names : Names_data) (protocol : Protocol_data) (until : ℕ) → SpellsProtocol bytes at names protocol until → IsTextShaped protocol }
+{}
+
+/// .. and its names are enough to print it.
+pub fn spelt_names_are_enough()
+    ensures { (bytes : List ℕ) (at : ℕ) (names : Names_data) (protocol : Protocol_data) (until : ℕ) → SpellsProtocol bytes at names protocol until → AreEnough names protocol }
 {}

@@ -44,7 +44,7 @@ lexed_after_blank bytes at byte rest (l ∷ ls) parts h k = (k.0 ∙ after_blank
 abbrev standing : Sign → ℕ → List ℕ → Lexeme
 standing sign at text = record { sign = sign; from = at; until = at + length text }
 
-token_next : (bytes : List ℕ) (at : ℕ) (sign : Sign) (text behind : List ℕ) → drop at bytes ≡ text ++ behind → IsToken sign text behind → standing sign at text ≡ next_lexeme bytes at
+pub token_next : (bytes : List ℕ) (at : ℕ) (sign : Sign) (text behind : List ℕ) → drop at bytes ≡ text ++ behind → IsToken sign text behind → standing sign at text ≡ next_lexeme bytes at
 token_next bytes at sign text behind parts t = one_next bytes at (standing sign at text) (record { gap = nothing; text = text; behind = behind; parts = parts; between = tt; token = t; from = sym (add-zero at); until = refl })
 
 -- ---- the pieces of a text

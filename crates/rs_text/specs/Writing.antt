@@ -27,8 +27,8 @@ ArePieces [] behind = Unit {0}
 ArePieces (blank byte ∷ pieces) behind = (is_blank byte ≡ true) × ArePieces pieces behind
 ArePieces (token sign text ∷ pieces) behind = IsToken sign text (flat_map piece_text pieces ++ behind) × (is_last sign ≡ false) × ArePieces pieces behind
 
--- before the bytes behind it, the text is written for tokens with these signs: blanks may stand before, between and
--- behind them, and need to only where two tokens would else be read as another one
+-- where `behind` stands behind it, the text is written for tokens with these signs. Blanks may stand before, between and
+-- behind them; between two words there has to be one, since each is a token before what stands behind it
 pub record IsWritten (signs : List Sign) (text behind : List ℕ) : Type 0 where
   pub pieces : List Piece
   pub right : ArePieces pieces behind
