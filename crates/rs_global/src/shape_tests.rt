@@ -3,164 +3,74 @@ use rs_model::{Arm, Arms, Label, NoMemory, Node, Protocol, Role, Sort};
 use std::alloc::Global;
 use std::test::Fail;
 
-/// A talk with arms for labels and nodes.
-fn talk(alloc: Global, sender: u8, receiver: u8, arms: &[(u16, u32)]) -> Result<Node, NoMemory> {
-    let mut all = Arms::new(alloc);
-    for (label, next) in arms {
-        all.push(Arm {
-            label: Label(*label),
-            sort: Sort::Unit,
-            next: *next,
-        })?;
+fn arm(label: u16, next: u32) -> Arm {
+    Arm {
+        label: Label(label),
+        sort: Sort::Unit,
+        next,
     }
-    Ok(Node::Talk {
-        sender: Role(sender),
-        receiver: Role(receiver),
-        arms: all,
-    })
 }
 
-/// A protocol of talks from role 0 to role 1 with these arms, and an end behind them where there is one.
-fn graph(
-    alloc: Global,
-    roles: u8,
-    talks: &[&[(u16, u32)]],
-    ended: bool,
-    root: u32,
-) -> Result<Protocol, NoMemory> {
+/// A protocol of talks from role 0 to role 1, each with its arms as pairs of digits, for label and next node, and with
+/// a semicolon behind it. A dot stands for the end.
+fn graph(alloc: Global, roles: u8, text: &[u8], root: u32) -> Result<Protocol, NoMemory> {
     let mut nodes = Vec::new(alloc);
-    for arms in talks {
-        nodes.push(talk(alloc, 0, 1, arms)?)?;
-    }
-    if ended {
-        nodes.push(Node::Finished)?;
+    let mut arms = Arms::new(alloc);
+    let mut label = None;
+    for byte in text {
+        match *byte {
+            b'.' => nodes.push(Node::Finished)?,
+            b';' => {
+                nodes.push(Node::Talk {
+                    sender: Role(0),
+                    receiver: Role(1),
+                    arms,
+                })?;
+                arms = Arms::new(alloc);
+            }
+            digit => {
+                let number = u16::from(digit & 15);
+                match label {
+                    None => label = Some(number),
+                    Some(first) => {
+                        arms.push(arm(first, u32::from(number)))?;
+                        label = None;
+                    }
+                }
+            }
+        }
     }
     Ok(Protocol { roles, nodes, root })
 }
 
 #[test]
 fn tells_shapes(rt: HostRuntime) -> Result<(), Fail> {
-    let none: &[&[(u16, u32)]] = &[];
     let cases = [
-        ("an end", 2, none, true, 0, true),
-        ("one role", 1, none, true, 0, false),
-        ("sixteen roles", 16, none, true, 0, true),
-        ("seventeen roles", 17, none, true, 0, false),
-        ("no node", 2, none, false, 0, false),
-        ("one talk", 2, &[&[(0, 1)]], true, 0, true),
-        ("no end", 2, &[&[(0, 1)]], false, 0, false),
-        ("a loop", 2, &[&[(0, 0)]], false, 0, true),
-        (
-            "an end that nothing leads to",
-            2,
-            &[&[(0, 0)]],
-            true,
-            0,
-            false,
-        ),
-        ("no arms", 2, &[&[]], false, 0, false),
-        ("a label twice", 2, &[&[(0, 1), (0, 1)]], true, 0, true),
-        ("two talks", 2, &[&[(0, 1)], &[(1, 2)]], true, 0, true),
-        ("another root", 2, &[&[(0, 2)], &[(1, 0)]], true, 1, false),
-        (
-            "labels in another order",
-            2,
-            &[&[(1, 1)], &[(0, 2)]],
-            true,
-            0,
-            false,
-        ),
-        (
-            "a label left out",
-            2,
-            &[&[(0, 1)], &[(2, 2)]],
-            true,
-            0,
-            false,
-        ),
-        (
-            "an end before a talk",
-            2,
-            &[&[(0, 2)], &[(0, 2)]],
-            true,
-            0,
-            false,
-        ),
-        (
-            "a choice",
-            2,
-            &[&[(0, 1), (1, 2)], &[(0, 3)], &[(1, 3)]],
-            true,
-            0,
-            true,
-        ),
-        (
-            "talks in another order",
-            2,
-            &[&[(0, 2), (1, 1)], &[(0, 3)], &[(1, 3)]],
-            true,
-            0,
-            false,
-        ),
-        (
-            "a way back to the first",
-            2,
-            &[&[(0, 1), (1, 2)], &[(0, 3)], &[(1, 0)]],
-            true,
-            0,
-            true,
-        ),
-        (
-            "a way back to another arm",
-            2,
-            &[&[(0, 1), (1, 2)], &[(0, 3)], &[(1, 1)]],
-            true,
-            0,
-            false,
-        ),
-        (
-            "one talk for two arms",
-            2,
-            &[&[(0, 1), (1, 1)], &[(0, 2)]],
-            true,
-            0,
-            false,
-        ),
-        (
-            "a talk that nothing leads to",
-            2,
-            &[&[(0, 2)], &[(0, 2)]],
-            true,
-            0,
-            false,
-        ),
+        ("an end", 2, b".".as_slice(), 0, true),
+        ("one role", 1, b".", 0, false),
+        ("sixteen roles", 16, b".", 0, true),
+        ("seventeen roles", 17, b".", 0, false),
+        ("no node", 2, b"", 0, false),
+        ("one talk", 2, b"01;.", 0, true),
+        ("no end", 2, b"01;", 0, false),
+        ("a loop", 2, b"00;", 0, true),
+        ("an end that nothing leads to", 2, b"00;.", 0, false),
+        ("no arms", 2, b";", 0, false),
+        ("a label twice", 2, b"0101;.", 0, true),
+        ("two talks", 2, b"01;12;.", 0, true),
+        ("another root", 2, b"02;10;.", 1, false),
+        ("labels in another order", 2, b"11;02;.", 0, false),
+        ("a label left out", 2, b"01;22;.", 0, false),
+        ("a talk that nothing leads to", 2, b"02;02;.", 0, false),
+        ("a choice", 2, b"0112;03;13;.", 0, true),
+        ("talks in another order", 2, b"0211;03;13;.", 0, false),
+        ("a way back to the first", 2, b"0112;03;10;.", 0, true),
+        ("a way back into another arm", 2, b"0112;03;11;.", 0, false),
+        ("one talk for two arms", 2, b"0111;02;.", 0, false),
     ];
-    for (name, roles, talks, ended, root, want) in cases {
-        let protocol = graph(rt.alloc(), roles, talks, ended, root)?;
+    for (name, roles, text, root, want) in cases {
+        let protocol = graph(rt.alloc(), roles, text, root)?;
         assert_eq!(rt; text_shaped(&protocol), want, "{name}");
-    }
-    Ok(())
-}
-
-#[test]
-fn tells_roles(rt: HostRuntime) -> Result<(), Fail> {
-    let cases = [
-        (0, 1, true),
-        (1, 0, true),
-        (1, 1, true),
-        (0, 2, false),
-        (2, 0, false),
-    ];
-    for (sender, receiver, want) in cases {
-        let mut nodes = Vec::new(rt.alloc());
-        nodes.push(talk(rt.alloc(), sender, receiver, &[(0, 1)])?)?;
-        nodes.push(Node::Finished)?;
-        let protocol = Protocol {
-            roles: 2,
-            nodes,
-            root: 0,
-        };
-        assert_eq!(rt; text_shaped(&protocol), want, "{sender} {receiver}");
     }
     Ok(())
 }
@@ -169,12 +79,16 @@ fn tells_roles(rt: HostRuntime) -> Result<(), Fail> {
 fn row(alloc: Global, count: u32, braces: bool) -> Result<Protocol, NoMemory> {
     let mut nodes = Vec::new(alloc);
     for n in 0..count {
-        let first = (0, n + 1);
+        let mut arms = Arms::new(alloc);
+        arms.push(arm(0, n + 1))?;
         if braces {
-            nodes.push(talk(alloc, 0, 1, &[first, (0, count)])?)?;
-        } else {
-            nodes.push(talk(alloc, 0, 1, &[first])?)?;
+            arms.push(arm(0, count))?;
         }
+        nodes.push(Node::Talk {
+            sender: Role(0),
+            receiver: Role(1),
+            arms,
+        })?;
     }
     nodes.push(Node::Finished)?;
     Ok(Protocol {
@@ -188,11 +102,7 @@ fn row(alloc: Global, count: u32, braces: bool) -> Result<Protocol, NoMemory> {
 fn labelled(alloc: Global, count: u16) -> Result<Protocol, NoMemory> {
     let mut arms = Arms::new(alloc);
     for label in 0..count {
-        arms.push(Arm {
-            label: Label(label),
-            sort: Sort::Unit,
-            next: 1,
-        })?;
+        arms.push(arm(label, 1))?;
     }
     let mut nodes = Vec::new(alloc);
     nodes.push(Node::Talk {
