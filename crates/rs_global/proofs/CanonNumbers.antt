@@ -50,9 +50,9 @@ place_at_from [] n i x d e = absurd (cc e)
 place_at_from (y ∷ names) n zero x d e = let same : n ≡ n + 0 = omega arith in rw (subst (λ (z : List ℕ). bytes_eq y z ≡ true) (some_text y x e) (bytes_same y)) (ap Some same)
 place_at_from (y ∷ names) n (suc i) x d e = elim (true_or_false (bytes_eq y x)) [
   | inl h ↦ (
-    let there : is_among x names ≡ true = at_among names i x e in
-    let here : is_among y names ≡ true = subst (λ (z : List ℕ). is_among z names ≡ true) (sym ((bytes_eq-Decides y x).0 h)) there in
-    absurd (cc (here, (differ_rest (is_among y names) (differ names) d).0)))
+      let there : is_among x names ≡ true = at_among names i x e in
+      let here : is_among y names ≡ true = subst (λ (z : List ℕ). is_among z names ≡ true) (sym ((bytes_eq-Decides y x).0 h)) there in
+      absurd (cc (here, (differ_rest (is_among y names) (differ names) d).0)))
   | inr h ↦ (let same : suc n + i ≡ n + suc i = omega arith in rw h (place_at_from names (suc n) i x (differ_rest (is_among y names) (differ names) d).1 e ∙ ap Some same))
 ]
 
@@ -145,10 +145,10 @@ grown_map f all (x ∷ xs) names inj old new =
     elim (true_or_false (is_among x names)) [
       | inl e ↦ ap step (test ∙ e) ∙ grown_map f all xs names inj old (λ y h. new y (or_second (bytes_eq x y) (is_among y xs) h)) ∙ ap plain (sym e)
       | inr e ↦ ap step (test ∙ e) ∙ ap (λ z. grown z (map f xs)) (sym (map-append f names (x ∷ [])))
-      ∙ grown_map f all xs (names ++ x ∷ []) inj
-      (λ y h. or_cases (is_among y all ≡ true) (is_among y names) (is_among y (x ∷ [])) (sym (list_any-append (λ z. bytes_eq z y) names (x ∷ [])) ∙ h) (λ a. old y a) (λ a. or_cases (is_among y all ≡ true) (bytes_eq x y) false a (λ b. subst (λ (z : List ℕ). is_among z all ≡ true) ((bytes_eq-Decides x y).0 b) there) (λ b. absurd (cc b))))
-      (λ y h. new y (or_second (bytes_eq x y) (is_among y xs) h))
-      ∙ ap plain (sym e)
+          ∙ grown_map f all xs (names ++ x ∷ []) inj
+          (λ y h. or_cases (is_among y all ≡ true) (is_among y names) (is_among y (x ∷ [])) (sym (list_any-append (λ z. bytes_eq z y) names (x ∷ [])) ∙ h) (λ a. old y a) (λ a. or_cases (is_among y all ≡ true) (bytes_eq x y) false a (λ b. subst (λ (z : List ℕ). is_among z all ≡ true) ((bytes_eq-Decides x y).0 b) there) (λ b. absurd (cc b))))
+          (λ y h. new y (or_second (bytes_eq x y) (is_among y xs) h))
+          ∙ ap plain (sym e)
     ]
 
 take_map : (f : List ℕ → List ℕ) (all labels : List (List ℕ)) → ((i : ℕ) (x : List ℕ) → slice_get all i ≡ Some x → slice_get labels i ≡ Some (f x)) → map f all ≡ take (length all) labels

@@ -229,9 +229,9 @@ mutual
       let i : Same w m b c bound inner (suc k) = same w m b bound inner (suc k) s (omega arith) h (inv_talk (goes_back w.nodes) bound named k back (omega arith) refl inv) (low_up bound k (suc k) (omega arith) low) in
       record {
         nodes = wrapped_nodes m back k (talks (role_as w x) (role_as w y) (label_as w l) (sort_as sort) c) named
-        ∙ put (talk_of m (role_as w x) (role_as w y) (arm_of m (label_as w l) (sort_as sort) (first_node c inner (suc k) m.last) ∷ [])) (talk_of w.numbers x y (arm_of w.numbers l sort (first_node b bound (suc k) w.numbers.last) ∷ [])) (nodes_of m c inner (suc k)) (nodes_of w.numbers b bound (suc k))
-        (talk_same w m x y (arm_of w.numbers l sort (first_node b bound (suc k) w.numbers.last) ∷ []) (arm_of m (label_as w l) (sort_as sort) (first_node c inner (suc k) m.last) ∷ []) s
-        (ap (λ z. z ∷ []) (arm_same w m l sort (first_node b bound (suc k) w.numbers.last) (first_node c inner (suc k) m.last) s i.first))) i.nodes;
+            ∙ put (talk_of m (role_as w x) (role_as w y) (arm_of m (label_as w l) (sort_as sort) (first_node c inner (suc k) m.last) ∷ [])) (talk_of w.numbers x y (arm_of w.numbers l sort (first_node b bound (suc k) w.numbers.last) ∷ [])) (nodes_of m c inner (suc k)) (nodes_of w.numbers b bound (suc k))
+            (talk_same w m x y (arm_of w.numbers l sort (first_node b bound (suc k) w.numbers.last) ∷ []) (arm_of m (label_as w l) (sort_as sort) (first_node c inner (suc k) m.last) ∷ []) s
+            (ap (λ z. z ∷ []) (arm_same w m l sort (first_node b bound (suc k) w.numbers.last) (first_node c inner (suc k) m.last) s i.first))) i.nodes;
         first = wrapped_first m.last back k (talks (role_as w x) (role_as w y) (label_as w l) (sort_as sort) c) named;
       }
   same w m (offers x y arms) bound named k s few h inv low =
@@ -242,8 +242,8 @@ mutual
       let i : SameArms w m arms c bound inner (suc k) = same_arms w m arms bound inner (suc k) s (omega arith) h (inv_all (goes_back w.nodes) bound inner k low now) (low_up bound k (suc k) (omega arith) low) in
       record {
         nodes = wrapped_nodes m back k (offered (role_as w x) (role_as w y) c) named ∙ offered_nodes m (role_as w x) (role_as w y) c inner k
-        ∙ put (talk_of m (role_as w x) (role_as w y) (arms_of m c inner (suc k))) (talk_of w.numbers x y (arms_of w.numbers arms bound (suc k))) (nodes_of_arms m c inner (suc k)) (nodes_of_arms w.numbers arms bound (suc k))
-        (talk_same w m x y (arms_of w.numbers arms bound (suc k)) (arms_of m c inner (suc k)) s i.arms) i.nodes;
+            ∙ put (talk_of m (role_as w x) (role_as w y) (arms_of m c inner (suc k))) (talk_of w.numbers x y (arms_of w.numbers arms bound (suc k))) (nodes_of_arms m c inner (suc k)) (nodes_of_arms w.numbers arms bound (suc k))
+            (talk_same w m x y (arms_of w.numbers arms bound (suc k)) (arms_of m c inner (suc k)) s i.arms) i.nodes;
         first = wrapped_first m.last back k (offered (role_as w x) (role_as w y) c) named ∙ offered_first m.last (role_as w x) (role_as w y) c inner k;
       }
 
@@ -261,7 +261,7 @@ mutual
       let step : k + talks_in c ≡ j = ap (λ z. k + z) (canon_talks w b bound k) in
       record {
         arms = put_arm (arm_of m (label_as w l) (sort_as sort) (first_node c named k m.last)) (arm_of w.numbers l sort (first_node b bound k w.numbers.last)) (arms_of m d named (k + talks_in c)) (arms_of w.numbers arms bound j)
-        (arm_same w m l sort (first_node b bound k w.numbers.last) (first_node c named k m.last) s i.first) (ap (λ z. arms_of m d named z) step ∙ o.arms);
+            (arm_same w m l sort (first_node b bound k w.numbers.last) (first_node c named k m.last) s i.first) (ap (λ z. arms_of m d named z) step ∙ o.arms);
         nodes = ap (λ z. z ++ nodes_of_arms m d named (k + talks_in c)) i.nodes ∙ ap (λ z. nodes_of w.numbers b bound k ++ nodes_of_arms m d named z) step ∙ ap (λ z. nodes_of w.numbers b bound k ++ z) o.nodes;
       }
 
@@ -293,10 +293,9 @@ mutual
   fine_arms m p (one l sort b) bound n k pre post e h le named low back =
       fine m p b bound (suc n) k pre post e h named (low_up bound n k (omega arith) low) (λ x j i lt. let a : j < n + 1 = low x j i in omega arith) (λ lt. back 0 (arm_of m l sort (first_node b bound k m.last)) refl lt)
   fine_arms m p (more l sort b arms) bound n k pre post e h le named low back =
-      let j : ℕ = k + talks_in b in
-      (
+      let j : ℕ = k + talks_in b in (
         fine m p b bound (suc n) k pre (nodes_of_arms m arms bound j ++ post) (e ∙ ap (λ z. pre ++ z) (append_assoc (nodes_of m b bound k) (nodes_of_arms m arms bound j) post)) h named.0 (low_up bound n k (omega arith) low) (λ x q i lt. let a : q < n + 1 = low x q i in omega arith)
-        (λ lt. back 0 (arm_of m l sort (first_node b bound k m.last)) refl lt),
+            (λ lt. back 0 (arm_of m l sort (first_node b bound k m.last)) refl lt),
         fine_arms m p arms bound n j (pre ++ nodes_of m b bound k) post (e ∙ ap (λ z. pre ++ z) (append_assoc (nodes_of m b bound k) (nodes_of_arms m arms bound j) post) ∙ sym (append_assoc pre (nodes_of m b bound k) (nodes_of_arms m arms bound j ++ post)))
-        (length-append pre (nodes_of m b bound k) ∙ ap (λ z. z + length (nodes_of m b bound k)) h ∙ ap (λ z. k + z) (nodes_length m b bound k)) (omega arith) named.1 low (λ place arm stands lt. back (suc place) arm stands lt),
+            (length-append pre (nodes_of m b bound k) ∙ ap (λ z. z + length (nodes_of m b bound k)) h ∙ ap (λ z. k + z) (nodes_length m b bound k)) (omega arith) named.1 low (λ place arm stands lt. back (suc place) arm stands lt),
       )

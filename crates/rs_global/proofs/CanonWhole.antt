@@ -168,7 +168,7 @@ written_words t names r sound =
     record {
       roles = subst (λ (z : List (List ℕ)). All (λ x. is_role_word x ≡ true) z) (sym (two_roles t names r)) sound.roles_are_words;
       body = words w t.body [] 0 (few_talks t r.fits) (λ s. all_at is_role_word names.roles (role_of (numbering t) s).0 (role_as w s) r.sound.roles_are_words (roles_stand t names r.roles s))
-      (λ l h. all_at is_word names.labels (label_of (numbering t) l).0 (label_as w l) r.sound.labels_are_words (label_stands w l (tree_labels_few t names r.labels l h))) (λ x m e. absurd (cc e));
+          (λ l h. all_at is_word names.labels (label_of (numbering t) l).0 (label_as w l) r.sound.labels_are_words (label_stands w l (tree_labels_few t names r.labels l h))) (λ x m e. absurd (cc e));
     }
 
 -- ---- of a protocol

@@ -123,17 +123,17 @@ new_label n count ended lt = rw (le-ltb n n (omega arith), eq-eqb n n refl, lt-l
 label_goes : (final ls rest : List (List ℕ)) (l : List ℕ) (count : ℕ) (ended : Bool) → final ≡ grown (grown ls (l ∷ [])) rest → length (grown ls (l ∷ [])) ≤ 256 → labelled (number_or (place_of l final)) (walk count (length ls) ended) ≡ Some (walk count (length (grown ls (l ∷ []))) ended)
 label_goes final ls rest l count ended e few = elim (none_or_some (place_of l ls)) [
   | inl none ↦ (
-    let new : is_among l ls ≡ false = not_among ls l 0 none in
-    let more : grown ls (l ∷ []) ≡ ls ++ l ∷ [] = ap (λ z. if z then ls else ls ++ l ∷ []) new in
-    let size : length (grown ls (l ∷ [])) ≡ suc (length ls) = ap length more ∙ length-append ls (l ∷ []) ∙ omega arith in
-    let place : place_of l final ≡ Some (length ls) = ap (place_of l) e ∙ grown_stays rest (grown ls (l ∷ [])) l (length ls) (ap (place_of l) more ∙ place_of_new ls l none) in
-    ap (λ z. labelled (number_or z) (walk count (length ls) ended)) place ∙ new_label (length ls) count ended (omega arith) ∙ ap (λ z. Some (walk count z ended)) (sym size))
+      let new : is_among l ls ≡ false = not_among ls l 0 none in
+      let more : grown ls (l ∷ []) ≡ ls ++ l ∷ [] = ap (λ z. if z then ls else ls ++ l ∷ []) new in
+      let size : length (grown ls (l ∷ [])) ≡ suc (length ls) = ap length more ∙ length-append ls (l ∷ []) ∙ omega arith in
+      let place : place_of l final ≡ Some (length ls) = ap (place_of l) e ∙ grown_stays rest (grown ls (l ∷ [])) l (length ls) (ap (place_of l) more ∙ place_of_new ls l none) in
+      ap (λ z. labelled (number_or z) (walk count (length ls) ended)) place ∙ new_label (length ls) count ended (omega arith) ∙ ap (λ z. Some (walk count z ended)) (sym size))
   | inr some ↦ (
-    let old : is_among l ls ≡ true = among ls l 0 some.0 some.1 in
-    let same : grown ls (l ∷ []) ≡ ls = ap (λ z. if z then ls else ls ++ l ∷ []) old in
-    let place : place_of l final ≡ Some some.0 = ap (place_of l) e ∙ grown_stays rest (grown ls (l ∷ [])) l some.0 (grown_stays (l ∷ []) ls l some.0 some.1) in
-    let within : some.0 < length ls = slice_get_within ls some.0 l (place_stands ls l some.0 some.1).there in
-    ap (λ z. labelled (number_or z) (walk count (length ls) ended)) place ∙ old_label some.0 (length ls) count ended within ∙ ap (λ z. Some (walk count (length z) ended)) (sym same))
+      let old : is_among l ls ≡ true = among ls l 0 some.0 some.1 in
+      let same : grown ls (l ∷ []) ≡ ls = ap (λ z. if z then ls else ls ++ l ∷ []) old in
+      let place : place_of l final ≡ Some some.0 = ap (place_of l) e ∙ grown_stays rest (grown ls (l ∷ [])) l some.0 (grown_stays (l ∷ []) ls l some.0 some.1) in
+      let within : some.0 < length ls = slice_get_within ls some.0 l (place_stands ls l some.0 some.1).there in
+      ap (λ z. labelled (number_or z) (walk count (length ls) ended)) place ∙ old_label some.0 (length ls) count ended within ∙ ap (λ z. Some (walk count (length z) ended)) (sym same))
 ]
 
 deeper_within : (c here : Bool) (inner d : ℕ) → (c ≡ true → here ≡ true) → inner ≤ d → (here ≡ true → inner < d) → deeper c inner ≤ d

@@ -184,24 +184,24 @@ pub met_grown : (p : Protocol_data) (bound : Bound) (depth : ℕ) (visit : ℕ �
     → (to < from → bound_to (name_of_node to) bound ≡ Some to) → met visit (last_of p.nodes) from to w ≡ Some u → Grown p bound depth w u to
 met_grown p bound depth visit from to w u small grows le within room names back h = elim (true_or_false (nat_lt to from)) [
   | inl e ↦ (
-    let lt : to < from = ltb-true to from e in
-    let same : w ≡ u = walk_some w u (sym (if_true (nat_lt to from) (Some w) (if to == w.count && nat_lt to (last_of p.nodes) then visit to w else to_end (last_of p.nodes) to w) e) ∙ h) in
-    subst (λ (z : Walk). Grown p bound depth w z to) same (back_grown p bound depth to w small (omega arith) within room (back lt)))
+      let lt : to < from = ltb-true to from e in
+      let same : w ≡ u = walk_some w u (sym (if_true (nat_lt to from) (Some w) (if to == w.count && nat_lt to (last_of p.nodes) then visit to w else to_end (last_of p.nodes) to w) e) ∙ h) in
+      subst (λ (z : Walk). Grown p bound depth w z to) same (back_grown p bound depth to w small (omega arith) within room (back lt)))
   | inr e ↦ (
-    let h2 = sym (if_false (nat_lt to from) (Some w) (if to == w.count && nat_lt to (last_of p.nodes) then visit to w else to_end (last_of p.nodes) to w) e) ∙ h in
-    elim (true_or_false (to == w.count && nat_lt to (last_of p.nodes))) [
-      | inl f ↦ (
-        let q = both (to == w.count) (nat_lt to (last_of p.nodes)) f in
-        grows to w u (eqb-true to w.count q.0) (ltb-true to (last_of p.nodes) q.1) room names (sym (if_true (to == w.count && nat_lt to (last_of p.nodes)) (visit to w) (to_end (last_of p.nodes) to w) f) ∙ h2))
-      | inr f ↦ (
-        let h3 = sym (if_false (to == w.count && nat_lt to (last_of p.nodes)) (visit to w) (to_end (last_of p.nodes) to w) f) ∙ h2 in
-        elim (true_or_false (to == last_of p.nodes)) [
-          | inl i ↦ (
-            let same : record w { ended = true } ≡ u = walk_some (record w { ended = true }) u (sym (if_true (to == last_of p.nodes) (Some (record w { ended = true })) None i) ∙ h3) in
-            subst (λ (z : ℕ). Grown p bound depth w u z) (sym (eqb-true to (last_of p.nodes) i)) (subst (λ (z : Walk). Grown p bound depth w z (last_of p.nodes)) same (end_grown p bound depth w room within)))
-          | inr i ↦ absurd (not_some u (sym (if_false (to == last_of p.nodes) (Some (record w { ended = true })) None i) ∙ h3))
-        ])
-    ])
+      let h2 = sym (if_false (nat_lt to from) (Some w) (if to == w.count && nat_lt to (last_of p.nodes) then visit to w else to_end (last_of p.nodes) to w) e) ∙ h in
+      elim (true_or_false (to == w.count && nat_lt to (last_of p.nodes))) [
+        | inl f ↦ (
+            let q = both (to == w.count) (nat_lt to (last_of p.nodes)) f in
+            grows to w u (eqb-true to w.count q.0) (ltb-true to (last_of p.nodes) q.1) room names (sym (if_true (to == w.count && nat_lt to (last_of p.nodes)) (visit to w) (to_end (last_of p.nodes) to w) f) ∙ h2))
+        | inr f ↦ (
+            let h3 = sym (if_false (to == w.count && nat_lt to (last_of p.nodes)) (visit to w) (to_end (last_of p.nodes) to w) f) ∙ h2 in
+            elim (true_or_false (to == last_of p.nodes)) [
+              | inl i ↦ (
+                  let same : record w { ended = true } ≡ u = walk_some (record w { ended = true }) u (sym (if_true (to == last_of p.nodes) (Some (record w { ended = true })) None i) ∙ h3) in
+                  subst (λ (z : ℕ). Grown p bound depth w u z) (sym (eqb-true to (last_of p.nodes) i)) (subst (λ (z : Walk). Grown p bound depth w z (last_of p.nodes)) same (end_grown p bound depth w room within)))
+              | inr i ↦ absurd (not_some u (sym (if_false (to == last_of p.nodes) (Some (record w { ended = true })) None i) ∙ h3))
+            ])
+      ])
 ]
 
 -- ---- labels
@@ -226,32 +226,38 @@ or_second false b h = h
 is_labelled : (i : ℕ) (w v : Walk) → w.labels ≤ 256 → labelled i w ≡ Some v → Labelled i w v
 is_labelled i w v room h = elim (true_or_false (nat_lt i w.labels)) [
   | inl e ↦ (
-    let lt : i < w.labels = ltb-true i w.labels e in
-    let there : is_among (plain_name 108 i) (plain_names 108 w.labels) ≡ true = at_among (plain_names 108 w.labels) i (plain_name 108 i) (plain_stands 108 w.labels i lt) in
-    let same : w ≡ v = walk_some w v (sym (if_true (nat_lt i w.labels) (Some w) (if i == w.labels && nat_lt i 256 then Some (record w { labels = suc w.labels }) else None) e) ∙ h) in
-    subst (λ (z : Walk). Labelled i w z) same (record {
-      count = refl; ended = refl; below = lt;
-      grows = ap (λ z. if z then plain_names 108 w.labels else plain_names 108 w.labels ++ plain_name 108 i ∷ []) there;
-      up = omega arith; room = room;
-      fits = λ bound roles depth k. or_first (is_among (plain_name 108 i) (plain_names 108 w.labels)) (nat_lt (length (plain_names 108 w.labels)) 256) there;
-    }))
+      let lt : i < w.labels = ltb-true i w.labels e in
+      let there : is_among (plain_name 108 i) (plain_names 108 w.labels) ≡ true = at_among (plain_names 108 w.labels) i (plain_name 108 i) (plain_stands 108 w.labels i lt) in
+      let same : w ≡ v = walk_some w v (sym (if_true (nat_lt i w.labels) (Some w) (if i == w.labels && nat_lt i 256 then Some (record w { labels = suc w.labels }) else None) e) ∙ h) in
+      subst (λ (z : Walk). Labelled i w z) same (record {
+        count = refl;
+        ended = refl;
+        below = lt;
+        grows = ap (λ z. if z then plain_names 108 w.labels else plain_names 108 w.labels ++ plain_name 108 i ∷ []) there;
+        up = omega arith;
+        room = room;
+        fits = λ bound roles depth k. or_first (is_among (plain_name 108 i) (plain_names 108 w.labels)) (nat_lt (length (plain_names 108 w.labels)) 256) there;
+      }))
   | inr e ↦ (
-    let h2 = sym (if_false (nat_lt i w.labels) (Some w) (if i == w.labels && nat_lt i 256 then Some (record w { labels = suc w.labels }) else None) e) ∙ h in
-    elim (true_or_false (i == w.labels && nat_lt i 256)) [
-      | inl f ↦ (
-        let q = both (i == w.labels) (nat_lt i 256) f in
-        let at : i ≡ w.labels = eqb-true i w.labels q.0 in
-        let few : i < 256 = ltb-true i 256 q.1 in
-        let same : record w { labels = suc w.labels } ≡ v = walk_some (record w { labels = suc w.labels }) v (sym (if_true (i == w.labels && nat_lt i 256) (Some (record w { labels = suc w.labels })) None f) ∙ h2) in
-        let size : length (plain_names 108 w.labels) ≡ w.labels = plain_count 108 w.labels in
-        subst (λ (z : Walk). Labelled i w z) same (record {
-          count = refl; ended = refl; below = omega arith;
-          grows = ap (λ z. grown (plain_names 108 w.labels) (plain_name 108 z ∷ [])) at ∙ plain_grown 108 w.labels (omega arith);
-          up = omega arith; room = omega arith;
-          fits = λ bound roles depth k. or_second (is_among (plain_name 108 i) (plain_names 108 w.labels)) (nat_lt (length (plain_names 108 w.labels)) 256) (lt-ltb (length (plain_names 108 w.labels)) 256 (omega arith));
-        }))
-      | inr f ↦ absurd (not_some v (sym (if_false (i == w.labels && nat_lt i 256) (Some (record w { labels = suc w.labels })) None f) ∙ h2))
-    ])
+      let h2 = sym (if_false (nat_lt i w.labels) (Some w) (if i == w.labels && nat_lt i 256 then Some (record w { labels = suc w.labels }) else None) e) ∙ h in
+      elim (true_or_false (i == w.labels && nat_lt i 256)) [
+        | inl f ↦ (
+            let q = both (i == w.labels) (nat_lt i 256) f in
+            let at : i ≡ w.labels = eqb-true i w.labels q.0 in
+            let few : i < 256 = ltb-true i 256 q.1 in
+            let same : record w { labels = suc w.labels } ≡ v = walk_some (record w { labels = suc w.labels }) v (sym (if_true (i == w.labels && nat_lt i 256) (Some (record w { labels = suc w.labels })) None f) ∙ h2) in
+            let size : length (plain_names 108 w.labels) ≡ w.labels = plain_count 108 w.labels in
+            subst (λ (z : Walk). Labelled i w z) same (record {
+              count = refl;
+              ended = refl;
+              below = omega arith;
+              grows = ap (λ z. grown (plain_names 108 w.labels) (plain_name 108 z ∷ [])) at ∙ plain_grown 108 w.labels (omega arith);
+              up = omega arith;
+              room = omega arith;
+              fits = λ bound roles depth k. or_second (is_among (plain_name 108 i) (plain_names 108 w.labels)) (nat_lt (length (plain_names 108 w.labels)) 256) (lt-ltb (length (plain_names 108 w.labels)) 256 (omega arith));
+            }))
+        | inr f ↦ absurd (not_some v (sym (if_false (i == w.labels && nat_lt i 256) (Some (record w { labels = suc w.labels })) None f) ∙ h2))
+      ])
 ]
 
 -- ---- arms
@@ -305,7 +311,7 @@ one_grown p bound depth a w v u l g =
       labels = ap (λ z. grown z (labels_of g.body)) l.grows ∙ g.labels;
       ended = g.ended;
       fits = all_true (has_room_for (plain_name 108 a.label.0) (scene (plain_names 82 p.roles) bound depth w.count (plain_names 108 w.labels))) (body_fits g.body (scene (plain_names 82 p.roles) bound depth w.count (grown (plain_names 108 w.labels) (plain_name 108 a.label.0 ∷ []))))
-      (l.fits bound (plain_names 82 p.roles) depth w.count) (subst (λ (z : List (List ℕ)). body_fits g.body (scene (plain_names 82 p.roles) bound depth w.count z) ≡ true) (sym l.grows) g.fits);
+          (l.fits bound (plain_names 82 p.roles) depth w.count) (subst (λ (z : List (List ℕ)). body_fits g.body (scene (plain_names 82 p.roles) bound depth w.count z) ≡ true) (sym l.grows) g.fits);
       words = (plain_label a.label.0 (omega arith), g.words);
       shut = g.shut;
       shape = refl;
@@ -328,20 +334,20 @@ more_grown p bound depth a b bs w v x u l g r =
     record {
       branches = more (plain_name 108 a.label.0) (shown_sort a.sort) g.body r.branches;
       are = λ n le small.
-      ap (λ z. z ∷ arms_of (numbers p n) r.branches bound (w.count + talks_in g.body)) (arm_is p n a (first_node g.body bound w.count (last_of p.nodes)) (omega arith) small g.first)
-      ∙ ap (λ z. a ∷ arms_of (numbers p n) r.branches bound z) counts ∙ ap (λ z. a ∷ z) (r.are n le small);
+          ap (λ z. z ∷ arms_of (numbers p n) r.branches bound (w.count + talks_in g.body)) (arm_is p n a (first_node g.body bound w.count (last_of p.nodes)) (omega arith) small g.first)
+          ∙ ap (λ z. a ∷ arms_of (numbers p n) r.branches bound z) counts ∙ ap (λ z. a ∷ z) (r.are n le small);
       parts = λ n le small.
-      g.parts n (omega arith) small ∙ ap (λ z. nodes_of (numbers p n) g.body bound w.count ++ z) (r.parts n le small ∙ ap (λ z. nodes_of_arms (numbers p n) r.branches bound z ++ drop u.count p.nodes) (sym counts))
-      ∙ sym (append_assoc (nodes_of (numbers p n) g.body bound w.count) (nodes_of_arms (numbers p n) r.branches bound (w.count + talks_in g.body)) (drop u.count p.nodes));
+          g.parts n (omega arith) small ∙ ap (λ z. nodes_of (numbers p n) g.body bound w.count ++ z) (r.parts n le small ∙ ap (λ z. nodes_of_arms (numbers p n) r.branches bound z ++ drop u.count p.nodes) (sym counts))
+          ∙ sym (append_assoc (nodes_of (numbers p n) g.body bound w.count) (nodes_of_arms (numbers p n) r.branches bound (w.count + talks_in g.body)) (drop u.count p.nodes));
       counts = omega arith;
       labels = grown_append (labels_of g.body) (labels_of_arms r.branches) (grown (plain_names 108 w.labels) (plain_name 108 a.label.0 ∷ [])) ∙ ap (λ z. grown z (labels_of_arms r.branches)) labels ∙ r.labels;
       ended = r.ended ∙ ap (λ z. z || has_end_arms r.branches) g.ended ∙ or_assoc w.ended (has_end g.body) (has_end_arms r.branches);
       fits = all_true (has_room_for (plain_name 108 a.label.0) (scene roles bound depth w.count (plain_names 108 w.labels)) && body_fits g.body (scene roles bound depth w.count (grown (plain_names 108 w.labels) (plain_name 108 a.label.0 ∷ []))))
-      (arms_fit r.branches (scene roles bound depth (w.count + talks_in g.body) (grown (grown (plain_names 108 w.labels) (plain_name 108 a.label.0 ∷ [])) (labels_of g.body))))
-      (all_true (has_room_for (plain_name 108 a.label.0) (scene roles bound depth w.count (plain_names 108 w.labels))) (body_fits g.body (scene roles bound depth w.count (grown (plain_names 108 w.labels) (plain_name 108 a.label.0 ∷ []))))
-      (l.fits bound roles depth w.count) (subst (λ (z : List (List ℕ)). body_fits g.body (scene roles bound depth w.count z) ≡ true) (sym l.grows) g.fits))
-      (subst (λ (z : ℕ). arms_fit r.branches (scene roles bound depth z (grown (grown (plain_names 108 w.labels) (plain_name 108 a.label.0 ∷ [])) (labels_of g.body))) ≡ true) (sym counts)
-      (subst (λ (z : List (List ℕ)). arms_fit r.branches (scene roles bound depth x.count z) ≡ true) (sym labels) r.fits));
+          (arms_fit r.branches (scene roles bound depth (w.count + talks_in g.body) (grown (grown (plain_names 108 w.labels) (plain_name 108 a.label.0 ∷ [])) (labels_of g.body))))
+          (all_true (has_room_for (plain_name 108 a.label.0) (scene roles bound depth w.count (plain_names 108 w.labels))) (body_fits g.body (scene roles bound depth w.count (grown (plain_names 108 w.labels) (plain_name 108 a.label.0 ∷ []))))
+          (l.fits bound roles depth w.count) (subst (λ (z : List (List ℕ)). body_fits g.body (scene roles bound depth w.count z) ≡ true) (sym l.grows) g.fits))
+          (subst (λ (z : ℕ). arms_fit r.branches (scene roles bound depth z (grown (grown (plain_names 108 w.labels) (plain_name 108 a.label.0 ∷ [])) (labels_of g.body))) ≡ true) (sym counts)
+          (subst (λ (z : List (List ℕ)). arms_fit r.branches (scene roles bound depth x.count z) ≡ true) (sym labels) r.fits));
       words = (plain_label a.label.0 (omega arith), g.words, r.words);
       shut = still_closed p w.count x.count u.count (omega arith) g.shut r.shut;
       shape = refl;
@@ -425,15 +431,15 @@ talk_grown p bound depth s r a arms w u small there sent received lt low free g 
       body = wrapped c n talk;
       first = wrapped_first (last_of p.nodes) c n talk bound ∙ offered_first (last_of p.nodes) from to g.branches inner n;
       parts = λ k le small'.
-      drop_at p.nodes n (Talk s r (a ∷ arms)) there ∙ ap (λ z. Talk s r (a ∷ arms) ∷ z) (g.parts k le small')
-      ∙ ap (λ z. z ++ drop u.count p.nodes) (sym (wrapped_nodes (numbers p k) c n talk bound ∙ offered_nodes (numbers p k) from to g.branches inner n
-      ∙ ap (λ z. z ∷ nodes_of_arms (numbers p k) g.branches inner (suc n)) (ap (λ z. Talk z (role_of (numbers p k) to) (arms_of (numbers p k) g.branches inner (suc n))) (role_numbered p k s small sent) ∙ ap (λ z. Talk s z (arms_of (numbers p k) g.branches inner (suc n))) (role_numbered p k r small received) ∙ ap (λ z. Talk s r z) (g.are k le small'))));
+          drop_at p.nodes n (Talk s r (a ∷ arms)) there ∙ ap (λ z. Talk s r (a ∷ arms) ∷ z) (g.parts k le small')
+          ∙ ap (λ z. z ++ drop u.count p.nodes) (sym (wrapped_nodes (numbers p k) c n talk bound ∙ offered_nodes (numbers p k) from to g.branches inner n
+          ∙ ap (λ z. z ∷ nodes_of_arms (numbers p k) g.branches inner (suc n)) (ap (λ z. Talk z (role_of (numbers p k) to) (arms_of (numbers p k) g.branches inner (suc n))) (role_numbered p k s small sent) ∙ ap (λ z. Talk s z (arms_of (numbers p k) g.branches inner (suc n))) (role_numbered p k r small received) ∙ ap (λ z. Talk s r z) (g.are k le small'))));
       counts = omega arith;
       labels = ap (λ z. grown (plain_names 108 w.labels) z) (wrapped_labels c n talk ∙ offered_labels from to g.branches) ∙ g.labels;
       ended = g.ended ∙ ap (λ z. w.ended || z) (sym (wrapped_end c n talk ∙ offered_end from to g.branches));
       fits = wrapped_fits c n talk roles bound depth (plain_names 108 w.labels) (shallower c (are_more (a ∷ arms)) depth low)
-      (offered_fits g.branches from to roles inner (deeper c depth) n (plain_names 108 w.labels) (at_among roles s.0 from (plain_stands 82 p.roles s.0 sent)) (at_among roles r.0 to (plain_stands 82 p.roles r.0 received)) (omega arith)
-      (subst (λ (z : Bool). deeper z (deeper c depth) ≤ 200) (sym g.shape) low) (subst (λ (z : Bool). arms_fit g.branches (scene roles inner (deeper z (deeper c depth)) (suc n) (plain_names 108 w.labels)) ≡ true) (sym g.shape) g.fits));
+          (offered_fits g.branches from to roles inner (deeper c depth) n (plain_names 108 w.labels) (at_among roles s.0 from (plain_stands 82 p.roles s.0 sent)) (at_among roles r.0 to (plain_stands 82 p.roles r.0 received)) (omega arith)
+          (subst (λ (z : Bool). deeper z (deeper c depth) ≤ 200) (sym g.shape) low) (subst (λ (z : Bool). arms_fit g.branches (scene roles inner (deeper z (deeper c depth)) (suc n) (plain_names 108 w.labels)) ≡ true) (sym g.shape) g.fits));
       words = one_words c n talk (omega arith) (offered_words g.branches from to (plain_role s.0 (omega arith)) (plain_role r.0 (omega arith)) g.words);
       shut = λ v lo hi. elim (eqb_tells v n) [
         | inl e ↦ ap (λ z. leads_from p.nodes u.count z) e.1 ∙ free
@@ -461,22 +467,22 @@ node_grown p bound depth visit w u (Some (Talk s r (a ∷ arms))) small grows th
     let last : last_of p.nodes ≤ 1024 = small.last in
     elim (true_or_false (is_fit p.roles inner s r ours)) [
       | inl e ↦ (
-        let q3 = both (nat_lt s.0 p.roles && nat_lt r.0 p.roles && nat_le inner 200) true e in
-        let q2 = both (nat_lt s.0 p.roles && nat_lt r.0 p.roles) (nat_le inner 200) q3.0 in
-        let q1 = both (nat_lt s.0 p.roles) (nat_lt r.0 p.roles) q2.0 in
-        let low : inner ≤ 200 = leb-true inner 200 q2.1 in
-        let h2 = sym (if_true (is_fit p.roles inner s r ours) (or_none (closed p.nodes n) (arms_met (visit inner) (last_of p.nodes) (suc n) ours (one_more w))) None e) ∙ h in
-        let x = chained (closed p.nodes n) (arms_met (visit inner) (last_of p.nodes) (suc n) ours (one_more w)) u h2 in
-        let named : (v : ℕ) → v < suc n → leads_from p.nodes n v ≡ true → bound_to (name_of_node v) outer ≡ Some v =
-        λ v le lead. opened_names c n v bound (omega arith) (omega arith) (λ ne. names v (omega arith) lead) (λ same. ap (λ z. leads_from p.nodes n z) (sym same) ∙ lead) in
-        let g : GrownArms p outer inner (one_more w) x.0 ours =
-        arms_grown arms p outer inner (visit inner) (suc n) a (one_more w) x.0 small (grows outer inner low) (omega arith) (omega arith) room (λ v le lead. named v le (later_leads p.nodes (suc n) n v (omega arith) lead)) (λ place b i le. named b.next le (arm_leads p.nodes n s r ours place b there i)) x.1 in
-        elim (true_or_false (leads_from p.nodes x.0.count n)) [
-          | inl f ↦ absurd (not_some u (sym (if_true (leads_from p.nodes x.0.count n) None (Some x.0) f) ∙ x.2))
-          | inr f ↦ (
-            let same : x.0 ≡ u = walk_some x.0 u (sym (if_false (leads_from p.nodes x.0.count n) None (Some x.0) f) ∙ x.2) in
-            subst (λ (z : Walk). Grown p bound depth w z n) same (talk_grown p bound depth s r a arms w x.0 small there (ltb-true s.0 p.roles q1.0) (ltb-true r.0 p.roles q1.1) lt low f g))
-        ])
+          let q3 = both (nat_lt s.0 p.roles && nat_lt r.0 p.roles && nat_le inner 200) true e in
+          let q2 = both (nat_lt s.0 p.roles && nat_lt r.0 p.roles) (nat_le inner 200) q3.0 in
+          let q1 = both (nat_lt s.0 p.roles) (nat_lt r.0 p.roles) q2.0 in
+          let low : inner ≤ 200 = leb-true inner 200 q2.1 in
+          let h2 = sym (if_true (is_fit p.roles inner s r ours) (or_none (closed p.nodes n) (arms_met (visit inner) (last_of p.nodes) (suc n) ours (one_more w))) None e) ∙ h in
+          let x = chained (closed p.nodes n) (arms_met (visit inner) (last_of p.nodes) (suc n) ours (one_more w)) u h2 in
+          let named : (v : ℕ) → v < suc n → leads_from p.nodes n v ≡ true → bound_to (name_of_node v) outer ≡ Some v =
+          λ v le lead. opened_names c n v bound (omega arith) (omega arith) (λ ne. names v (omega arith) lead) (λ same. ap (λ z. leads_from p.nodes n z) (sym same) ∙ lead) in
+          let g : GrownArms p outer inner (one_more w) x.0 ours =
+          arms_grown arms p outer inner (visit inner) (suc n) a (one_more w) x.0 small (grows outer inner low) (omega arith) (omega arith) room (λ v le lead. named v le (later_leads p.nodes (suc n) n v (omega arith) lead)) (λ place b i le. named b.next le (arm_leads p.nodes n s r ours place b there i)) x.1 in
+          elim (true_or_false (leads_from p.nodes x.0.count n)) [
+            | inl f ↦ absurd (not_some u (sym (if_true (leads_from p.nodes x.0.count n) None (Some x.0) f) ∙ x.2))
+            | inr f ↦ (
+                let same : x.0 ≡ u = walk_some x.0 u (sym (if_false (leads_from p.nodes x.0.count n) None (Some x.0) f) ∙ x.2) in
+                subst (λ (z : Walk). Grown p bound depth w z n) same (talk_grown p bound depth s r a arms w x.0 small there (ltb-true s.0 p.roles q1.0) (ltb-true r.0 p.roles q1.1) lt low f g))
+          ])
       | inr e ↦ absurd (not_some u (sym (if_false (is_fit p.roles inner s r ours) (or_none (closed p.nodes n) (arms_met (visit inner) (last_of p.nodes) (suc n) ours (one_more w))) None e) ∙ h))
     ]
 

@@ -205,8 +205,8 @@ has_text p w =
       };
       words = record { roles = subst (λ (z : List (List ℕ)). All (λ x. is_role_word x ≡ true) z) (sym roles) (roles_sound p.roles few).roles_are_words; body = g.words };
       graph_is = ap (λ z. graph z (nodes_of (numbering t) g.body [] 0 ++ finish_of (has_end g.body)) (first_node g.body [] 0 (talks_in g.body))) sixteen
-      ∙ ap (λ z. graph p.roles z (first_node g.body [] 0 (talks_in g.body))) nodes
-      ∙ ap (λ z. graph p.roles p.nodes z) (ap (λ z. first_node g.body [] 0 z) talks_are ∙ g.first);
+          ∙ ap (λ z. graph p.roles z (first_node g.body [] 0 (talks_in g.body))) nodes
+          ∙ ap (λ z. graph p.roles p.nodes z) (ap (λ z. first_node g.body [] 0 z) talks_are ∙ g.first);
     }
 
 pub walked_is_shaped : (p : Protocol_data) → is_shaped p ≡ true → IsTextShaped p

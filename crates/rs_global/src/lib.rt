@@ -11,6 +11,8 @@ pub mod printing_laws;
 mod printing_tests;
 mod protocols;
 mod reading;
+#[cfg(test)]
+mod shape_tests;
 mod shapes;
 pub mod spelling_laws;
 #[cfg(test)]

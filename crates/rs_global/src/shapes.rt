@@ -37,7 +37,10 @@ fn is_shaped(protocol: &Protocol) -> bool
         labels: 0,
         ended: false,
     };
-    is_whole(protocol, met(protocol, last as u32 + 1, 0, 0, protocol.root, begin))
+    is_whole(
+        protocol,
+        met(protocol, last as u32 + 1, 0, 0, protocol.root, begin),
+    )
 }
 
 /// Whether all talks were met, and an end where there is one.
@@ -46,7 +49,8 @@ fn is_whole(protocol: &Protocol, walk: Option<Walk>) -> bool
 {
     let nodes = protocol.nodes.as_slice();
     match walk {
-        Some(walk) => walk.count as usize == last_of(nodes) && same_bool(walk.ended, ends_last(nodes)),
+        Some(walk) => walk.count as usize == last_of(nodes)
+            && same_bool(walk.ended, ends_last(nodes)),
         None => false,
     }
 }
