@@ -15,7 +15,7 @@ pub(crate) struct DraftArm {
     pub next: Option<u32>,
 }
 
-/// A act while the number of the end isn't known.
+/// An act while the number of the end isn't known.
 #[derive(Drop, Debug)]
 pub(crate) struct Draft {
     pub peer: Role,
@@ -31,7 +31,7 @@ impl Model for Draft {
     ghost view = { λ d. record { peer = d.peer; mark = d.mark; arms = d.arms.items } };
 }
 
-/// Gives a act one more arm; where there is no such act nothing changes.
+/// Gives an act one more arm; where there is no such act nothing changes.
 pub(crate) fn add_arm(drafts: &mut Vec<Draft>, act: u32, arm: DraftArm) -> Result<(), NoMemory>
     ensures ok { OnOk result (drafts.new.items ≡ with_arm arm (slice_get drafts.old.items act) drafts.old.items act) }
     ensures count { length drafts.new.items ≡ length drafts.old.items }

@@ -95,7 +95,7 @@ pub(crate) struct Frame {
     pub depth: u32,
 }
 
-/// What leads to the body that is read: nothing, or an arm of a act.
+/// What leads to the body that is read: nothing, or an arm of an act.
 #[derive(Clone, Copy, Debug, PartialEq, Eq)]
 pub(crate) enum Link {
     Start,
