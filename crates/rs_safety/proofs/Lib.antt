@@ -13,3 +13,4 @@ pub mod Rounds
 pub mod RoundsProjected
 pub mod Refused
 pub mod Unique
+pub mod Firsts

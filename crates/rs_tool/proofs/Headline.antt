@@ -1,73 +1,113 @@
 -- An accepted text spells safe machines.
-use Rattle.std.proofs.Common.{◌≡◌, ℕ, suc, ◌<◌, Bool, true, false, cond, List, [], ◌∷◌, length, map, Option, Some, None, refl, sym, ap, subst, ◌∙◌, arith}
-use Rattle.std.specs.Prelude.{◌&&◌, ◌||◌, not, IfSome}
-use Rattle.std.specs.List.{list_any, list_all}
-use Rattle.std.specs.Str.{bytes_eq}
-use Rattle.std.proofs.lemmas.Slice.Eq.{bytes_eq-Decides}
-use Rattle.rs_core.specs.Straight.{AllTalks}
+use Rattle.std.proofs.Common.{◌≡◌, ℕ, List, map, Bool, true, false, Option, Some, None, refl, sym, ap, subst, ◌∙◌, if◌then◌else◌}
+use Rattle.std.specs.Prelude.{IfSome}
 use Rattle.rs_core.specs.Safety.{IsSafe}
-use Rattle.rs_core.proofs.Straights.{straight-sessions}
-use Rattle.rs_tool.specs.declared.straight.Talk.{Talk}
+use Rattle.rs_model.specs.Data.{Names_data, Protocol_data, Machine_data}
+use Rattle.rs_model.specs.declared.checks.MachineFault.{MachineFault}
+use Rattle.rs_model.specs.declared.graph.Role.{Role}
+use Rattle.rs_project.specs.Data.{Projection_data}
+use Rattle.rs_project.specs.Projection.{AreProjections}
+use Rattle.rs_project.specs.declared.projecting.ProjFault.{ProjFault}
+use Rattle.rs_project.specs.declared.projecting.ProjFault.TheVariants as proj
+use Rattle.rs_safety.proofs.Sessions.{equal-safe}
+use Rattle.rs_text.specs.declared.faults.TextKind.{TextKind}
+use Rattle.rs_text.specs.declared.faults.TextKind.TheVariants as kind
+use Rattle.rs_wellformed.specs.declared.checks.WfFault.{WfFault}
+use Rattle.rs_wellformed.specs.declared.checks.WfFault.TheVariants as wf
+use Rattle.rs_wellformed.proofs.Faults.{no_fault}
 use Rattle.rs_tool.specs.declared.status.Status.{Status}
 use Rattle.rs_tool.specs.declared.status.Status.TheVariants.{Fine}
-use Rattle.rs_tool.specs.Straight.{Straight_data, IsStraight, SpellsSafeMachines, is_between_roles, sends, receives, place_of, numbered, machines_of}
-use Rattle.rs_tool.specs.Answer.{Answer, Answers, AnswersCheck, Accepted, NotStraight, NoCommand, NoSuchCommand, Checks}
+use Rattle.rs_tool.specs.Answer.{Answer}
+use Rattle.rs_tool.specs.Answers.{Answers, NoCommand, NoSuchCommand, CarriesOut, AnswersText, OfDocument, OfNone, AnswersDocument, AnswersNoDocument, IsTooLong, IsFaulty, IsDerived, IsDocument, AnswersRefusal, IsIllFormed, IsUnprojected, HasProjections, AnswersCheck, Checks, CantCheck, AnswersSession, IsIllMachine, Differs, IsSame}
+use Rattle.rs_tool.specs.Data.{Document_data}
+use Rattle.rs_tool.specs.FaultTexts.{fault_answer, wf_answer, proj_answer, machine_answer}
+use Rattle.rs_tool.specs.Headline.{SpellsSafeMachines}
+use Rattle.rs_tool.specs.Sessions.{AreProjected, machines_of}
 use Rattle.rs_tool.specs.Top.{Tells}
-use Rattle.rs_tool.proofs.Again.{both}
+use Rattle.rs_tool.specs.Words.{is_check, is_show, is_project, task_of}
+use Rattle.rs_tool.specs.declared.words.Task.{Task}
+use Rattle.rs_tool.specs.declared.words.Task.TheVariants as task
 
--- the name is in the list
-abbrev IsAmong : List (List ℕ) → List ℕ → Type 0
-IsAmong names name = list_any (λ other. bytes_eq name other) names ≡ true
+abbrev IsNoFine : Answer → Type 0
+IsNoFine a = a.status ≡ Fine → ⊥
 
-place-within : (names : List (List ℕ)) (name : List ℕ) → IsAmong names name → place_of names name < length names
-place-within [] name h = absurd cc
-place-within (other ∷ names) name h = go (bytes_eq name other) h (place-within names name)
-  where
-    go : (b : Bool) → (b || list_any (λ x. bytes_eq name x) names) ≡ true → (IsAmong names name → place_of names name < length names)
-        → cond b 0 (suc (place_of names name)) < suc (length names)
-    go true h more = omega arith
-    go false h more = omega (arith, more h)
+no-fine : (a b : Answer) → a ≡ b → (b.status ≡ Fine → ⊥) → IsNoFine a
+no-fine a b e h fine = h (ap (λ (x : Answer). x.status) (sym e) ∙ fine)
 
-place-same : (names : List (List ℕ)) (a b : List ℕ) → IsAmong names a → IsAmong names b → place_of names a ≡ place_of names b → a ≡ b
-place-same [] a b ha hb e = absurd cc
-place-same (other ∷ names) a b ha hb e = go (bytes_eq a other) (bytes_eq b other) refl refl ha hb e (place-same names a b)
-  where
-    go : (x y : Bool) → bytes_eq a other ≡ x → bytes_eq b other ≡ y → (x || list_any (λ n. bytes_eq a n) names) ≡ true → (y || list_any (λ n. bytes_eq b n) names) ≡ true
-        → cond x 0 (suc (place_of names a)) ≡ cond y 0 (suc (place_of names b)) → (IsAmong names a → IsAmong names b → place_of names a ≡ place_of names b → a ≡ b) → a ≡ b
-    go true true xa yb ha hb e more = (bytes_eq-Decides a other).0 xa ∙ sym ((bytes_eq-Decides b other).0 yb)
-    go true false xa yb ha hb e more = absurd (omega (arith, e))
-    go false true xa yb ha hb e more = absurd (omega (arith, e))
-    go false false xa yb ha hb e more = more ha hb (omega (arith, e))
+fault-is-no-fine : (bytes : List ℕ) (k : TextKind) (at : ℕ) → IsNoFine (fault_answer bytes k at)
+fault-is-no-fine bytes (kind.Expected w) at e = cc
+fault-is-no-fine bytes kind.UnknownRole at e = cc
+fault-is-no-fine bytes kind.UnboundName at e = cc
+fault-is-no-fine bytes kind.NameTwice at e = cc
+fault-is-no-fine bytes kind.TooDeep at e = cc
+fault-is-no-fine bytes kind.TooManyRoles at e = cc
+fault-is-no-fine bytes kind.TooManyNodes at e = cc
+fault-is-no-fine bytes kind.NoMemory at e = cc
+fault-is-no-fine bytes kind.Unguarded at e = cc
+fault-is-no-fine bytes kind.TooManyLabels at e = cc
+fault-is-no-fine bytes kind.BadByte at e = cc
+fault-is-no-fine bytes kind.NumberTooLarge at e = cc
+fault-is-no-fine bytes kind.NameTooLong at e = cc
 
-not-true : (b : Bool) → not b ≡ true → b ≡ true → ⊥
-not-true true e f = cc
-not-true false e f = cc
+wf-is-no-fine : (names : Names_data) (f : WfFault) → IsNoFine (wf_answer names f)
+wf-is-no-fine names (wf.SelfTalk n) e = cc
+wf-is-no-fine names (wf.NoArms n) e = cc
+wf-is-no-fine names (wf.TooManyArms n) e = cc
+wf-is-no-fine names (wf.TwiceLabel n l) e = cc
+wf-is-no-fine names (wf.BadNext n) e = cc
 
--- the talks are between different roles by their numbers as by their names
-all-talks : (s : Straight_data) (ts : List Talk) → list_all (is_between_roles s.roles) ts ≡ true → AllTalks (length s.roles) (map (numbered s) ts)
-all-talks s [] h = tt
-all-talks s (t ∷ ts) h =
-    let a = both (is_between_roles s.roles t) _ h in
-    let b = both (list_any (λ role. sends role t) s.roles && list_any (λ role. receives role t) s.roles) _ a.0 in
-    let c = both (list_any (λ role. sends role t) s.roles) _ b.0 in
-    let differ : place_of s.roles t.sender ≡ place_of s.roles t.receiver → ⊥ =
-    λ e. not-true (bytes_eq t.sender t.receiver) b.1 ((bytes_eq-Decides t.sender t.receiver).1 (place-same s.roles t.sender t.receiver c.0 c.1 e)) in
-    ((differ, place-within s.roles t.sender c.0, place-within s.roles t.receiver c.1), all-talks s ts a.1)
+proj-is-no-fine : (names : Names_data) (f : ProjFault) → IsNoFine (proj_answer names f)
+proj-is-no-fine names (proj.Unmergeable r a b) e = cc
+proj-is-no-fine names (proj.Unreached r n) e = cc
+proj-is-no-fine names (proj.TooManyStates r) e = cc
+proj-is-no-fine names proj.NoMemory e = cc
 
-pub machines-are-safe : (s : Straight_data) → IsStraight s → IsSafe (machines_of s)
-machines-are-safe s h = straight-sessions (length s.roles) (map (numbered s) s.talks) (all-talks s s.talks h.between_roles)
+none-is-no-fine : (bytes : List ℕ) (a : Answer) → AnswersNoDocument bytes a → IsNoFine a
+none-is-no-fine bytes a (IsTooLong long is) = no-fine a _ is (λ e. cc)
+none-is-no-fine bytes a (IsFaulty short k at h is) = no-fine a _ is (fault-is-no-fine bytes k at)
+none-is-no-fine bytes a (IsDerived short h is) = no-fine a _ is (λ e. cc)
 
-checked-is-safe : (bytes : List ℕ) (a : Answer) → AnswersCheck bytes a → a.status ≡ Fine → SpellsSafeMachines bytes
-checked-is-safe bytes a (Accepted s parts spells is) fine = record { straight = s; spelt = record { parts = parts; spells = spells }; safe = machines-are-safe s spells.straight }
-checked-is-safe bytes a (NotStraight none is) fine = let other = ap (λ (x : Answer). x.status) is in absurd cc
+refusal-is-no-fine : (d : Document_data) (a : Answer) → AnswersRefusal d a → IsNoFine a
+refusal-is-no-fine d a (IsIllFormed f e is) = no-fine a _ is (wf-is-no-fine d.names f)
+refusal-is-no-fine d a (IsUnprojected none role f h is) = no-fine a _ is (proj-is-no-fine d.names f)
 
-answered-is-safe : (words : List (List ℕ)) (bytes : List ℕ) (a : Answer) → Answers words bytes a → a.status ≡ Fine → SpellsSafeMachines bytes
-answered-is-safe words bytes a (Checks is h) fine = checked-is-safe bytes a h fine
-answered-is-safe words bytes a (NoCommand none is) fine = let other = ap (λ (x : Answer). x.status) is in absurd cc
-answered-is-safe words bytes a (NoSuchCommand named none is) fine = let other = ap (λ (x : Answer). x.status) is in absurd cc
+-- what is told of projections is what the law of equal sessions asks
+projections-are : (protocol : Protocol_data) (projections : List Projection_data) → AreProjected protocol projections → AreProjections protocol projections
+projections-are protocol projections h = record { many = h.many; each = λ p projection e. let x = h.each p projection e in x.is }
 
-pub fine-is-safe : (words : List (List ℕ)) (o old new : Option (List ℕ)) (status : Status) → IfSome o (λ bytes. Tells words bytes old new status) → IfSome o (λ bytes. status ≡ Fine → SpellsSafeMachines bytes)
-fine-is-safe words None old new status told = tt
-fine-is-safe words (Some bytes) old new status told = λ fine.
+session-is-safe : (bytes : List ℕ) (d : Document_data) (projections : List Projection_data) (a : Answer) → IsDocument bytes d → HasProjections d projections
+    → AnswersSession d.names d.protocol.roles (machines_of d.machines projections) projections a → a.status ≡ Fine → SpellsSafeMachines bytes
+session-is-safe bytes d projections a h p (IsIllMachine r e is) fine = absurd (no-fine a _ is (λ e. cc) fine)
+session-is-safe bytes d projections a h p (Differs none other is) fine = absurd (no-fine a _ is (λ e. cc) fine)
+session-is-safe bytes d projections a h p (IsSame none same m) fine =
+    record {
+      document = d;
+      projections = projections;
+      spells = h.spells;
+      projected = p.projected;
+      safe = equal-safe d.protocol projections (machines_of d.machines projections) (no_fault d.protocol p.well_formed) (projections-are d.protocol projections p.projected) same;
+    }
+
+document-is-safe : (bytes : List ℕ) (d : Document_data) (a : Answer) → IsDocument bytes d → AnswersCheck d a → a.status ≡ Fine → SpellsSafeMachines bytes
+document-is-safe bytes d a h (Checks projections p s) fine = session-is-safe bytes d projections a h p s fine
+document-is-safe bytes d a h (CantCheck r) fine = absurd (refusal-is-no-fine d a r fine)
+
+checked-is-safe : (bytes : List ℕ) (a : Answer) → AnswersText task.Check bytes a → a.status ≡ Fine → SpellsSafeMachines bytes
+checked-is-safe bytes a (OfDocument d h answers) fine = document-is-safe bytes d a h answers fine
+checked-is-safe bytes a (OfNone none) fine = absurd (none-is-no-fine bytes a none fine)
+
+-- words of a `check` ask for the task of checking
+check-is-the-task : (words : List (List ℕ)) (t : Task) → is_check words ≡ true → task_of words ≡ Some t → t ≡ task.Check
+check-is-the-task words t e f =
+    let g : Some task.Check ≡ Some t = subst (λ (b : Bool). (if b then Some task.Check else if is_show words then Some task.Show else if is_project words then Some task.Project else None) ≡ Some t) e f in cc
+
+answered-is-safe : (words : List (List ℕ)) (bytes : List ℕ) (a : Answer) → is_check words ≡ true → Answers words bytes a → a.status ≡ Fine → SpellsSafeMachines bytes
+answered-is-safe words bytes a check (CarriesOut t is h) fine = checked-is-safe bytes a (subst (λ (x : Task). AnswersText x bytes a) (check-is-the-task words t check is) h) fine
+answered-is-safe words bytes a check (NoCommand none is) fine = absurd (no-fine a _ is (λ e. cc) fine)
+answered-is-safe words bytes a check (NoSuchCommand named none is) fine = absurd (no-fine a _ is (λ e. cc) fine)
+
+pub fine-is-safe : (words : List (List ℕ)) (o old new : Option (List ℕ)) (status : Status) → is_check words ≡ true → IfSome o (λ bytes. Tells words bytes old new status) → IfSome o (λ bytes. status ≡ Fine → SpellsSafeMachines bytes)
+fine-is-safe words None old new status check told = tt
+fine-is-safe words (Some bytes) old new status check told = λ fine.
     let told' : Tells words bytes old new Fine = subst (Tells words bytes old new) fine told in
-    answered-is-safe words bytes told'.answer told'.answers told'.writes.status_is
+    answered-is-safe words bytes told'.answer check told'.answers told'.status_is

@@ -1,8 +1,9 @@
-pub mod Loops
-pub mod Canonical
-pub mod Again
-pub mod Accepted
-pub mod Found
-pub mod Told
+pub mod Parts
+pub mod OneFound
+pub mod Later
+pub mod CanShow
 pub mod Headline
 pub mod Unique
+pub mod Founds
+pub mod Sameness
+pub mod SomeAnswer

@@ -1,5 +1,14 @@
-pub mod Straight
-pub mod StraightReader
+pub mod Data
 pub mod Answer
+pub mod Words
+pub mod FaultTexts
+pub mod Report
+pub mod Documents
+pub mod Reading
+pub mod Sessions
+pub mod Shown
+pub mod Answers
+pub mod Headline
 pub mod Top
+pub mod Projecting
 pub mod Codes

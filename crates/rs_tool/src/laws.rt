@@ -1,23 +1,29 @@
 //! Laws about the definitions: each function does nothing, and its contract is the law.
 
-ghost use Rattle.std.specs.Prelude.{◌≡◌, ℕ, Bool, List};
-ghost use Rattle.rs_core.specs.Safety.{IsSafe};
-ghost use Rattle.rs_tool.specs.Answer.{Answer, Answers};
-ghost use Rattle.rs_tool.specs.Straight.{Straight_data, IsStraight, SpellsStraight, machines_of};
+ghost use Rattle.std.specs.Prelude.{◌≡◌, ℕ, List};
+ghost use Rattle.rs_tool.specs.Answer.{Answer};
+ghost use Rattle.rs_tool.specs.Answers.{Answers};
+ghost use Rattle.rs_tool.specs.Data.{Document_data};
+ghost use Rattle.rs_tool.specs.Documents.{SpellsDocument};
+ghost use Rattle.rs_tool.specs.Reading.{IsFound};
+ghost use Rattle.rs_tool.specs.Sessions.{AreDecided};
+ghost use Rattle.rs_tool.specs.declared.documents.Found.{Found};
+ghost use Rattle.rs_wellformed.specs.WellFormed.{IsWellFormed};
 
-/// A text spells one straight protocol at most, with one choice of machine parts.
-pub fn a_text_spells_one_straight_protocol()
-    ensures { (bytes : List ℕ) (s t : Straight_data) (parts others : List Bool) → SpellsStraight bytes s parts → SpellsStraight bytes t others → (s ≡ t) × (parts ≡ others) }
+/// A text is a document, has derivations, or has a first fault ..
+pub fn a_text_is_something()
+    ensures { (bytes : List ℕ) → (what : Found) × IsFound bytes what }
 {}
 
-/// The machines of a straight protocol are safe.
-pub fn straight_protocols_are_safe()
-    ensures { (s : Straight_data) → IsStraight s → IsSafe (machines_of s) }
+/// .. and never two of these, and spells one document and has one first fault at most.
+pub fn a_text_is_one_thing()
+    ensures { (bytes : List ℕ) (what other : Found) → IsFound bytes what → IsFound bytes other → what ≡ other }
 {}
 
-/// There is an answer to all words and bytes.
+/// There is an answer to all words and bytes, where the protocol that the bytes spell has for each role a projection or
+/// a first reason why it has none.
 pub fn all_have_an_answer()
-    ensures { (words : List (List ℕ)) (bytes : List ℕ) → (a : Answer) × Answers words bytes a }
+    ensures { (words : List (List ℕ)) (bytes : List ℕ) → ((d : Document_data) → SpellsDocument bytes d → IsWellFormed d.protocol → AreDecided d.protocol) → (a : Answer) × Answers words bytes a }
 {}
 
 /// No words and bytes have two answers.

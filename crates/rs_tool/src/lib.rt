@@ -1,17 +1,20 @@
 //! Documents, reports and `command`.
 #![tactic(auto)]
 
-mod accepting;
 mod answering;
+mod documents;
 pub mod laws;
-mod limits;
-mod printing;
-mod reading;
+mod made;
+mod report;
 mod running;
+mod sessions;
+mod shown;
 mod status;
-mod straight;
+mod words;
 
+pub use documents::{Document, Found, read_document};
 pub use running::{command, command_serial};
+pub use shown::print_document;
 pub use status::{Reply, Serial, Status};
 
 #[cfg(test)]

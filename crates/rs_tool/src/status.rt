@@ -8,6 +8,12 @@ pub enum Status {
     Fine,
     /// The words are none of the program's.
     Usage,
+    /// The text is at fault.
+    Malformed,
+    /// The protocol has no projection onto some role.
+    Unprojectable,
+    /// A quantity passes its limit.
+    TooLarge,
     /// The input couldn't be read.
     ReadFault,
     /// The output couldn't be written.
@@ -26,6 +32,9 @@ impl Status {
         match self {
             Status::Fine => 0,
             Status::Usage => 2,
+            Status::Malformed => 3,
+            Status::Unprojectable => 4,
+            Status::TooLarge => 5,
             Status::ReadFault => 6,
             Status::WriteFault => 7,
             Status::NoMemory => 8,

@@ -11,6 +11,11 @@ const SESSION: &str = "roles A, B\nprotocol A->B:x(). B->A:y(). end\n";
 
 const REPORT: &str = "accepted\nA: nodes 4 pending 1 rank 0\nB: nodes 4 pending 1 rank 0\nroom 3\n";
 
+/// The double buffer with an end, without a machine of the kernel's own.
+const BUFFER: &str = "roles K, S, T\nprotocol rec X. K->S:ready(). T->K:ready(). S->K{copy(bytes). K->T:copy(bytes). X, stop(). K->S:ready(). K->T:stop(). end}\n";
+
+const BUFFER_TABLES: &str = "table K {\n0 S!{ready() 1}\n1 T?{ready() 2}\n2 S?{copy(bytes) 3, stop() 4}\n3 T!{copy(bytes) 0}\n4 S!{ready() 5}\n5 T!{stop() 6}\n6 end\n}\ntable S {\n0 K?{ready() 1}\n1 K!{copy(bytes) 0, stop() 2}\n2 K?{ready() 3}\n3 end\n}\ntable T {\n0 K!{ready() 1}\n1 K?{copy(bytes) 0, stop() 2}\n2 end\n}\n";
+
 fn strings(alloc: Global, words: &[&str]) -> Result<Vec<String>, Fail> {
     let mut strings = Vec::new(alloc);
     for word in words {
@@ -28,7 +33,7 @@ fn answer<R: Threads + Wait + Sync>(
 ) -> Result<(Status, Vec<u8>), Fail> {
     let words = strings(alloc, words)?;
     let mut source = MemSource::new(text.to_vec(alloc)?, 65_536, Vec::new(alloc));
-    let mut sink = MemSink::new(alloc, 4_096, 4_096, Vec::new(alloc))?;
+    let mut sink = MemSink::new(alloc, 65_536, 65_536, Vec::new(alloc))?;
     let reply = command(rt, alloc, words.as_slice(), &mut source, &mut sink);
     Ok((reply.status, sink.bytes().to_vec(alloc)?))
 }
@@ -36,81 +41,66 @@ fn answer<R: Threads + Wait + Sync>(
 #[test]
 fn texts_and_words_have_their_answers(rt: HostRuntime) -> Result<(), Fail> {
     let alloc = rt.alloc();
-    let empty = "accepted\nA: nodes 1 pending 0 rank 0\nB: nodes 1 pending 0 rank 0\nroom 1\n";
-    let three =
-        "accepted\nA: nodes 2 pending 0 rank 0\nB: nodes 6 pending 1 rank 0\nC: nodes 4 pending 1 rank 0\nroom 3\n";
+    let check = ["check"].as_slice();
+    let show = ["show"].as_slice();
+    let project = ["project"].as_slice();
     for (words, text, status, written) in [
-        (["check"].as_slice(), SESSION, Status::Fine, REPORT),
-        (
-            ["check"].as_slice(),
-            "roles A, B\nprotocol A->B:x(). B->A:y(). end\nmachine A: B!x(). B?y(). end\n",
-            Status::Fine,
-            REPORT,
-        ),
-        (
-            ["check"].as_slice(),
-            "roles A, B\nprotocol A->B:x(). B->A:y(). end\nmachine A: B!x(). B?y(). end\nmachine B: A?x(). A!y(). end\n",
-            Status::Fine,
-            REPORT,
-        ),
-        (
-            ["check"].as_slice(),
-            "roles A, B\nprotocol A->B:x(). B->A:y(). end\nmachine B: A!y(). A?x(). end\n",
-            Status::NotBuilt,
-            "not built\n",
-        ),
-        (
-            ["check"].as_slice(),
-            "roles A, B\nprotocol end\n",
-            Status::Fine,
-            empty,
-        ),
-        (
-            ["check"].as_slice(),
-            "roles A, B, C\nprotocol A->B:x(bytes). B->C:x(list). C->B:end(nat). end\nmachine C: B?x(list). B!end(nat). end\n",
-            Status::Fine,
-            three,
-        ),
-        (
-            ["check"].as_slice(),
-            "roles A, B\nprotocol A->B:x(). end",
-            Status::NotBuilt,
-            "not built\n",
-        ),
-        (
-            ["check"].as_slice(),
-            "roles A, B\nprotocol A->B:x(unit). end\n",
-            Status::NotBuilt,
-            "not built\n",
-        ),
-        (
-            ["check"].as_slice(),
-            "roles A, B\nprotocol A->A:x(). end\n",
-            Status::NotBuilt,
-            "not built\n",
-        ),
-        (
-            ["check"].as_slice(),
-            "roles A\nprotocol end\n",
-            Status::NotBuilt,
-            "not built\n",
-        ),
-        (["check"].as_slice(), "", Status::NotBuilt, "not built\n"),
+        // words
         ([].as_slice(), SESSION, Status::Usage, "usage\n"),
         (["frob"].as_slice(), SESSION, Status::Usage, "usage\n"),
         (["Check"].as_slice(), SESSION, Status::Usage, "usage\n"),
-        (
-            ["check", "x"].as_slice(),
-            SESSION,
-            Status::NotBuilt,
-            "not built\n",
-        ),
-        (
-            ["gen", "3"].as_slice(),
-            SESSION,
-            Status::NotBuilt,
-            "not built\n",
-        ),
+        (["check", "x"].as_slice(), SESSION, Status::NotBuilt, "not built\n"),
+        (["gen", "3"].as_slice(), SESSION, Status::NotBuilt, "not built\n"),
+        // accepted
+        (check, SESSION, Status::Fine, REPORT),
+        (check, "roles A,B protocol A->B{x(unit). rec Y. B->A:y(). end}# c", Status::Fine, REPORT),
+        (check, "roles A, B\nprotocol A->B:x(). B->A:y(). end\nmachine A: B!x(). B?y(). end\n", Status::Fine, REPORT),
+        (check, "roles A, B\nprotocol end\n", Status::Fine, "accepted\nA: nodes 1 pending 0 rank 0\nB: nodes 1 pending 0 rank 0\nroom 1\n"),
+        (check, BUFFER, Status::Fine, "accepted\nK: nodes 10 pending 1 rank 0\nS: nodes 6 pending 1 rank 0\nT: nodes 5 pending 1 rank 0\nroom 3\n"),
+        // a machine that differs from its projection
+        (check, "roles A, B\nprotocol A->B:x(). B->A:y(). end\nmachine B: A!y(). A?x(). end\n", Status::NotBuilt, "not built\n"),
+        // derivations
+        (check, "roles A, B\nprotocol end\nderivation $", Status::NotBuilt, "not built\n"),
+        (show, "roles A, B\nprotocol end\nderivation $", Status::NotBuilt, "not built\n"),
+        (project, "roles A, B\nprotocol end\nderivation $", Status::NotBuilt, "not built\n"),
+        // faults of a text
+        (check, "", Status::Malformed, "malformed 1:1 expected roles\n"),
+        (show, "", Status::Malformed, "malformed 1:1 expected roles\n"),
+        (check, "roles A", Status::Malformed, "malformed 1:8 expected ,\n"),
+        (check, "roles A, B\n", Status::Malformed, "malformed 2:1 expected , or protocol\n"),
+        (check, "roles A, B\nprotocol ", Status::Malformed, "malformed 2:10 expected body\n"),
+        (check, "roles A, B\nprotocol A", Status::Malformed, "malformed 2:10 unbound name\n"),
+        (check, "roles A, B\nprotocol A-", Status::Malformed, "malformed 2:11 bad byte\n"),
+        (check, "roles A, B\nprotocol A->B:x(", Status::Malformed, "malformed 2:17 expected sort or )\n"),
+        (check, "roles A, B\nprotocol A->B:x()", Status::Malformed, "malformed 2:18 expected .\n"),
+        (check, "roles A, B\nprotocol rec X. X", Status::Malformed, "malformed 2:17 unguarded name\n"),
+        (check, "roles A, B\nprotocol X", Status::Malformed, "malformed 2:10 unbound name\n"),
+        (check, "roles A, B\nprotocol A->C:x(). end", Status::Malformed, "malformed 2:13 unknown role\n"),
+        (check, "roles A, 4294967296", Status::Malformed, "malformed 1:10 number too large\n"),
+        (check, "roles A, B\nprotocol end\nend", Status::Malformed, "malformed 3:1 expected machine, derivation or the end\n"),
+        (check, "roles A, B\nprotocol A->B:x(). B->A:y(). end\nmachine B: A!y(). A?x(). end\nmachine B: A!y(). A?x(). end\n", Status::Malformed, "malformed 4:9 name twice\n"),
+        (check, "roles A, B\nprotocol end\nmachine C: end", Status::Malformed, "malformed 3:9 unknown role\n"),
+        (check, "roles A, B\nprotocol end\nmachine A end", Status::Malformed, "malformed 3:11 expected :\n"),
+        // protocols that aren't well formed
+        (check, "roles A, B\nprotocol A->A:x(). end", Status::Malformed, "malformed protocol: node 0 talks to itself\n"),
+        (show, "roles A, B\nprotocol A->A:x(). end", Status::Fine, "roles A, B\nprotocol A->A:x(). end\n"),
+        (check, "roles A, B\nprotocol A->B{x(). end, x(). end}", Status::Malformed, "malformed protocol: label x twice at node 0\n"),
+        (show, "roles A, B\nprotocol A->B{x(). end, x(). end}", Status::Fine, "roles A, B\nprotocol A->B{x(). end, x(). end}\n"),
+        // protocols without a projection
+        (check, "roles p, q, r\nprotocol rec X. q->r{a(). X, b(). q->p:c(). end}", Status::Unprojectable, "unprojectable\np: unreached at node 0\n"),
+        (project, "roles p, q, r\nprotocol rec X. q->r{a(). X, b(). q->p:c(). end}", Status::Unprojectable, "unprojectable\np: unreached at node 0\n"),
+        (check, "roles A, B, C\nprotocol A->B{l(). C->A:x(). end, r(). C->A:y(). end}", Status::Unprojectable, "unprojectable\nC: nodes 1 and 2 do not merge\n"),
+        (check, "roles A, B, C\nprotocol A->B{l(). A->C:x(). end, r(). end}", Status::Unprojectable, "unprojectable\nC: node 1 and the end do not merge\n"),
+        // machines that aren't well formed
+        (check, "roles A, B\nprotocol A->B:x(). end\nmachine A: B!{x(). end, x(). end}", Status::Malformed, "malformed machine A: label x twice at state 0\n"),
+        (check, "roles A, B\nprotocol A->B:x(). end\nmachine A: A!x(). end", Status::Malformed, "malformed machine A: state 0 talks to itself\n"),
+        (project, "roles A, B\nprotocol A->B:x(). end\nmachine A: A!x(). end", Status::Fine, "table A {\n0 B!{x() 1}\n1 end\n}\ntable B {\n0 A?{x() 1}\n1 end\n}\n"),
+        // canonical texts and tables
+        (show, "roles A,B protocol rec X. A->B:x(). X # c", Status::Fine, "roles A, B\nprotocol rec X0. A->B:x(). X0\n"),
+        (show, "roles A, B protocol rec X. rec Y. A->B{a(). X, b(nat). Y}", Status::Fine, "roles A, B\nprotocol rec X0. A->B{a(). X0, b(nat). X0}\n"),
+        (show, "roles A, B protocol A->B{x(unit). end}", Status::Fine, "roles A, B\nprotocol A->B:x(). end\n"),
+        (project, BUFFER, Status::Fine, BUFFER_TABLES),
+        (show, "roles K, S, T\nprotocol rec X. K->S:ready(). T->K:ready(). S->K{copy(bytes). K->T:copy(bytes). X, stop(). K->S:ready(). K->T:stop(). end}\nmachine K: S!ready(). rec X. S!ready(). T?ready(). S?{copy(bytes). T!copy(bytes). X, stop(). T!stop(). end}\n", Status::Fine, "roles K, S, T\nprotocol rec X0. K->S:ready(). T->K:ready(). S->K{copy(bytes). K->T:copy(bytes). X0, stop(). K->S:ready(). K->T:stop(). end}\nmachine K: S!ready(). rec X1. S!ready(). T?ready(). S?{copy(bytes). T!copy(bytes). X1, stop(). T!stop(). end}\n"),
     ] {
         let (found, bytes) = answer(&rt, alloc, words, text.as_bytes())?;
         assert_eq!(rt; found, status, "{text}");
@@ -139,76 +129,71 @@ fn reads_and_writes_that_fail_are_told(rt: HostRuntime) -> Result<(), Fail> {
     Ok(())
 }
 
-/// A straight protocol of so many roles and talks, in which so many labels stand; the talks are of A and B and, where
-/// there are four roles, of C and D in turn. A has a machine part where it is asked for.
-fn long_text(
+/// A piece so many times between two others.
+fn repeated(
     alloc: Global,
-    roles: usize,
-    talks: usize,
-    labels: usize,
-    has_part: bool,
+    before: &str,
+    piece: &str,
+    count: u32,
+    behind: &str,
 ) -> Result<String, Fail> {
-    let mut text = String::from_str(alloc, "roles A, B")?;
-    for role in 2..roles {
-        match role {
-            2 => text.push_str(", C")?,
-            3 => text.push_str(", D")?,
-            _ => text.push_str(format!(in alloc; ", R{role}")?.as_str())?,
+    let mut text = String::from_str(alloc, before)?;
+    for _ in 0..count {
+        text.push_str(piece)?;
+    }
+    text.push_str(behind)?;
+    Ok(text)
+}
+
+/// A talk with so many arms.
+fn many_arms(alloc: Global, arms: u32) -> Result<String, Fail> {
+    let mut text = String::from_str(alloc, "roles A, B\nprotocol A->B{")?;
+    for arm in 0..arms {
+        if arm > 0 {
+            text.push_str(", ")?;
         }
+        text.push_str(format!(in alloc; "l{arm}(). end")?.as_str())?;
     }
-    text.push_str("\nprotocol ")?;
-    let mut part = String::from_str(alloc, "machine A: ")?;
-    for talk in 0..talks {
-        let label = talk.min(labels.saturating_sub(1));
-        if roles >= 4 && talk % 2 == 1 {
-            text.push_str(format!(in alloc; "C->D:l{label}(). ")?.as_str())?;
-        } else {
-            text.push_str(format!(in alloc; "A->B:l{label}(). ")?.as_str())?;
-            part.push_str(format!(in alloc; "B!l{label}(). ")?.as_str())?;
-        }
-    }
-    text.push_str("end\n")?;
-    if has_part {
-        text.push_str(part.as_str())?;
-        text.push_str("end\n")?;
-    }
+    text.push_str("}\n")?;
+    Ok(text)
+}
+
+/// After its first message p is in one of 31 times 33 sets of two talks; `before` stands before all.
+fn many_sets(alloc: Global, before: &str) -> Result<String, Fail> {
+    let mut text = String::from_str(alloc, "roles p, q, r\nprotocol ")?;
+    text.push_str(before)?;
+    text.push_str("q->p:a(). q->r{l1(). rec X. ")?;
+    text.push_str(repeated(alloc, "", "q->p:a(). ", 31, "X, l2(). rec Y. ")?.as_str())?;
+    text.push_str(repeated(alloc, "", "q->p:a(). ", 33, "Y}\n")?.as_str())?;
     Ok(text)
 }
 
 #[test]
 fn limits_hold_at_their_last_value(rt: HostRuntime) -> Result<(), Fail> {
     let alloc = rt.alloc();
-    for (roles, talks, labels, has_part, status) in [
-        (16, 4, 4, false, Status::Fine),
-        (17, 4, 4, false, Status::NotBuilt),
-        (4, 1024, 1, false, Status::Fine),
-        (4, 1025, 1, false, Status::NotBuilt),
-        (4, 600, 256, false, Status::Fine),
-        (4, 600, 257, false, Status::NotBuilt),
-        (2, 1023, 1, false, Status::Fine),
-        (2, 1024, 1, false, Status::NotBuilt),
-        (2, 256, 1, true, Status::Fine),
-        (2, 257, 1, true, Status::NotBuilt),
-        (2, 257, 1, false, Status::Fine),
+    let talks = "roles A, B, C, D\nprotocol ";
+    for (text, status, written) in [
+        (repeated(alloc, talks, "A->B:x(). C->D:x(). ", 512, "end")?, Status::Fine, "accepted\nA: nodes 513 pending 0 rank 0\nB: nodes 1025 pending 1 rank 0\nC: nodes 513 pending 0 rank 0\nD: nodes 1025 pending 1 rank 0\nroom 3\n"),
+        (repeated(alloc, talks, "A->B:x(). C->D:x(). ", 512, "A->B:x(). end")?, Status::TooLarge, "too large: nodes\n"),
+        (repeated(alloc, "roles A, B\nprotocol ", "A->B:x(). ", 1_024, "end")?, Status::TooLarge, "too large: projection A\n"),
+        (repeated(alloc, "roles A, B\nprotocol ", "A->B:x(). ", 1_023, "end")?, Status::Fine, "accepted\nA: nodes 1024 pending 0 rank 0\nB: nodes 2047 pending 1 rank 0\nroom 3\n"),
+        (many_arms(alloc, 32)?, Status::Fine, "accepted\nA: nodes 2 pending 0 rank 0\nB: nodes 34 pending 1 rank 0\nroom 3\n"),
+        (many_arms(alloc, 33)?, Status::TooLarge, "too large: arms\n"),
+        (repeated(alloc, "roles A, B\nprotocol ", "rec X. ", 200, "A->B:x(). X")?, Status::Fine, "accepted\nA: nodes 1 pending 0 rank 0\nB: nodes 2 pending 1 rank 0\nroom 3\n"),
+        (repeated(alloc, "roles A, B\nprotocol ", "rec X. ", 201, "A->B:x(). X")?, Status::TooLarge, "too large: nesting\n"),
+        (repeated(alloc, SESSION, " ", 1_048_576 - 44, "")?, Status::Fine, REPORT),
+        (repeated(alloc, SESSION, " ", 1_048_577 - 44, "")?, Status::TooLarge, "too large: text\n"),
+        (many_sets(alloc, "")?, Status::Fine, "accepted\np: nodes 2048 pending 1 rank 0\nq: nodes 66 pending 0 rank 0\nr: nodes 4 pending 1 rank 0\nroom 3\n"),
+        (many_sets(alloc, "q->p:a(). ")?, Status::TooLarge, "too large: projection p\n"),
     ] {
-        let text = long_text(alloc, roles, talks, labels, has_part)?;
-        let (found, _) = answer(&rt, alloc, &["check"], text.as_bytes())?;
-        assert_eq!(rt;
-            found,
-            status,
-            "{roles} roles, {talks} talks, {labels} labels"
-        );
+        let (found, bytes) = answer(&rt, alloc, &["check"], text.as_bytes())?;
+        assert_eq!(rt; found, status, "{written}");
+        assert_eq!(rt; bytes.as_slice(), written.as_bytes());
     }
-    for (length, status) in [(64, Status::Fine), (65, Status::NotBuilt)] {
-        let name = "n".repeat(alloc, length)?;
-        let text = format!(in alloc; "roles {name}, B\nprotocol {name}->B:{name}(). end\n")?;
-        let (found, _) = answer(&rt, alloc, &["check"], text.as_bytes())?;
-        assert_eq!(rt; found, status, "names of {length} bytes");
-    }
-    for length in [1_048_576, 1_048_577] {
-        let text = " ".repeat(alloc, length)?;
-        let (found, _) = answer(&rt, alloc, &["check"], text.as_bytes())?;
-        assert_eq!(rt; found, Status::NotBuilt, "{length} bytes");
-    }
+    let name = repeated(alloc, "", "n", 65, "")?;
+    let text = format!(in alloc; "roles A, {name}")?;
+    let (found, bytes) = answer(&rt, alloc, &["check"], text.as_bytes())?;
+    assert_eq!(rt; found, Status::TooLarge);
+    assert_eq!(rt; bytes.as_slice(), b"too large: name\n".as_slice());
     Ok(())
 }

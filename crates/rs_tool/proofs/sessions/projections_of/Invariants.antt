@@ -1,0 +1,5 @@
+use Rattle.rs_tool.specs.Sessions.{AreFirstProjections}
+use Rattle.rs_tool.proofs.sessions.projections_of.Given as goal
+
+abbrev pub invariant-loop-role : goal.invariant-loop-role
+invariant-loop-role l = AreFirstProjections l.protocol l.role l.projections.items

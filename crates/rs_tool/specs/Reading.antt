@@ -1,0 +1,91 @@
+-- How a document is read: token by token behind the protocol, and machine by machine.
+use Rattle.std.specs.Prelude.{◌≡◌, ℕ, ◌<◌, ◌≤◌, suc, List, [], ◌∷◌, length, codes, Bool, true, false, Option, Some, None, slice_get, if◌then◌else◌}
+use Rattle.rs_model.specs.Data.{Names_data, Machine_data}
+use Rattle.rs_text.specs.Lexemes.{Lexeme}
+use Rattle.rs_text.specs.Names.{place_of}
+use Rattle.rs_text.specs.Seen.{plain_text}
+use Rattle.rs_text.specs.Signs.{Sign, finish}
+use Rattle.rs_text.specs.Sound.{IsSound}
+use Rattle.rs_tool.specs.Data.{Document_data}
+use Rattle.rs_tool.specs.Documents.{StandsAt, derivation_word, is_word, fault_behind, GoesOn, IsBehindProtocol, HasFault}
+use Rattle.rs_tool.specs.declared.documents.Begin.{Begin}
+use Rattle.rs_tool.specs.declared.documents.Begin.TheVariants as begin
+use Rattle.rs_tool.specs.declared.documents.Found.{Found}
+use Rattle.rs_tool.specs.declared.documents.Found.TheVariants as found
+use Rattle.rs_tool.specs.declared.documents.Part.{Part}
+use Rattle.rs_tool.specs.declared.documents.Part.TheVariants as part
+
+-- the token is the end, begins a part, or has this fault
+abbrev pub IsBegin : Sign → Begin → Type 0
+IsBegin sign begin.End = sign ≡ finish
+IsBegin sign begin.Machine = is_word (codes "machine") sign ≡ true
+IsBegin sign begin.Derivation = is_word (codes "derivation") sign ≡ true
+IsBegin sign (begin.Fault kind) = fault_behind sign ≡ Some kind
+
+-- whether the role at the place has a machine
+abbrev pub is_held : Option (Option Machine_data) → Bool
+is_held None = false
+is_held (Some None) = false
+is_held (Some (Some machine)) = true
+
+abbrev pub twice_by : Option ℕ → List (Option Machine_data) → ℕ → Option ℕ
+twice_by None machines from = None
+twice_by (Some place) machines from = if is_held (slice_get machines place) then Some from else None
+
+abbrev pub twice_named : Option (List ℕ) → Names_data → List (Option Machine_data) → ℕ → Option ℕ
+twice_named None names machines from = None
+twice_named (Some name) names machines from = twice_by (place_of name names.roles) machines from
+
+-- the offset of the token, where it is a role that has a machine
+abbrev pub twice_of : Names_data → List (Option Machine_data) → Lexeme → Option ℕ
+twice_of names machines l = twice_named (plain_text l.sign) names machines l.from
+
+-- no machine has more than 257 states
+abbrev pub AreShort : List (Option Machine_data) → Type 0
+AreShort machines = (k : ℕ) (machine : Machine_data) → slice_get machines k ≡ Some (Some machine) → length machine.states ≤ 257
+
+-- names and machines as they are while a document is read
+pub record IsReady (d : Document_data) : Type 0 where
+  pub sound : IsSound d.names
+  pub roles : length d.names.roles ≤ 16
+  pub labels : length d.names.labels ≤ 256
+  pub one_each : length d.machines ≡ length d.names.roles
+  pub short : AreShort d.machines
+  pub nodes : length d.protocol.nodes ≤ 1025
+
+-- how many roles have no machine
+abbrev pub free_in : List (Option Machine_data) → ℕ
+free_in [] = 0
+free_in (None ∷ machines) = suc (free_in machines)
+free_in (Some machine ∷ machines) = free_in machines
+
+-- what the text is from the offset on, with the document so far
+abbrev pub GoesOnWith : List ℕ → Document_data → ℕ → Found → Type 0
+GoesOnWith bytes d at what = GoesOn bytes d.protocol at d.names d.machines what
+
+-- one machine more stands in the document, and the text goes on behind it
+pub record IsAdded (bytes : List ℕ) (at : ℕ) (old new : Document_data) (next : ℕ) : Type 0 where
+  pub back : (what : Found) → GoesOnWith bytes new next what → GoesOnWith bytes old at what
+  pub protocol : new.protocol ≡ old.protocol
+  pub fewer : free_in new.machines < free_in old.machines
+  pub within : next ≤ length bytes
+  pub ready : IsReady new
+
+-- what was found at the offset
+abbrev pub IsPart : List ℕ → ℕ → Document_data → Document_data → Part → Type 0
+IsPart bytes at old new part.End = StandsAt bytes at finish × (new ≡ old)
+IsPart bytes at old new part.Derivations = StandsAt bytes at derivation_word
+IsPart bytes at old new (part.Fault f) = GoesOnWith bytes old at (found.Fault f) × (f.at ≤ length bytes)
+IsPart bytes at old new (part.Machine next) = IsAdded bytes at old new next
+
+-- a document that was found is ready, and the offset of a fault lies in the text
+abbrev pub IsInOrder : List ℕ → Found → Type 0
+IsInOrder bytes (found.Document d) = IsReady d
+IsInOrder bytes found.Derivations = Unit {0}
+IsInOrder bytes (found.Fault f) = f.at ≤ length bytes
+
+-- what was found is what the text is
+abbrev pub IsFound : List ℕ → Found → Type 0
+IsFound bytes (found.Document d) = IsBehindProtocol bytes (found.Document d)
+IsFound bytes found.Derivations = IsBehindProtocol bytes found.Derivations
+IsFound bytes (found.Fault f) = HasFault bytes f.kind f.at
