@@ -10,3 +10,4 @@ pub mod Feeding
 pub mod Tables
 pub mod Examples
 pub mod MachineFaults
+pub mod Named
