@@ -20,3 +20,4 @@ pub mod Refusals
 pub mod Examples
 pub mod TreeLabels
 pub mod Shapes
+pub mod NamedStates

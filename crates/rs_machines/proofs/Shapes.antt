@@ -60,7 +60,7 @@ next_at (x ∷ arms) (suc k) a total h e = next_at arms k a total h.1 e
 
 -- ---- by the tree
 
-and_split : (a b : Bool) → (a && b) ≡ true → (a ≡ true) × (b ≡ true)
+pub and_split : (a b : Bool) → (a && b) ≡ true → (a ≡ true) × (b ≡ true)
 and_split true b h = (refl, h)
 and_split false b h = absurd (cc h)
 
@@ -68,11 +68,11 @@ or_left : (a b : Bool) → a ≡ true → (a || b) ≡ true
 or_left true b h = refl
 or_left false b h = absurd (cc h)
 
-or_right : (a b : Bool) → b ≡ true → (a || b) ≡ true
+pub or_right : (a b : Bool) → b ≡ true → (a || b) ≡ true
 or_right true b h = refl
 or_right false b h = h
 
-known_by : (found : Option ℕ) (name : List ℕ) (names : List (List ℕ)) → place_of name names ≡ found → is_among name names ≡ true → number_or found < length names
+pub known_by : (found : Option ℕ) (name : List ℕ) (names : List (List ℕ)) → place_of name names ≡ found → is_among name names ≡ true → number_or found < length names
 known_by None name names e h = absurd (cc (sym h ∙ not_among names name 0 e))
 known_by (Some k) name names e h = place_below names name k e
 

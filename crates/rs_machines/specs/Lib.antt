@@ -11,3 +11,4 @@ pub mod Tables
 pub mod Examples
 pub mod MachineFaults
 pub mod Canonical
+pub mod Named

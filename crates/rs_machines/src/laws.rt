@@ -8,6 +8,7 @@ ghost use Rattle.rs_machines.specs.Feeding.{Answer, ReadsAs};
 ghost use Rattle.rs_machines.specs.Faults.{FirstFault};
 ghost use Rattle.rs_machines.specs.Machines.{machine_of, names_of};
 ghost use Rattle.rs_machines.specs.MachineFaults.{IsFaultOfText};
+ghost use Rattle.rs_machines.specs.Named.{HasNames};
 ghost use Rattle.rs_machines.specs.Spells.{SpellsMachine};
 ghost use Rattle.rs_model.specs.Data.{Names_data, Machine_data};
 ghost use Rattle.rs_model.specs.Faults.{first_fault};
@@ -42,4 +43,9 @@ pub fn no_bytes_lack_a_machine()
 /// its own role.
 pub fn faults_of_spelt_machines()
     ensures { (bytes : List ℕ) (at : ℕ) (old new : Names_data) (machine : Machine_data) (until : ℕ) (fault : MachineFault) → SpellsMachine bytes at old new machine until → first_fault machine (length old.roles) ≡ Some fault → IsFaultOfText fault }
+{}
+
+/// Every role and label of a machine that a text spells has a name.
+pub fn spelt_machines_have_names()
+    ensures { (bytes : List ℕ) (at : ℕ) (old new : Names_data) (machine : Machine_data) (until : ℕ) → SpellsMachine bytes at old new machine until → HasNames new machine }
 {}

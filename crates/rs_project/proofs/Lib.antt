@@ -12,3 +12,5 @@ pub mod Steps
 pub mod Lockstep
 pub mod OneAnswer
 pub mod OneProjection
+pub mod Choices
+pub mod Machines

@@ -1,10 +1,12 @@
 //! Laws over the definitions: each function does nothing, and its contract is the law.
 
-ghost use Rattle.std.specs.Prelude.{◌≡◌};
+ghost use Rattle.std.specs.Prelude.{◌≡◌, ◌<◌};
 ghost use Rattle.rs_model.specs.Data.{Protocol_data};
+ghost use Rattle.rs_model.specs.WellFormed.{IsWellFormedMachine};
 ghost use Rattle.rs_model.specs.declared.graph.Role.{Role};
 ghost use Rattle.rs_project.specs.Data.{Projection_data};
 ghost use Rattle.rs_project.specs.Projected.{Projected};
+ghost use Rattle.rs_project.specs.Projection.{IsProjection};
 ghost use Rattle.rs_project.specs.Refusals.{FirstRefusal};
 ghost use Rattle.rs_project.specs.declared.projecting.ProjFault.{ProjFault};
 ghost use Rattle.rs_wellformed.specs.WellFormed.{IsWellFormed};
@@ -22,4 +24,9 @@ pub fn one_projection_at_most()
 /// Where there is a projection nothing is refused.
 pub fn not_both()
     ensures { (protocol : Protocol_data) (role : Role) (projection : Projection_data) (fault : ProjFault) → Projected protocol role projection → FirstRefusal protocol role fault → ⊥ }
+{}
+
+/// The machine of a projection of a well-formed protocol is well formed.
+pub fn projections_are_well_formed()
+    ensures { (protocol : Protocol_data) (role : Role) (projection : Projection_data) → IsWellFormed protocol → role.0 < protocol.roles → IsProjection protocol role projection → IsWellFormedMachine projection.machine protocol.roles }
 {}

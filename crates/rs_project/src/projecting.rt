@@ -1,5 +1,6 @@
 ghost use Rattle.std.specs.Prelude.{◌≡◌, ◌⊎◌, ◌<◌, ◌≤◌, ◌^◌, ℕ, map, length, IfOk, IfErr};
 ghost use Rattle.std.specs.List.{Contains};
+ghost use Rattle.rs_model.specs.WellFormed.{IsWellFormedMachine};
 ghost use Rattle.rs_project.specs.Graph.{Involves, MeetsFirst, MeetsTheEnd};
 ghost use Rattle.rs_project.specs.Marks.{Among, IsSurvey};
 ghost use Rattle.rs_project.specs.Projected.{Projected, nexts_behind, nexts_of};
@@ -92,6 +93,8 @@ pub fn project(alloc: Global, protocol: &Protocol, role: Role) -> Result<Project
     requires role { role.0 < protocol.now.roles }
     requires few { length protocol.now.nodes < 2 ^ 32 }
     ensures ok { IfOk result (λ p. Projected protocol.now role p) }
+    ensures machine { IfOk result (λ p. IsWellFormedMachine p.machine protocol.now.roles) }
+    ensures few { IfOk result (λ p. length p.machine.states ≤ 1024) }
     ensures err { IfErr result (λ e. (e ≡ ProjFault.NoMemory) ⊎ FirstRefusal protocol.now role e) }
 {
     let survey = survey_of(alloc, protocol, role)?;
@@ -99,7 +102,11 @@ pub fn project(alloc: Global, protocol: &Protocol, role: Role) -> Result<Project
         return Err(ProjFault::Unreached { role, node });
     }
     let start = front_of(alloc, protocol, &survey, &[protocol.root])?;
-    work(alloc, protocol, &survey, start)
+    let projection = match work(alloc, protocol, &survey, start) {
+        Ok(projection) => projection,
+        Err(fault) => return Err(fault),
+    };
+    Ok(projection)
 }
 
 fn work(

@@ -103,7 +103,7 @@ fn is_projection(
             }
         }
         same = same && place < found.sets.len() && found.sets[place].as_slice() == set.as_slice();
-        place += 1;
+        place = place.wrapping_add(1);
     }
     Ok(same && place == found.sets.len())
 }
@@ -168,7 +168,8 @@ fn refusals(rt: HostRuntime) -> Result<(), Fail> {
 }
 
 // So many messages from role 1 to role 0, and then a choice between two rounds of 31 and of 33 more.
-fn two_rounds(alloc: Global, before: u32) -> Result<Protocol, NoMemory> {
+fn two_rounds(alloc: Global, before: u8) -> Result<Protocol, NoMemory> {
+    let before = u32::from(before);
     let mut nodes = Vec::new(alloc);
     for i in 0..before {
         nodes.push(message(alloc, 0, &[arm(0, b'u', i + 1)])?)?;

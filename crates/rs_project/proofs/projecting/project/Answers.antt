@@ -1,9 +1,11 @@
-use Rattle.std.proofs.Common.{◌≤◌, inr, ℕ, [], ◌∷◌, Option, MatchOption, refl, ap, subst}
+use Rattle.std.proofs.Common.{arith, ◌≤◌, inr, ℕ, [], ◌∷◌, Option, MatchOption, refl, ap, subst}
 use Rattle.rs_model.specs.Data.{Protocol_data}
 use Rattle.rs_model.specs.declared.graph.Role.{Role}
 use Rattle.rs_project.specs.Graph.{IsUnreached}
 use Rattle.rs_project.specs.Marks.{StartMeets, StartEnds}
 use Rattle.rs_project.specs.Refusals.{IsFront, NoneUnreached}
+use Rattle.rs_project.specs.Projected.{Projected}
+use Rattle.rs_project.proofs.Machines.{projection-machine}
 use Rattle.rs_project.proofs.Steps.{front-root}
 use Rattle.rs_project.proofs.projecting.project.Goals as goal
 
@@ -22,3 +24,15 @@ work-requires-clause-start c =
     let own = c.in_ok-survey.survey.role in
     let P : ℕ → Type 0 = λ z. IsFront c.in_ok-start.start (StartMeets pr own (z ∷ [])) (StartEnds pr own (z ∷ [])) in
     front-root pr own c.in_ok-start.start (subst P (ap (λ (z : Protocol_data). z.root) c.protocol.view_is) c.in_ok-start.ensures)
+
+pub returns-clause-machine : goal.returns-clause-machine
+returns-clause-machine c =
+    let P : Role → Type 0 = λ z. Projected c.args.protocol.now z c.in-Ok.projection in
+    let h = subst P c.in_ok-survey.ensures.role c.in-Ok.ensures.ok in
+    projection-machine c.args.protocol.now c.args.role c.in-Ok.projection c.requires.well_formed c.requires.role h.is
+
+pub returns-clause-few : goal.returns-clause-few
+returns-clause-few c =
+    let f = c.in-Ok.ensures.ok.few in
+    let a = c.in-Ok.ensures.ok.is.all in
+    omega arith
