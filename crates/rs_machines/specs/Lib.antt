@@ -10,5 +10,4 @@ pub mod Feeding
 pub mod Tables
 pub mod Examples
 pub mod MachineFaults
-pub mod Canonical
 pub mod Named

@@ -6,7 +6,6 @@ pub mod fault_laws;
 pub mod laws;
 mod machines;
 mod marks;
-mod printing;
 mod reading;
 pub mod spelling_laws;
 mod tables;
@@ -14,5 +13,4 @@ mod tables;
 mod tests;
 
 pub use machines::read_machine;
-pub use printing::print_machine;
 pub use tables::print_table;
