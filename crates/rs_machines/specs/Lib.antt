@@ -10,3 +10,7 @@ pub mod Feeding
 pub mod Tables
 pub mod Examples
 pub mod MachineFaults
+pub mod Texts
+pub mod Canonical
+pub mod Writable
+pub mod Enough
