@@ -20,3 +20,6 @@ pub mod Refusals
 pub mod Examples
 pub mod TreeLabels
 pub mod Shapes
+pub mod Acts
+pub mod CanonForms
+pub mod Existence

@@ -14,3 +14,4 @@ pub mod Texts
 pub mod Canonical
 pub mod Writable
 pub mod Enough
+pub mod Shapes
