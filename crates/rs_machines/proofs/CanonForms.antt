@@ -186,3 +186,25 @@ ins_pick false k from found m lt e f = f e
 
 pub ins_rec : (bound : Bound) (from k : ℕ) (x : List ℕ) → Ins bound from k → Ins ((x, k) ∷ bound) from k
 ins_rec bound from k x ins y m e lt = ins_pick (bytes_eq x y) k from (bound_to y bound) m lt e (λ h. ins y m h lt)
+
+-- ---- names that can be written
+
+-- the number of a peer, or of a label, has a name
+abbrev pub HasRole : Writing → List ℕ → Type 0
+HasRole w s = (role_of w.numbers s).0 < length w.names.roles
+
+abbrev pub HasLabel : Writing → List ℕ → Type 0
+HasLabel w l = (label_of w.numbers l).0 < length w.names.labels
+
+-- and so for all peers and labels of a body
+abbrev mutual
+  pub HasNames : Writing → Body → Type 0
+  HasNames w ends = Unit {0}
+  HasNames w (again x) = Unit {0}
+  HasNames w (binds x b) = HasNames w b
+  HasNames w (acts s r l sort b) = HasRole w s × HasLabel w l × HasNames w b
+  HasNames w (offers s r arms) = HasRole w s × HasNamesArms w arms
+
+  pub HasNamesArms : Writing → Branches → Type 0
+  HasNamesArms w (one l sort b) = HasLabel w l × HasNames w b
+  HasNamesArms w (more l sort b arms) = HasLabel w l × HasNames w b × HasNamesArms w arms

@@ -17,7 +17,7 @@ use Rattle.rs_machines.specs.Canonical.{IsMachineTextShaped, name_of_state, IsAc
 use Rattle.rs_machines.specs.Enough.{AreEnoughFor}
 use Rattle.rs_machines.specs.Texts.{machine_text}
 use Rattle.rs_machines.specs.declared.marks.Mark.{Mark}
-use Rattle.rs_machines.proofs.CanonForms.{goes_back, back_is, is_back, seam, or_empty, Writing, role_as, label_as, sort_as, wrapped, canon, canon_arms, Named, NamedArms, fits_named, Low, low_rec, low_up, Ins, ins_rec}
+use Rattle.rs_machines.proofs.CanonForms.{goes_back, back_is, is_back, seam, or_empty, Writing, role_as, label_as, sort_as, wrapped, canon, canon_arms, Named, NamedArms, fits_named, Low, low_rec, low_up, Ins, ins_rec, HasNames, HasNamesArms}
 
 mutual
   pub states_length : (m : Numbering) (b : Body) (bound : Bound) (k : ℕ) → length (states_of m b bound k) ≡ acts_in b
@@ -139,11 +139,50 @@ mutual
       (draws_arms w p arms bound state j (pre ++ states_of w.numbers b bound k) post n enough (e ∙ ap (λ z. pre ++ z) (append_assoc (states_of w.numbers b bound k) (states_of_arms w.numbers arms bound j) post) ∙ sym (append_assoc pre (states_of w.numbers b bound k) (states_of_arms w.numbers arms bound j ++ post)))
       (length-append pre (states_of w.numbers b bound k) ∙ ap (λ z. z + length (states_of w.numbers b bound k)) h ∙ ap (λ z. k + z) (states_length w.numbers b bound k)) (omega arith) (λ place arm i. few (suc place) arm i) (λ x. end (or_end (has_end b) (has_end_arms arms) x)) named.1 low)
 
+-- ---- the names of a tree
+
+mutual
+  has_names : (w : Writing) (p : Machine_data) (b : Body) (bound : Bound) (k : ℕ) (pre post : List State) → AreEnoughFor w.names p → p.states ≡ pre ++ (states_of w.numbers b bound k ++ post) → length pre ≡ k → HasNames w b
+  has_names w p ends bound k pre post enough e h = tt
+  has_names w p (again x) bound k pre post enough e h = tt
+  has_names w p (binds x b) bound k pre post enough e h = has_names w p b ((x, k) ∷ bound) k pre post enough e h
+  has_names w p (acts s r l sort b) bound k pre post enough e h =
+      let a : Arm = arm_of w.numbers l sort (first_state b bound (suc k) w.numbers.last) in
+      let state : State = act_of w.numbers s r (a ∷ []) in
+      let there : slice_get p.states k ≡ Some state = at_seam p.states pre state (states_of w.numbers b bound (suc k) ++ post) k e h in
+      (
+        enough.peers k r (role_of w.numbers s) (a ∷ []) there,
+        enough.labels k 0 r (role_of w.numbers s) (a ∷ []) a there refl,
+        has_names w p b bound (suc k) (pre ++ state ∷ []) post enough (e ∙ sym (append_assoc pre (state ∷ []) (states_of w.numbers b bound (suc k) ++ post))) (one_longer pre state k h),
+      )
+  has_names w p (offers s r arms) bound k pre post enough e h =
+      let ours : List Arm = arms_of w.numbers arms bound (suc k) in
+      let state : State = act_of w.numbers s r ours in
+      let there : slice_get p.states k ≡ Some state = at_seam p.states pre state (states_of_arms w.numbers arms bound (suc k) ++ post) k e h in
+      (
+        enough.peers k r (role_of w.numbers s) ours there,
+        arms_have_names w p arms bound (suc k) (pre ++ state ∷ []) post enough (e ∙ sym (append_assoc pre (state ∷ []) (states_of_arms w.numbers arms bound (suc k) ++ post))) (one_longer pre state k h) (λ place arm. enough.labels k place r (role_of w.numbers s) ours arm there),
+      )
+
+  arms_have_names : (w : Writing) (p : Machine_data) (arms : Branches) (bound : Bound) (k : ℕ) (pre post : List State) → AreEnoughFor w.names p → p.states ≡ pre ++ (states_of_arms w.numbers arms bound k ++ post) → length pre ≡ k → FewLabels w.names (arms_of w.numbers arms bound k) → HasNamesArms w arms
+  arms_have_names w p (one l sort b) bound k pre post enough e h few = (few 0 (arm_of w.numbers l sort (first_state b bound k w.numbers.last)) refl, has_names w p b bound k pre post enough e h)
+  arms_have_names w p (more l sort b arms) bound k pre post enough e h few =
+      let j : ℕ = k + acts_in b in
+      (
+        few 0 (arm_of w.numbers l sort (first_state b bound k w.numbers.last)) refl,
+        has_names w p b bound k pre (states_of_arms w.numbers arms bound j ++ post) enough (e ∙ ap (λ z. pre ++ z) (append_assoc (states_of w.numbers b bound k) (states_of_arms w.numbers arms bound j) post)) h,
+        arms_have_names w p arms bound j (pre ++ states_of w.numbers b bound k) post enough (e ∙ ap (λ z. pre ++ z) (append_assoc (states_of w.numbers b bound k) (states_of_arms w.numbers arms bound j) post) ∙ sym (append_assoc pre (states_of w.numbers b bound k) (states_of_arms w.numbers arms bound j ++ post)))
+        (length-append pre (states_of w.numbers b bound k) ∙ ap (λ z. z + length (states_of w.numbers b bound k)) h ∙ ap (λ z. k + z) (states_length w.numbers b bound k)) (λ place arm i. few (suc place) arm i),
+      )
+
 -- ---- the whole
 
 -- the writing of a tree by other names
 abbrev pub writing_of : Names_data → MachineTree → Names_data → Writing
 writing_of old t names = record { numbers = numbering old t; names = names; states = (machine_of old t).states }
+
+pub tree_has_names : (old : Names_data) (t : MachineTree) (names : Names_data) → AreEnoughFor names (machine_of old t) → HasNames (writing_of old t names) t.body
+tree_has_names old t names enough = has_names (writing_of old t names) (machine_of old t) t.body [] 0 [] (done_of (has_end t.body)) enough refl refl
 
 end_stands : (old : Names_data) (t : MachineTree) → has_end t.body ≡ true → slice_get (machine_of old t).states (acts_in t.body) ≡ Some Done
 end_stands old t h = at_seam (machine_of old t).states (states_of (numbering old t) t.body [] 0) Done [] (acts_in t.body) (rw h refl) (states_length (numbering old t) t.body [] 0)

@@ -23,3 +23,4 @@ pub mod Shapes
 pub mod Acts
 pub mod CanonForms
 pub mod Existence
+pub mod CanonSame
