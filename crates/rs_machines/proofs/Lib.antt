@@ -24,3 +24,13 @@ pub mod Acts
 pub mod CanonForms
 pub mod Existence
 pub mod CanonSame
+pub mod EndsLast
+pub mod CanonOne
+pub mod StateNames
+pub mod EnoughNames
+pub mod PrintedTrees
+pub mod CanonNest
+pub mod CanonNumbers
+pub mod CanonWhole
+pub mod Printed
+pub mod BackFlags

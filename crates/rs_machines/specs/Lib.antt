@@ -15,3 +15,4 @@ pub mod Canonical
 pub mod Writable
 pub mod Enough
 pub mod Shapes
+pub mod Printing
