@@ -178,15 +178,13 @@ mutual
       backs m good b ((x, k) ∷ bound) true k end named (low_rec bound k x low) f
       (λ y v e lt. same_name (bytes_eq x y) k v (bound_to y bound) e (λ same. absurd (omega arith)) (λ g. before y v g lt)) (λ y v e same. refl)
   backs m good (acts s r l sort b) bound here k end named low f before at =
-      let names : NamesGood good bound k = names_behind good bound here k before at (λ h. f k (omega arith) (omega arith) (at_self k here (rec_at b false (suc k) k) ∙ h)) in
-      (
+      let names : NamesGood good bound k = names_behind good bound here k before at (λ h. f k (omega arith) (omega arith) (at_self k here (rec_at b false (suc k) k) ∙ h)) in (
         as_good good k r (role_of m s) (arm_of m l sort (first_state b bound (suc k) m.last) ∷ []) (one_good good k (arm_of m l sort (first_state b bound (suc k) m.last)) (lead_good good b bound k (suc k) m.last named names (omega arith) (omega arith))),
         backs m good b bound false (suc k) (omega arith) named (low_up bound k (suc k) (omega arith) low) (λ v le lt h. f v (omega arith) (omega arith) (at_later v k here (rec_at b false (suc k) v) (omega arith) ∙ h))
-        (λ x v e lt. names x v e (omega arith)) (λ x v e same. let lt : v < k + 1 = low x v e in absurd (omega arith)),
+            (λ x v e lt. names x v e (omega arith)) (λ x v e same. let lt : v < k + 1 = low x v e in absurd (omega arith)),
       )
   backs m good (offers s r arms) bound here k end named low f before at =
-      let names : NamesGood good bound k = names_behind good bound here k before at (λ h. f k (omega arith) (omega arith) (at_self k here (recs_at arms (suc k) k) ∙ h)) in
-      (
+      let names : NamesGood good bound k = names_behind good bound here k before at (λ h. f k (omega arith) (omega arith) (at_self k here (recs_at arms (suc k) k) ∙ h)) in (
         as_good good k r (role_of m s) (arms_of m arms bound (suc k)) (arms_good m good arms bound k (suc k) (omega arith) (omega arith) named names),
         backs_arms m good arms bound k (suc k) (omega arith) (omega arith) named low (λ v le lt h. f v (omega arith) (omega arith) (at_later v k here (recs_at arms (suc k) v) (omega arith) ∙ h)) names,
       )

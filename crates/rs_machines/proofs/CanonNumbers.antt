@@ -49,9 +49,9 @@ place_at_from [] n i x d e = absurd (cc e)
 place_at_from (y ∷ names) n zero x d e = let same : n ≡ n + 0 = omega arith in rw (subst (λ (z : List ℕ). bytes_eq y z ≡ true) (some_text y x e) (bytes_same y)) (ap Some same)
 place_at_from (y ∷ names) n (suc i) x d e = elim (true_or_false (bytes_eq y x)) [
   | inl h ↦ (
-    let there : is_among x names ≡ true = at_among names i x e in
-    let here : is_among y names ≡ true = subst (λ (z : List ℕ). is_among z names ≡ true) (sym ((bytes_eq-Decides y x).0 h)) there in
-    absurd (cc (here, (differ_rest (is_among y names) (differ names) d).0)))
+      let there : is_among x names ≡ true = at_among names i x e in
+      let here : is_among y names ≡ true = subst (λ (z : List ℕ). is_among z names ≡ true) (sym ((bytes_eq-Decides y x).0 h)) there in
+      absurd (cc (here, (differ_rest (is_among y names) (differ names) d).0)))
   | inr h ↦ (let same : suc n + i ≡ n + suc i = omega arith in rw h (place_at_from names (suc n) i x (differ_rest (is_among y names) (differ names) d).1 e ∙ ap Some same))
 ]
 

@@ -230,9 +230,9 @@ mutual
       let i : Same w m b c bound inner (suc k) = same w m b bound inner (suc k) s (omega arith) h (inv_act (goes_back w.states) bound named k back (omega arith) refl inv) (low_up bound k (suc k) (omega arith) low) has.2 in
       record {
         states = wrapped_states m back k (acts (role_as w x) y (label_as w l) (sort_as sort) c) named
-        ∙ put (act_of m (role_as w x) y (arm_of m (label_as w l) (sort_as sort) (first_state c inner (suc k) m.last) ∷ [])) (act_of w.numbers x y (arm_of w.numbers l sort (first_state b bound (suc k) w.numbers.last) ∷ [])) (states_of m c inner (suc k)) (states_of w.numbers b bound (suc k))
-        (act_same w m x y (arm_of w.numbers l sort (first_state b bound (suc k) w.numbers.last) ∷ []) (arm_of m (label_as w l) (sort_as sort) (first_state c inner (suc k) m.last) ∷ []) s has.0
-        (ap (λ z. z ∷ []) (arm_same w m l sort (first_state b bound (suc k) w.numbers.last) (first_state c inner (suc k) m.last) s has.1 i.first))) i.states;
+            ∙ put (act_of m (role_as w x) y (arm_of m (label_as w l) (sort_as sort) (first_state c inner (suc k) m.last) ∷ [])) (act_of w.numbers x y (arm_of w.numbers l sort (first_state b bound (suc k) w.numbers.last) ∷ [])) (states_of m c inner (suc k)) (states_of w.numbers b bound (suc k))
+            (act_same w m x y (arm_of w.numbers l sort (first_state b bound (suc k) w.numbers.last) ∷ []) (arm_of m (label_as w l) (sort_as sort) (first_state c inner (suc k) m.last) ∷ []) s has.0
+            (ap (λ z. z ∷ []) (arm_same w m l sort (first_state b bound (suc k) w.numbers.last) (first_state c inner (suc k) m.last) s has.1 i.first))) i.states;
         first = wrapped_first m.last back k (acts (role_as w x) y (label_as w l) (sort_as sort) c) named;
       }
   same w m (offers x y arms) bound named k s few h inv low has =
@@ -243,8 +243,8 @@ mutual
       let i : SameArms w m arms c bound inner (suc k) = same_arms w m arms bound inner (suc k) s (omega arith) h (inv_all (goes_back w.states) bound inner k low now) (low_up bound k (suc k) (omega arith) low) has.1 in
       record {
         states = wrapped_states m back k (offered (role_as w x) y c) named ∙ offered_states m (role_as w x) y c inner k
-        ∙ put (act_of m (role_as w x) y (arms_of m c inner (suc k))) (act_of w.numbers x y (arms_of w.numbers arms bound (suc k))) (states_of_arms m c inner (suc k)) (states_of_arms w.numbers arms bound (suc k))
-        (act_same w m x y (arms_of w.numbers arms bound (suc k)) (arms_of m c inner (suc k)) s has.0 i.arms) i.states;
+            ∙ put (act_of m (role_as w x) y (arms_of m c inner (suc k))) (act_of w.numbers x y (arms_of w.numbers arms bound (suc k))) (states_of_arms m c inner (suc k)) (states_of_arms w.numbers arms bound (suc k))
+            (act_same w m x y (arms_of w.numbers arms bound (suc k)) (arms_of m c inner (suc k)) s has.0 i.arms) i.states;
         first = wrapped_first m.last back k (offered (role_as w x) y c) named ∙ offered_first m.last (role_as w x) y c inner k;
       }
 
@@ -262,7 +262,7 @@ mutual
       let step : k + acts_in c ≡ j = ap (λ z. k + z) (canon_acts w b bound k) in
       record {
         arms = put_arm (arm_of m (label_as w l) (sort_as sort) (first_state c named k m.last)) (arm_of w.numbers l sort (first_state b bound k w.numbers.last)) (arms_of m d named (k + acts_in c)) (arms_of w.numbers arms bound j)
-        (arm_same w m l sort (first_state b bound k w.numbers.last) (first_state c named k m.last) s has.0 i.first) (ap (λ z. arms_of m d named z) step ∙ o.arms);
+            (arm_same w m l sort (first_state b bound k w.numbers.last) (first_state c named k m.last) s has.0 i.first) (ap (λ z. arms_of m d named z) step ∙ o.arms);
         states = ap (λ z. z ++ states_of_arms m d named (k + acts_in c)) i.states ∙ ap (λ z. states_of w.numbers b bound k ++ states_of_arms m d named z) step ∙ ap (λ z. states_of w.numbers b bound k ++ z) o.states;
       }
 
@@ -294,10 +294,9 @@ mutual
   fine_arms m p (one l sort b) bound n k pre post e h le named low back =
       fine m p b bound (suc n) k pre post e h named (low_up bound n k (omega arith) low) (λ x j i lt. let a : j < n + 1 = low x j i in omega arith) (λ lt. back 0 (arm_of m l sort (first_state b bound k m.last)) refl lt)
   fine_arms m p (more l sort b arms) bound n k pre post e h le named low back =
-      let j : ℕ = k + acts_in b in
-      (
+      let j : ℕ = k + acts_in b in (
         fine m p b bound (suc n) k pre (states_of_arms m arms bound j ++ post) (e ∙ ap (λ z. pre ++ z) (append_assoc (states_of m b bound k) (states_of_arms m arms bound j) post)) h named.0 (low_up bound n k (omega arith) low) (λ x q i lt. let a : q < n + 1 = low x q i in omega arith)
-        (λ lt. back 0 (arm_of m l sort (first_state b bound k m.last)) refl lt),
+            (λ lt. back 0 (arm_of m l sort (first_state b bound k m.last)) refl lt),
         fine_arms m p arms bound n j (pre ++ states_of m b bound k) post (e ∙ ap (λ z. pre ++ z) (append_assoc (states_of m b bound k) (states_of_arms m arms bound j) post) ∙ sym (append_assoc pre (states_of m b bound k) (states_of_arms m arms bound j ++ post)))
-        (length-append pre (states_of m b bound k) ∙ ap (λ z. z + length (states_of m b bound k)) h ∙ ap (λ z. k + z) (states_length m b bound k)) (omega arith) named.1 low (λ place arm stands lt. back (suc place) arm stands lt),
+            (length-append pre (states_of m b bound k) ∙ ap (λ z. z + length (states_of m b bound k)) h ∙ ap (λ z. k + z) (states_length m b bound k)) (omega arith) named.1 low (λ place arm stands lt. back (suc place) arm stands lt),
       )

@@ -149,8 +149,7 @@ mutual
   has_names w p (acts s r l sort b) bound k pre post enough e h =
       let a : Arm = arm_of w.numbers l sort (first_state b bound (suc k) w.numbers.last) in
       let state : State = act_of w.numbers s r (a ∷ []) in
-      let there : slice_get p.states k ≡ Some state = at_seam p.states pre state (states_of w.numbers b bound (suc k) ++ post) k e h in
-      (
+      let there : slice_get p.states k ≡ Some state = at_seam p.states pre state (states_of w.numbers b bound (suc k) ++ post) k e h in (
         enough.peers k r (role_of w.numbers s) (a ∷ []) there,
         enough.labels k 0 r (role_of w.numbers s) (a ∷ []) a there refl,
         has_names w p b bound (suc k) (pre ++ state ∷ []) post enough (e ∙ sym (append_assoc pre (state ∷ []) (states_of w.numbers b bound (suc k) ++ post))) (one_longer pre state k h),
@@ -158,8 +157,7 @@ mutual
   has_names w p (offers s r arms) bound k pre post enough e h =
       let ours : List Arm = arms_of w.numbers arms bound (suc k) in
       let state : State = act_of w.numbers s r ours in
-      let there : slice_get p.states k ≡ Some state = at_seam p.states pre state (states_of_arms w.numbers arms bound (suc k) ++ post) k e h in
-      (
+      let there : slice_get p.states k ≡ Some state = at_seam p.states pre state (states_of_arms w.numbers arms bound (suc k) ++ post) k e h in (
         enough.peers k r (role_of w.numbers s) ours there,
         arms_have_names w p arms bound (suc k) (pre ++ state ∷ []) post enough (e ∙ sym (append_assoc pre (state ∷ []) (states_of_arms w.numbers arms bound (suc k) ++ post))) (one_longer pre state k h) (λ place arm. enough.labels k place r (role_of w.numbers s) ours arm there),
       )
@@ -167,12 +165,11 @@ mutual
   arms_have_names : (w : Writing) (p : Machine_data) (arms : Branches) (bound : Bound) (k : ℕ) (pre post : List State) → AreEnoughFor w.names p → p.states ≡ pre ++ (states_of_arms w.numbers arms bound k ++ post) → length pre ≡ k → FewLabels w.names (arms_of w.numbers arms bound k) → HasNamesArms w arms
   arms_have_names w p (one l sort b) bound k pre post enough e h few = (few 0 (arm_of w.numbers l sort (first_state b bound k w.numbers.last)) refl, has_names w p b bound k pre post enough e h)
   arms_have_names w p (more l sort b arms) bound k pre post enough e h few =
-      let j : ℕ = k + acts_in b in
-      (
+      let j : ℕ = k + acts_in b in (
         few 0 (arm_of w.numbers l sort (first_state b bound k w.numbers.last)) refl,
         has_names w p b bound k pre (states_of_arms w.numbers arms bound j ++ post) enough (e ∙ ap (λ z. pre ++ z) (append_assoc (states_of w.numbers b bound k) (states_of_arms w.numbers arms bound j) post)) h,
         arms_have_names w p arms bound j (pre ++ states_of w.numbers b bound k) post enough (e ∙ ap (λ z. pre ++ z) (append_assoc (states_of w.numbers b bound k) (states_of_arms w.numbers arms bound j) post) ∙ sym (append_assoc pre (states_of w.numbers b bound k) (states_of_arms w.numbers arms bound j ++ post)))
-        (length-append pre (states_of w.numbers b bound k) ∙ ap (λ z. z + length (states_of w.numbers b bound k)) h ∙ ap (λ z. k + z) (states_length w.numbers b bound k)) (λ place arm i. few (suc place) arm i),
+            (length-append pre (states_of w.numbers b bound k) ∙ ap (λ z. z + length (states_of w.numbers b bound k)) h ∙ ap (λ z. k + z) (states_length w.numbers b bound k)) (λ place arm i. few (suc place) arm i),
       )
 
 -- ---- the whole

@@ -9,6 +9,8 @@ mod machines;
 mod marks;
 mod printing;
 pub mod printing_laws;
+#[cfg(test)]
+mod printing_tests;
 mod reading;
 pub mod spelling_laws;
 mod tables;

@@ -198,13 +198,7 @@ impl<'a> Printer<'a> {
         }
     }
 
-    fn act(
-        &mut self,
-        state: u32,
-        mark: Mark,
-        peer: Role,
-        arms: &'a [Arm],
-    ) -> Result<(), NoMemory>
+    fn act(&mut self, state: u32, mark: Mark, peer: Role, arms: &'a [Arm]) -> Result<(), NoMemory>
         ensures { OnOk result (self.new ≡ spec.printed (act_step self.old.names (get_or self.old.flags state false) state mark peer arms.now) self.old) }
     {
         let back = is_back(self.flags.as_slice(), state as usize);
@@ -326,7 +320,11 @@ pub fn print_machine(alloc: Global, names: &Names, machine: &Machine) -> Result<
 {
     let mut text = Text::new(alloc);
     text.push(b"machine ")?;
-    push_name(&mut text, names.roles.as_slice(), usize::from(machine.role.0))?;
+    push_name(
+        &mut text,
+        names.roles.as_slice(),
+        usize::from(machine.role.0),
+    )?;
     text.push(b": ")?;
     let mut text = body(alloc, names, machine, text)?;
     text.push(b"\n")?;
