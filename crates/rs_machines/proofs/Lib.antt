@@ -21,3 +21,17 @@ pub mod Examples
 pub mod TreeLabels
 pub mod Shapes
 pub mod NamedStates
+pub mod Acts
+pub mod CanonForms
+pub mod Existence
+pub mod CanonSame
+pub mod EndsLast
+pub mod CanonOne
+pub mod StateNames
+pub mod EnoughNames
+pub mod PrintedTrees
+pub mod CanonNest
+pub mod CanonNumbers
+pub mod CanonWhole
+pub mod Printed
+pub mod BackFlags

@@ -22,25 +22,25 @@ use Rattle.rs_machines.specs.Spells.{is_guarded, has_room_for, body_fits, arms_f
 use Rattle.rs_machines.specs.Trees.{Body, ends, again, binds, acts, offers, Branches, one, more, MachineTree}
 
 -- each arm leads to one of so many states
-abbrev NextsGood : ℕ → List Arm → Type 0
+abbrev pub NextsGood : ℕ → List Arm → Type 0
 NextsGood total [] = Unit {0}
 NextsGood total (a ∷ arms) = (a.next < total) × NextsGood total arms
 
-abbrev SomeArms : List Arm → Type 0
+abbrev pub SomeArms : List Arm → Type 0
 SomeArms [] = ⊥
 SomeArms (a ∷ arms) = Unit {0}
 
-record ChoiceGood (roles total : ℕ) (peer : Role) (arms : List Arm) : Type 0 where
-  known : peer.0 < roles
-  some : SomeArms arms
-  nexts : NextsGood total arms
+pub record ChoiceGood (roles total : ℕ) (peer : Role) (arms : List Arm) : Type 0 where
+  pub known : peer.0 < roles
+  pub some : SomeArms arms
+  pub nexts : NextsGood total arms
 
-abbrev StateGood : ℕ → ℕ → State → Type 0
+abbrev pub StateGood : ℕ → ℕ → State → Type 0
 StateGood roles total state.Done = Unit {0}
 StateGood roles total (state.Puts peer arms) = ChoiceGood roles total peer arms
 StateGood roles total (state.Takes peer arms) = ChoiceGood roles total peer arms
 
-abbrev StatesGood : ℕ → ℕ → List State → Type 0
+abbrev pub StatesGood : ℕ → ℕ → List State → Type 0
 StatesGood roles total [] = Unit {0}
 StatesGood roles total (s ∷ states) = StateGood roles total s × StatesGood roles total states
 
@@ -155,10 +155,10 @@ mutual
 
 -- ---- machines
 
-record Good (machine : Machine_data) (roles : ℕ) : Type 0 where
-  role : machine.role.0 < roles
-  start : machine.start < length machine.states
-  states : StatesGood roles (length machine.states) machine.states
+pub record Good (machine : Machine_data) (roles : ℕ) : Type 0 where
+  pub role : machine.role.0 < roles
+  pub start : machine.start < length machine.states
+  pub states : StatesGood roles (length machine.states) machine.states
 
 done_good : (c : Bool) (roles total : ℕ) → StatesGood roles total (done_of c)
 done_good true roles total = (tt, tt)
@@ -168,7 +168,7 @@ done_more : (c : Bool) (last : ℕ) → c ≡ true → last < last + length (don
 done_more true last h = omega arith
 done_more false last h = absurd (cc h)
 
-tree_good : (old : Names_data) (t : MachineTree) → Fits old t → Good (machine_of old t) (length old.roles)
+pub tree_good : (old : Names_data) (t : MachineTree) → Fits old t → Good (machine_of old t) (length old.roles)
 tree_good old t fits =
     let m : Numbering = numbering old t in
     let acts : List State = states_of m t.body [] 0 in
@@ -185,6 +185,10 @@ tree_good old t fits =
 choice_at : (m : Machine_data) (roles s : ℕ) (peer : Role) (arms : List Arm) → Good m roles → Chooses m s peer arms → ChoiceGood roles (length m.states) peer arms
 choice_at m roles s peer arms g (inl e) = good_at m.states s (state.Puts peer arms) roles (length m.states) g.states e
 choice_at m roles s peer arms g (inr e) = good_at m.states s (state.Takes peer arms) roles (length m.states) g.states e
+
+pub peer_known : (m : Machine_data) (roles n : ℕ) (y : Mark) (peer : Role) (arms : List Arm) → Good m roles → slice_get m.states n ≡ Some (state_of y peer arms) → peer.0 < roles
+peer_known m roles n mark.Puts peer arms g e = (good_at m.states n (state.Puts peer arms) roles (length m.states) g.states e).known
+peer_known m roles n mark.Takes peer arms g e = (good_at m.states n (state.Takes peer arms) roles (length m.states) g.states e).known
 
 no_way_out : (m : Machine_data) (roles s : ℕ) → Good m roles → LeadsOut m s → ⊥
 no_way_out m roles s g l =

@@ -11,3 +11,9 @@ pub mod Tables
 pub mod Examples
 pub mod MachineFaults
 pub mod Named
+pub mod Texts
+pub mod Canonical
+pub mod Writable
+pub mod Enough
+pub mod Shapes
+pub mod Printing

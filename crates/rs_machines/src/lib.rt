@@ -1,11 +1,16 @@
-//! The reader of machines, and the tables that machines are printed as.
+//! The reader and the printer of machines, and the tables that machines are printed as.
 #![tactic(auto)]
 
+pub mod canonical_laws;
 mod drafts;
 pub mod fault_laws;
 pub mod laws;
 mod machines;
 mod marks;
+mod printing;
+pub mod printing_laws;
+#[cfg(test)]
+mod printing_tests;
 mod reading;
 pub mod spelling_laws;
 mod tables;
@@ -13,4 +18,5 @@ mod tables;
 mod tests;
 
 pub use machines::read_machine;
+pub use printing::print_machine;
 pub use tables::print_table;

@@ -1,5 +1,7 @@
 ghost use Rattle.std.specs.Prelude.{◌≡◌, ◌++◌, codes, IfOk, OnOk};
 ghost use Rattle.std.specs.List.{flat_map};
+ghost use Rattle.rs_machines.specs.Canonical.{shown_sort};
+ghost use Rattle.rs_machines.specs.Texts.{shown_text};
 ghost use Rattle.rs_machines.specs.Tables.{name_at, sort_in_table, arm_in_table, later_arm_in_table, arms_in_table, choice_in_table, state_in_table, row, rows_from, table_of};
 
 use rs_model::{Arm, Machine, Name, Names, NoMemory, Role, Sort, State};
@@ -105,8 +107,9 @@ fn push_arm(text: &mut Text, names: &Names, arm: &Arm) -> Result<(), NoMemory>
 }
 
 /// The name of a sort; the unit is written as nothing.
-fn sort_name(sort: Sort) -> &'static str
-    ensures { result.now ≡ sort_in_table sort }
+pub(crate) fn sort_name(sort: Sort) -> &'static str
+    ensures table { result.now ≡ sort_in_table sort }
+    ensures arm { result.now ≡ shown_text (shown_sort sort) }
 {
     match sort {
         Sort::Unit => "",
@@ -119,7 +122,7 @@ fn sort_name(sort: Sort) -> &'static str
 }
 
 /// The name at a place, where there is one.
-fn push_name(text: &mut Text, names: &[Name], place: usize) -> Result<(), NoMemory>
+pub(crate) fn push_name(text: &mut Text, names: &[Name], place: usize) -> Result<(), NoMemory>
     ensures { OnOk result (text.new ≡ text.old ++ name_at names.now place) }
 {
     match names.get(place) {

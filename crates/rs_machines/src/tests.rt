@@ -223,7 +223,8 @@ fn keeps_limits(rt: HostRuntime) -> Result<(), Fail> {
     Ok(())
 }
 
-fn three_roles(alloc: Global) -> Result<Names, NoMemory> {
+/// The roles K, S and T and the labels ready, copy and stop.
+pub(crate) fn three_roles(alloc: Global) -> Result<Names, NoMemory> {
     let mut names = Names {
         roles: Vec::new(alloc),
         labels: Vec::new(alloc),

@@ -1,0 +1,210 @@
+-- The canonical form of a body, which acts are gone back to, and where names lead.
+use Rattle.std.proofs.Common.{◌≡◌, ℕ, zero, suc, ◌+◌, ◌-◌, ◌<◌, ◌≤◌, List, [], ◌∷◌, ◌++◌, length, drop, Bool, true, false, ◌==◌, ◌&&◌, if◌then◌else◌, Option, Some, None, inl, inr, refl, sym, ap, ◌∙◌, arith, slice_get}
+use Rattle.std.proofs.lemmas.Bool.{eq-eqb, eqb-true}
+use Rattle.std.specs.List.{list_any}
+use Rattle.std.specs.Str.{bytes_eq}
+use Rattle.rs_model.specs.Data.{Machine_data, Names_data}
+use Rattle.rs_model.specs.declared.graph.Arm.{Arm}
+use Rattle.rs_model.specs.declared.machines.State.{State}
+use Rattle.rs_model.specs.declared.machines.State.TheVariants.{Done, Puts, Takes}
+use Rattle.rs_model.specs.declared.graph.Role.{Role}
+use Rattle.rs_machines.specs.declared.marks.Mark.{Mark}
+use Rattle.rs_machines.specs.declared.marks.Mark.TheVariants as mark
+use Rattle.rs_model.specs.declared.values.Sort.{Sort}
+use Rattle.rs_text.proofs.Gaps.{true_or_false}
+use Rattle.rs_text.specs.Arms.{sort_or_unit}
+use Rattle.rs_text.specs.Names.{Bound, bound_to, number_or}
+use Rattle.rs_machines.specs.Trees.{Body, ends, again, binds, acts, offers, Branches, one, more}
+use Rattle.rs_machines.specs.Machines.{acts_in, state_of, Numbering, role_of, label_of}
+use Rattle.rs_machines.specs.Scenes.{Scene, with_label, in_act, in_braces, in_rec, behind}
+use Rattle.rs_machines.specs.Spells.{is_guarded, body_fits, arms_fit}
+use Rattle.rs_machines.specs.Canonical.{name_of_state, shown_sort, IsGoneBackTo}
+use Rattle.rs_machines.specs.Shapes.{leads_to, act_leads, leads_from}
+
+-- ---- what stands in a list
+
+pub any_stands : (A : Type 0) (test : A → Bool) (xs : List A) → list_any test xs ≡ true → (i : ℕ) × (x : A) × (slice_get xs i ≡ Some x) × (test x ≡ true)
+any_stands A test [] h = absurd (cc h)
+any_stands A test (x ∷ xs) h = elim (true_or_false (test x)) [
+  | inl e ↦ (0, x, refl, e)
+  | inr e ↦
+      let rest = any_stands A test xs (rw e at h) in
+      (suc rest.0, rest.1, rest.2, rest.3)
+]
+
+some_is : (A : Type 0) (x y : A) → Some x ≡ Some y → x ≡ y
+some_is A x y h = cc
+
+or_true : (a b : Bool) → b ≡ true → (if a then true else b) ≡ true
+or_true true b h = refl
+or_true false b h = h
+
+pub stands_any : (A : Type 0) (test : A → Bool) (xs : List A) (i : ℕ) (x : A) → slice_get xs i ≡ Some x → test x ≡ true → list_any test xs ≡ true
+stands_any A test [] i x e h = absurd (cc e)
+stands_any A test (y ∷ xs) zero x e h = rw (ap test (some_is A y x e) ∙ h) refl
+stands_any A test (y ∷ xs) (suc i) x e h = elim (true_or_false (test y)) [
+  | inl k ↦ rw k refl
+  | inr k ↦ rw k (stands_any A test xs i x e h)
+]
+
+pub drop_get : (A : Type 0) (k : ℕ) (xs : List A) (i : ℕ) → slice_get (drop k xs) i ≡ slice_get xs (k + i)
+drop_get A zero xs i = let e : i ≡ 0 + i = omega arith in ap (λ z. slice_get xs z) e
+drop_get A (suc k) [] i = refl
+drop_get A (suc k) (x ∷ xs) i = let e : suc (k + i) ≡ suc k + i = omega arith in drop_get A k xs i ∙ ap (λ z. slice_get (x ∷ xs) z) e
+
+pub seam : (A : Type 0) (pre : List A) (x : A) (post : List A) → slice_get (pre ++ x ∷ post) (length pre) ≡ Some x
+seam A [] x post = refl
+seam A (y ∷ pre) x post = seam A pre x post
+
+-- ---- going back
+
+-- whether an arm of the act k or a later one leads to k
+abbrev pub goes_back : List State → ℕ → Bool
+goes_back states k = leads_from states k k
+
+act_back : (p : Machine_data) (n i : ℕ) (state : State) → n ≤ i → slice_get p.states i ≡ Some state → act_leads n state ≡ true → IsGoneBackTo p n
+act_back p n i Done le e h = absurd (cc h)
+act_back p n i (Puts s arms) le e h =
+    let f = any_stands Arm (leads_to n) arms h in
+    record { state = i; behind = le; mark = mark.Puts; peer = s; arms = arms; acts = e; place = f.0; arm = f.1; stands = f.2; leads = eqb-true f.1.next n f.3 }
+act_back p n i (Takes s arms) le e h =
+    let f = any_stands Arm (leads_to n) arms h in
+    record { state = i; behind = le; mark = mark.Takes; peer = s; arms = arms; acts = e; place = f.0; arm = f.1; stands = f.2; leads = eqb-true f.1.next n f.3 }
+
+leads_as : (n : ℕ) (m : Mark) (p : Role) (arms : List Arm) → act_leads n (state_of m p arms) ≡ list_any (leads_to n) arms
+leads_as n mark.Puts p arms = refl
+leads_as n mark.Takes p arms = refl
+
+pub back_is : (p : Machine_data) (n : ℕ) → goes_back p.states n ≡ true → IsGoneBackTo p n
+back_is p n h =
+    let f = any_stands State (act_leads n) (drop n p.states) h in
+    act_back p n (n + f.0) f.1 (omega arith) (sym (drop_get State n p.states f.0) ∙ f.2) f.3
+
+pub is_back : (p : Machine_data) (n : ℕ) → IsGoneBackTo p n → goes_back p.states n ≡ true
+is_back p n b =
+    let le : n ≤ b.state = b.behind in
+    let there : n + (b.state - n) ≡ b.state = omega arith in
+    stands_any State (act_leads n) (drop n p.states) (b.state - n) (state_of b.mark b.peer b.arms) (drop_get State n p.states (b.state - n) ∙ ap (λ z. slice_get p.states z) there ∙ b.acts)
+    (leads_as n b.mark b.peer b.arms ∙ stands_any Arm (leads_to n) b.arms b.place b.arm b.stands (eq-eqb b.arm.next n b.leads))
+
+-- ---- the canonical form
+
+abbrev pub or_empty : Option (List ℕ) → List ℕ
+or_empty None = []
+or_empty (Some name) = name
+
+-- how a text's names are numbered, the names that are written instead, and the states of its graph
+pub record Writing : Type 0 where
+  pub numbers : Numbering
+  pub names : Names_data
+  pub states : List State
+
+abbrev pub role_as : Writing → List ℕ → List ℕ
+role_as w name = or_empty (slice_get w.names.roles (role_of w.numbers name).0)
+
+abbrev pub label_as : Writing → List ℕ → List ℕ
+label_as w name = or_empty (slice_get w.names.labels (label_of w.numbers name).0)
+
+abbrev pub sort_as : Option Sort → Option Sort
+sort_as sort = shown_sort (sort_or_unit sort)
+
+-- rec Xk where an arm goes back to k
+abbrev pub wrapped : Bool → ℕ → Body → Body
+wrapped true k b = binds (name_of_state k) b
+wrapped false k b = b
+
+-- one arm by a colon, more by braces
+abbrev pub offered : (s : List ℕ) (r : Mark) → Branches → Body
+offered s r (one l sort b) = acts s r l sort b
+offered s r (more l sort b arms) = offers s r (more l sort b arms)
+
+-- the canonical form of a body
+abbrev mutual
+  pub canon : Writing → Body → Bound → ℕ → Body
+  canon w ends bound count = ends
+  canon w (again x) bound count = again (name_of_state (number_or (bound_to x bound)))
+  canon w (binds x b) bound count = canon w b ((x, count) ∷ bound) count
+  canon w (acts s r l sort b) bound count = wrapped (goes_back w.states count) count (acts (role_as w s) r (label_as w l) (sort_as sort) (canon w b bound (suc count)))
+  canon w (offers s r arms) bound count = wrapped (goes_back w.states count) count (offered (role_as w s) r (canon_arms w arms bound (suc count)))
+
+  pub canon_arms : Writing → Branches → Bound → ℕ → Branches
+  canon_arms w (one l sort b) bound count = one (label_as w l) (sort_as sort) (canon w b bound count)
+  canon_arms w (more l sort b arms) bound count = more (label_as w l) (sort_as sort) (canon w b bound count) (canon_arms w arms bound (count + acts_in b))
+
+-- ---- where names lead
+
+-- names are bound and guarded
+abbrev mutual
+  pub Named : Body → Bound → ℕ → Type 0
+  Named ends bound count = Unit {0}
+  Named (again x) bound count = is_guarded (bound_to x bound) count ≡ true
+  Named (binds x b) bound count = Named b ((x, count) ∷ bound) count
+  Named (acts s r l sort b) bound count = Named b bound (suc count)
+  Named (offers s r arms) bound count = NamedArms arms bound (suc count)
+
+  pub NamedArms : Branches → Bound → ℕ → Type 0
+  NamedArms (one l sort b) bound count = Named b bound count
+  NamedArms (more l sort b arms) bound count = Named b bound count × NamedArms arms bound (count + acts_in b)
+
+pub both : (a b : Bool) → (a && b) ≡ true → (a ≡ true) × (b ≡ true)
+both true b h = (refl, h)
+both false b h = absurd (cc h)
+
+mutual
+  pub fits_named : (b : Body) (s : Scene) → body_fits b s ≡ true → Named b s.bound s.acts
+  fits_named ends s h = tt
+  fits_named (again x) s h = h
+  fits_named (binds x b) s h = fits_named b (in_rec x s) (both _ _ h).1
+  fits_named (acts x y l sort b) s h = fits_named b (with_label l (in_act s)) (both _ _ h).1
+  fits_named (offers x y arms) s h = fits_named_arms arms (in_braces s) (both _ _ h).1
+
+  fits_named_arms : (arms : Branches) (s : Scene) → arms_fit arms s ≡ true → NamedArms arms s.bound s.acts
+  fits_named_arms (one l sort b) s h = fits_named b (with_label l s) (both _ _ h).1
+  fits_named_arms (more l sort b arms) s h = (fits_named b (with_label l s) (both _ _ (both _ _ h).0).1, fits_named_arms arms (behind b (with_label l s)) (both _ _ h).1)
+
+-- no name leads behind k
+abbrev pub Low : Bound → ℕ → Type 0
+Low bound k = (x : List ℕ) (m : ℕ) → bound_to x bound ≡ Some m → m < k + 1
+
+low_pick : (c : Bool) (k : ℕ) (found : Option ℕ) (m : ℕ) → (if c then Some k else found) ≡ Some m → (found ≡ Some m → m < k + 1) → m < k + 1
+low_pick true k found m e f = let same : k ≡ m = some_is ℕ k m e in omega arith
+low_pick false k found m e f = f e
+
+pub low_rec : (bound : Bound) (k : ℕ) (x : List ℕ) → Low bound k → Low ((x, k) ∷ bound) k
+low_rec bound k x low y m e = low_pick (bytes_eq x y) k (bound_to y bound) m e (λ h. low y m h)
+
+pub low_up : (bound : Bound) (k j : ℕ) → k < j + 1 → Low bound k → Low bound j
+low_up bound k j lt low x m e = let a : m < k + 1 = low x m e in omega arith
+
+-- a name that leads before k leads to a act round the place
+abbrev pub Ins : Bound → (from k : ℕ) → Type 0
+Ins bound from k = (x : List ℕ) (m : ℕ) → bound_to x bound ≡ Some m → m < k → m < from
+
+ins_pick : (c : Bool) (k from : ℕ) (found : Option ℕ) (m : ℕ) → m < k → (if c then Some k else found) ≡ Some m → (found ≡ Some m → m < from) → m < from
+ins_pick true k from found m lt e f = let same : k ≡ m = some_is ℕ k m e in absurd (omega arith)
+ins_pick false k from found m lt e f = f e
+
+pub ins_rec : (bound : Bound) (from k : ℕ) (x : List ℕ) → Ins bound from k → Ins ((x, k) ∷ bound) from k
+ins_rec bound from k x ins y m e lt = ins_pick (bytes_eq x y) k from (bound_to y bound) m lt e (λ h. ins y m h lt)
+
+-- ---- names that can be written
+
+-- the number of a peer, or of a label, has a name
+abbrev pub HasRole : Writing → List ℕ → Type 0
+HasRole w s = (role_of w.numbers s).0 < length w.names.roles
+
+abbrev pub HasLabel : Writing → List ℕ → Type 0
+HasLabel w l = (label_of w.numbers l).0 < length w.names.labels
+
+-- and so for all peers and labels of a body
+abbrev mutual
+  pub HasNames : Writing → Body → Type 0
+  HasNames w ends = Unit {0}
+  HasNames w (again x) = Unit {0}
+  HasNames w (binds x b) = HasNames w b
+  HasNames w (acts s r l sort b) = HasRole w s × HasLabel w l × HasNames w b
+  HasNames w (offers s r arms) = HasRole w s × HasNamesArms w arms
+
+  pub HasNamesArms : Writing → Branches → Type 0
+  HasNamesArms w (one l sort b) = HasLabel w l × HasNames w b
+  HasNamesArms w (more l sort b arms) = HasLabel w l × HasNames w b × HasNamesArms w arms

@@ -1,0 +1,5 @@
+use Rattle.rs_machines.proofs.CanonOne as proof
+use Rattle.rs_machines.proofs.canonical_laws.canonical_text_is_one.Goals as goal
+
+pub returns : goal.returns
+returns c = proof.canonical_text_is_one

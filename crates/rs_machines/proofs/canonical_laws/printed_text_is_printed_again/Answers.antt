@@ -1,0 +1,5 @@
+use Rattle.rs_machines.proofs.CanonWhole as proof
+use Rattle.rs_machines.proofs.canonical_laws.printed_text_is_printed_again.Goals as goal
+
+pub returns : goal.returns
+returns c = proof.printed_text_is_printed_again

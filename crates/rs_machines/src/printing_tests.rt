@@ -1,0 +1,89 @@
+use crate::tests::three_roles;
+use crate::{print_machine, read_machine};
+use rs_model::NoMemory;
+use rs_text::Text;
+use std::alloc::Global;
+use std::test::Fail;
+
+/// The canonical text of what a text spells, or nothing.
+#[tactic(auto, using(crate::proofs::EnoughNames::spelt_enough, crate::proofs::EnoughNames::spelt_shaped))]
+fn printed(alloc: Global, bytes: &[u8]) -> Result<Text, NoMemory> {
+    let mut names = three_roles(alloc)?;
+    if rs_text::sound(&names) && names.roles.len() <= 16 && names.labels.len() <= 256 {
+        return match read_machine(alloc, bytes, 0, &mut names) {
+            Ok((machine, _until)) => print_machine(alloc, &names, &machine),
+            Err(_fault) => Ok(Text::new(alloc)),
+        };
+    }
+    Ok(Text::new(alloc))
+}
+
+#[test]
+fn prints(rt: HostRuntime) -> Result<(), Fail> {
+    let cases = [
+        (
+            b"machine K: S!ready(). rec X1. S!ready(). T?ready(). S?{copy(bytes). T!copy(bytes). X1, stop(). T!stop(). end}\n".as_slice(),
+            "machine K: S!ready(). rec X1. S!ready(). T?ready(). S?{copy(bytes). T!copy(bytes). X1, stop(). T!stop(). end}\n",
+        ),
+        (
+            b"machine K:S!ready().rec Loop.S!ready().T?ready().S?{copy(bytes).T!copy(bytes).Loop,stop().T!stop().end} # K",
+            "machine K: S!ready(). rec X1. S!ready(). T?ready(). S?{copy(bytes). T!copy(bytes). X1, stop(). T!stop(). end}\n",
+        ),
+        (b"machine T: end", "machine T: end\n"),
+        (
+            b"machine T: rec X. K!{more(unit). X}",
+            "machine T: rec X0. K!more(). X0\n",
+        ),
+        (
+            b"machine T: rec X. K?ready(). rec Y. end",
+            "machine T: K?ready(). end\n",
+        ),
+        (
+            b"machine S: rec X. rec Y. K?{copy(). X, stop(nat). Y}",
+            "machine S: rec X0. K?{copy(). X0, stop(nat). X0}\n",
+        ),
+        (
+            b"machine S: rec X. K!ready(). rec X. T?{copy(list). X, stop(int). end}",
+            "machine S: K!ready(). rec X1. T?{copy(list). X1, stop(int). end}\n",
+        ),
+        (
+            b"machine S: rec X. K!ready(). rec Y. T?{copy(bool). X, stop(). Y}",
+            "machine S: rec X0. K!ready(). rec X1. T?{copy(bool). X0, stop(). X1}\n",
+        ),
+    ];
+    for (bytes, want) in cases {
+        let text = printed(rt.alloc(), bytes)?;
+        assert_eq!(rt; text.as_slice(), want.as_bytes(), "{want}");
+    }
+    Ok(())
+}
+
+/// A text with `piece` and later `close` so many times.
+fn nested(alloc: Global, piece: &[u8], count: u32, close: &[u8]) -> Result<Text, NoMemory> {
+    let mut text = Text::new(alloc);
+    text.push(b"machine K: ")?;
+    for _ in 0..count {
+        text.push(piece)?;
+    }
+    text.push(b"end")?;
+    for _ in 0..count {
+        text.push(close)?;
+    }
+    text.push(b"\n")?;
+    Ok(text)
+}
+
+#[test]
+fn prints_long_texts_again(rt: HostRuntime) -> Result<(), Fail> {
+    let cases = [
+        (b"S!x(). ".as_slice(), 256, b"".as_slice()),
+        (b"S?{x(). end, y(). ", 200, b"}"),
+        (b"S?{x(). ", 200, b", y(). end}"),
+    ];
+    for (piece, count, close) in cases {
+        let want = nested(rt.alloc(), piece, count, close)?;
+        let text = printed(rt.alloc(), want.as_slice())?;
+        assert_eq!(rt; text.as_slice(), want.as_slice());
+    }
+    Ok(())
+}
