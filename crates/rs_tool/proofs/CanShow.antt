@@ -6,7 +6,7 @@ use Rattle.rs_text.specs.Sound.{IsSound}
 use Rattle.rs_global.specs.Canonical.{IsTextShaped}
 use Rattle.rs_global.specs.Enough.{AreEnough}
 use Rattle.rs_global.proofs.EnoughNames.{spelt_enough, spelt_shaped}
-use Rattle.rs_machines.specs.Canonical.{IsMachineTextShaped, AreEnoughFor}
+use Rattle.rs_machines.specs.Canonical.{IsMachineTextShaped}
 use Rattle.rs_machines.specs.Machines.{names_of, labels_of}
 use Rattle.rs_machines.specs.Spells.{SpellsMachine}
 use Rattle.rs_tool.specs.Data.{Document_data}
@@ -14,7 +14,8 @@ use Rattle.rs_tool.specs.Documents.{GoesOn, Ends, Derives, Breaks, Repeats, Fail
 use Rattle.rs_tool.specs.Shown.{AreShown, CanBeShown}
 use Rattle.rs_tool.specs.declared.documents.Found.{Found}
 use Rattle.rs_tool.specs.declared.documents.Found.TheVariants as found
-use Rattle.rs_tool.proofs.Later.{spelt_enough_for, more_enough_for}
+use Rattle.rs_machines.specs.Enough.{AreEnoughFor}
+use Rattle.rs_machines.proofs.EnoughNames as of_machines
 
 -- names that were there, and maybe more labels
 pub record Grows (old new : Names_data) : Type 0 where
@@ -36,17 +37,22 @@ spelt_grows : (bytes : List ℕ) (at : ℕ) (old new : Names_data) (machine : Ma
 spelt_grows bytes at old new machine until s =
     subst (λ (x : Names_data). Grows old x) (sym s.names_are) (record { roles = refl; labels = longer (labels_of s.tree.body) old.labels })
 
+more_enough_for : (names new : Names_data) (machine : Machine_data) → length names.roles ≤ length new.roles → length names.labels ≤ length new.labels → AreEnoughFor names machine → AreEnoughFor new machine
+more_enough_for names new machine r l h = record {
+  role = (let a = h.role in omega arith);
+  peers = λ n mark peer arms e. let a = h.peers n mark peer arms e in omega arith;
+  labels = λ n place mark peer arms arm e f. let a = h.labels n place mark peer arms arm e f in omega arith;
+}
+
 shown_more : (old new : Names_data) (machines : List (Option Machine_data)) → Grows old new → AreShown old machines → AreShown new machines
 shown_more old new [] g h = tt
-shown_more old new (None ∷ ms) g h = shown_more old new ms g h
-shown_more old new (Some m ∷ ms) g h = let e : length old.roles ≡ length new.roles = ap length (sym g.roles) in (h.0, more_enough_for old new m (omega (arith, e)) g.labels h.1, shown_more old new ms g h.2)
+shown_more old new (None ∷ ms) g h = (tt, shown_more old new ms g h.1)
+shown_more old new (Some m ∷ ms) g h = let e : length old.roles ≡ length new.roles = ap length (sym g.roles) in ((h.0.0, more_enough_for old new m (omega (arith, e)) g.labels h.0.1), shown_more old new ms g h.1)
 
 shown_set : (names : Names_data) (machines : List (Option Machine_data)) (k : ℕ) (m : Machine_data) → AreShown names machines → IsMachineTextShaped m → AreEnoughFor names m → AreShown names (slice_set machines k (Some m))
 shown_set names [] k m h s e = tt
-shown_set names (None ∷ ms) zero m h s e = (s, e, h)
-shown_set names (Some x ∷ ms) zero m h s e = (s, e, h.2)
-shown_set names (None ∷ ms) (suc k) m h s e = shown_set names ms k m h s e
-shown_set names (Some x ∷ ms) (suc k) m h s e = (h.0, h.1, shown_set names ms k m h.2 s e)
+shown_set names (x ∷ ms) zero m h s e = ((s, e), h.1)
+shown_set names (x ∷ ms) (suc k) m h s e = (h.0, shown_set names ms k m h.1 s e)
 
 keeps : (bytes : List ℕ) (p : Protocol_data) (at : ℕ) (names : Names_data) (machines : List (Option Machine_data)) (what : Found) → GoesOn bytes p at names machines what → AreShown names machines
     → (d : Document_data) → what ≡ found.Document d → (d.protocol ≡ p) × Grows names d.names × AreShown d.names d.machines
@@ -60,7 +66,7 @@ keeps bytes p at names machines what (Fails a u n m k e f g) h d is = absurd cc
 keeps bytes p at names machines what (Adds a next n new m machine w e f s g) h d is =
     let grows = spelt_grows bytes at names new machine next s in
     let shaped : IsMachineTextShaped machine = record { bytes = bytes; at = at; old = names; new = new; until = next; spells = s } in
-    let more = keeps bytes p next new (with_machine machines machine) what g (shown_set new machines machine.role.0 machine (shown_more names new machines grows h) shaped (spelt_enough_for bytes at names new machine next s)) d is in
+    let more = keeps bytes p next new (with_machine machines machine) what g (shown_set new machines machine.role.0 machine (shown_more names new machines grows h) shaped (of_machines.spelt_enough bytes at names new machine next s)) d is in
     let a : Grows new d.names = more.1 in
     let l1 = a.labels in
     let l2 = grows.labels in
@@ -68,7 +74,7 @@ keeps bytes p at names machines what (Adds a next n new m machine w e f s g) h d
 
 none_shown : (names : Names_data) (roles : List (List ℕ)) → AreShown names (no_machines roles)
 none_shown names [] = tt
-none_shown names (x ∷ xs) = none_shown names xs
+none_shown names (x ∷ xs) = (tt, none_shown names xs)
 
 enough_more : (old new : Names_data) (p q : Protocol_data) → Grows old new → q ≡ p → AreEnough old p → AreEnough new q
 enough_more old new p q g e h =

@@ -72,7 +72,7 @@ refusal-is-no-fine d a (IsIllFormed f e is) = no-fine a _ is (wf-is-no-fine d.na
 refusal-is-no-fine d a (IsUnprojected none role f h is) = no-fine a _ is (proj-is-no-fine d.names f)
 
 -- what is told of projections is what the law of equal sessions asks
-projections-are : (protocol : Protocol_data) (projections : List Projection_data) → AreProjected protocol projections → AreProjections protocol projections
+pub projections-are : (protocol : Protocol_data) (projections : List Projection_data) → AreProjected protocol projections → AreProjections protocol projections
 projections-are protocol projections h = record { many = h.many; each = λ p projection e. let x = h.each p projection e in x.is }
 
 session-is-safe : (bytes : List ℕ) (d : Document_data) (projections : List Projection_data) (a : Answer) → IsDocument bytes d → HasProjections d projections

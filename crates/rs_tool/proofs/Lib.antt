@@ -1,9 +1,9 @@
 pub mod Parts
 pub mod OneFound
-pub mod Later
 pub mod CanShow
 pub mod Headline
 pub mod Unique
 pub mod Founds
 pub mod Sameness
 pub mod SomeAnswer
+pub mod Lines

@@ -1,6 +1,8 @@
 -- What stands behind a protocol is one thing, and how it is found.
-use Rattle.std.proofs.Common.{◌≡◌, ◌⊎◌, ℕ, zero, suc, ◌+◌, ◌<◌, ◌≤◌, List, [], ◌∷◌, ◌++◌, length, Bool, true, false, if◌then◌else◌, Option, Some, None, refl, sym, ap, subst, ◌∙◌, inl, inr, arith, slice_get, slice_set}
-use Rattle.std.specs.Prelude.{◌||◌, codes}
+use Rattle.std.proofs.Common.{◌≡◌, ◌⊎◌, ℕ, zero, suc, ◌+◌, ◌<◌, ◌≤◌, List, [], ◌∷◌, ◌++◌, length, Bool, true, false, if◌then◌else◌, Option, Some, None, refl, sym, ap, subst, ◌∙◌, inl, inr, arith, slice_get, slice_set, Result, Ok, Err}
+use Rattle.std.specs.Prelude.{◌||◌, codes, IfOk}
+use Rattle.rs_global.specs.Spells.{SpellsProtocol}
+use Rattle.rs_model.specs.declared.memory.NoMemory.{NoMemory}
 use Rattle.std.specs.Str.{bytes_eq}
 use Rattle.std.proofs.lemmas.Slice.Eq.{bytes_eq-Decides}
 use Rattle.rs_model.specs.Data.{Names_data, Protocol_data, Machine_data}
@@ -16,8 +18,8 @@ use Rattle.rs_machines.specs.Faults.{FirstFault}
 use Rattle.rs_machines.specs.Spells.{SpellsMachine}
 use Rattle.rs_machines.specs.Trees.{MachineTree, machine_signs, body_signs}
 use Rattle.rs_tool.specs.Data.{Document_data}
-use Rattle.rs_tool.specs.Documents.{StandsAt, machine_word, derivation_word, is_word, IsTwice, with_machine, GoesOn, Fails, Adds}
-use Rattle.rs_tool.specs.Reading.{is_held, twice_by, twice_named, twice_of, AreShort, IsReady, free_in, GoesOnWith, IsAdded}
+use Rattle.rs_tool.specs.Documents.{StandsAt, machine_word, derivation_word, is_word, IsTwice, with_machine, GoesOn, Ends, Derives, Breaks, Repeats, Fails, Adds, fault_behind, no_machines, IsBehindProtocol, BehindProtocol}
+use Rattle.rs_tool.specs.Reading.{is_held, twice_by, twice_named, twice_of, AreShort, IsReady, free_in, GoesOnWith, IsAdded, IsFound}
 use Rattle.rs_tool.specs.declared.documents.Found.{Found}
 use Rattle.rs_tool.specs.declared.documents.Found.TheVariants as found
 
@@ -189,3 +191,67 @@ add_is bytes at old names machine next ready word once spells sound roles labels
 -- a machine at fault
 pub fail_is : (bytes : List ℕ) (at : ℕ) (old : Document_data) (f : TextFault) → StandsAt bytes at machine_word → twice_of old.names old.machines (second_of bytes at) ≡ None → FirstFault old.names bytes at f.kind f.at → GoesOnWith bytes old at (found.Fault f)
 fail_is bytes at old f word once h = Fails at f.at old.names old.machines f.kind word (none_twice bytes old.names old.machines at once) h
+
+-- a second machine of a role
+pub twice_fault : (bytes : List ℕ) (at : ℕ) (old : Document_data) (second : ℕ) → StandsAt bytes at machine_word → twice_of old.names old.machines (second_of bytes at) ≡ Some second
+    → GoesOnWith bytes old at (found.Fault (record { kind = kind.NameTwice; at = second }))
+twice_fault bytes at old second word e = Repeats at second old.names old.machines word (twice_is bytes old.names old.machines at second e)
+
+-- a fault of a machine that was told
+pub fail_by : (bytes : List ℕ) (at : ℕ) (old : Document_data) (f : TextFault) → StandsAt bytes at machine_word → twice_of old.names old.machines (second_of bytes at) ≡ None → (f.kind ≡ kind.NoMemory → ⊥)
+    → (f.kind ≡ kind.NoMemory) ⊎ FirstFault old.names bytes at f.kind f.at → GoesOnWith bytes old at (found.Fault f)
+fail_by bytes at old f word once never (inl e) = absurd (never e)
+fail_by bytes at old f word once never (inr h) = fail_is bytes at old f word once h
+
+-- something that is no machine
+pub breaks : (bytes : List ℕ) (at : ℕ) (old : Document_data) (k : TextKind) → fault_behind (next_lexeme bytes at).sign ≡ Some k → GoesOnWith bytes old at (found.Fault (record { kind = k; at = at }))
+breaks bytes at old k e = Breaks at old.names old.machines (next_lexeme bytes at).sign k refl e
+
+-- the document with the machine that was read
+pub add_by : (bytes : List ℕ) (at : ℕ) (old : Document_data) (before names : Names_data) (protocol : Protocol_data) (own machines : List (Option Machine_data)) (machine : Machine_data) (next : ℕ)
+    → before ≡ old.names → protocol ≡ old.protocol → own ≡ old.machines → machines ≡ with_machine own machine → IsReady old → StandsAt bytes at machine_word → twice_of old.names old.machines (second_of bytes at) ≡ None
+    → SpellsMachine bytes at before names machine next → IsSound names → names.roles ≡ before.roles → length names.labels ≤ 256 → length machine.states ≤ 257 → next ≤ length bytes
+    → IsAdded bytes at old (record { names = names; protocol = protocol; machines = machines }) next
+add_by bytes at old before names protocol own machines machine next b p o m ready word once spells sound roles labels states within =
+    let done : IsAdded bytes at old (record { names = names; protocol = old.protocol; machines = with_machine old.machines machine }) next =
+    add_is bytes at old names machine next ready word once (subst (λ (z : Names_data). SpellsMachine bytes at z names machine next) b spells) sound (roles ∙ ap (λ (z : Names_data). z.roles) b) labels states within in
+    let same : machines ≡ with_machine old.machines machine = m ∙ ap (λ z. with_machine z machine) o in
+    subst (λ (z : List (Option Machine_data)). IsAdded bytes at old (record { names = names; protocol = protocol; machines = z }) next) (sym same)
+    (subst (λ (z : Protocol_data). IsAdded bytes at old (record { names = names; protocol = z; machines = with_machine old.machines machine }) next) (sym p) done)
+
+pub fail_before : (bytes : List ℕ) (at : ℕ) (old : Document_data) (before : Names_data) (f : TextFault) → before ≡ old.names → StandsAt bytes at machine_word → twice_of old.names old.machines (second_of bytes at) ≡ None → (f.kind ≡ kind.NoMemory → ⊥)
+    → (f.kind ≡ kind.NoMemory) ⊎ FirstFault before bytes at f.kind f.at → GoesOnWith bytes old at (found.Fault f)
+fail_before bytes at old before f b word once never h = fail_by bytes at old f word once never (subst (λ (z : Names_data). (f.kind ≡ kind.NoMemory) ⊎ FirstFault z bytes at f.kind f.at) b h)
+
+pub end_found : (bytes : List ℕ) (at : ℕ) (old new : Document_data) → StandsAt bytes at finish × (new ≡ old) → GoesOnWith bytes old at (found.Document new)
+end_found bytes at old new h = subst (λ (z : Document_data). GoesOnWith bytes old at (found.Document z)) (sym h.1) (Ends at old.names old.machines h.0)
+
+pub derivations_found : (bytes : List ℕ) (at : ℕ) (old : Document_data) → StandsAt bytes at derivation_word → GoesOnWith bytes old at found.Derivations
+derivations_found bytes at old h = Derives at old.names old.machines h
+
+size_of_none : (names : List (List ℕ)) → length (no_machines names) ≡ length names
+size_of_none [] = refl
+size_of_none (x ∷ xs) = ap suc (size_of_none xs)
+
+none_short : (names : List (List ℕ)) → AreShort (no_machines names)
+none_short [] k m e = absurd cc
+none_short (x ∷ xs) zero m e = absurd cc
+none_short (x ∷ xs) (suc k) m e = none_short xs k m e
+
+-- a document without machines
+pub begin_ready : (names : Names_data) (protocol : Protocol_data) (machines : List (Option Machine_data)) → machines ≡ no_machines names.roles → IsSound names → length names.roles ≤ 16 → length names.labels ≤ 256 → length protocol.nodes ≤ 1025
+    → IsReady (record { names = names; protocol = protocol; machines = machines })
+begin_ready names protocol machines e s r l n =
+    subst (λ (z : List (Option Machine_data)). IsReady (record { names = names; protocol = protocol; machines = z })) (sym e)
+    (record { sound = s; roles = r; labels = l; one_each = size_of_none names.roles; short = none_short names.roles; nodes = n })
+
+behind_is : (bytes : List ℕ) (what : Found) → IsBehindProtocol bytes what → IsFound bytes what
+behind_is bytes (found.Document d) h = h
+behind_is bytes found.Derivations h = h
+behind_is bytes (found.Fault f) h = BehindProtocol h
+
+pub found_behind : (bytes : List ℕ) (names : Names_data) (protocol : Protocol_data) (until : ℕ) (machines : List (Option Machine_data)) (r : Result Found NoMemory) → SpellsProtocol bytes 0 names protocol until → machines ≡ no_machines names.roles
+    → IfOk r (GoesOnWith bytes (record { names = names; protocol = protocol; machines = machines }) until) → IfOk r (IsFound bytes)
+found_behind bytes names protocol until machines (Err e) s m h = tt
+found_behind bytes names protocol until machines (Ok what) s m h =
+    behind_is bytes what (record { names = names; protocol = protocol; until = until; spells = s; goes_on = subst (λ (z : List (Option Machine_data)). GoesOn bytes protocol until names z what) m h })

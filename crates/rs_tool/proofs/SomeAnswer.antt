@@ -32,7 +32,7 @@ use Rattle.rs_tool.specs.Shown.{AreShown, AreCanonicalMachines}
 use Rattle.rs_tool.specs.Words.{names_command, task_of}
 use Rattle.rs_tool.proofs.CanShow.{role_names}
 use Rattle.rs_tool.proofs.Founds.{next_projection, no_projections}
-use Rattle.rs_tool.proofs.Later.{machine_text_is_there}
+use Rattle.rs_machines.proofs.Existence as of_machines
 use Rattle.rs_tool.proofs.OneFound.{some_found}
 use Rattle.rs_tool.proofs.Sameness.{are_same}
 
@@ -101,10 +101,10 @@ projected d decided None e = project_answer d e (first_ones d.protocol d.protoco
 
 lines : (names : Names_data) (machines : List (Option Machine_data)) → AreShown names machines → (text : List ℕ) × AreCanonicalMachines names machines text
 lines names [] h = ([], refl)
-lines names (None ∷ ms) h = lines names ms h
+lines names (None ∷ ms) h = lines names ms h.1
 lines names (Some m ∷ ms) h =
-    let line = machine_text_is_there names m h.0 h.1 in
-    let later = lines names ms h.2 in
+    let line = of_machines.canonical_text_is_there names m h.0.0 h.0.1 in
+    let later = lines names ms h.1 in
     (line.0 ++ later.0, (line.0, later.0, line.1, later.1, refl))
 
 shown : (bytes : List ℕ) (d : Document_data) → SpellsDocument bytes d → DocumentAnswer task.Show d

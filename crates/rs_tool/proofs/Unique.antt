@@ -31,7 +31,7 @@ use Rattle.rs_tool.specs.Words.{commands, names_command, task_of, is_check, is_s
 use Rattle.rs_tool.proofs.CanShow.{role_names}
 use Rattle.rs_project.proofs.OneProjection.{not-both, one-projection}
 use Rattle.rs_project.proofs.OneAnswer.{one-refusal}
-use Rattle.rs_tool.proofs.Later.{one_machine_text}
+use Rattle.rs_machines.proofs.CanonOne as of_machines
 use Rattle.rs_tool.proofs.OneFound.{one_found}
 
 short-and-long : (bytes : List ℕ) → length bytes ≤ 1048576 → 1048576 < length bytes → ⊥
@@ -160,9 +160,9 @@ one_project d a b (CantProject r) (CantProject s) = one_refusal d a b r s
 
 one_lines : (names : Names_data) (machines : List (Option Machine_data)) (x y : List ℕ) → AreShown names machines → AreCanonicalMachines names machines x → AreCanonicalMachines names machines y → x ≡ y
 one_lines names [] x y s h k = h ∙ sym k
-one_lines names (None ∷ ms) x y s h k = one_lines names ms x y s h k
+one_lines names (None ∷ ms) x y s h k = one_lines names ms x y s.1 h k
 one_lines names (Some m ∷ ms) x y s h k =
-    h.4 ∙ ap (λ z. z ++ h.1) (one_machine_text names m h.0 k.0 s.0 h.2 k.2) ∙ ap (λ z. k.0 ++ z) (one_lines names ms h.1 k.1 s.2 h.3 k.3) ∙ sym k.4
+    h.4 ∙ ap (λ z. z ++ h.1) (of_machines.canonical_text_is_one names m h.0 k.0 s.0.0 h.2 k.2) ∙ ap (λ z. k.0 ++ z) (one_lines names ms h.1 k.1 s.1 h.3 k.3) ∙ sym k.4
 
 one_show : (bytes : List ℕ) (d : Document_data) (a b : Answer) → IsDocument bytes d → AnswersShow d a → AnswersShow d b → a ≡ b
 one_show bytes d a b doc h k =

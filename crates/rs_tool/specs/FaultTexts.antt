@@ -64,8 +64,8 @@ abbrev pub clash_text : ℕ → Option ℕ → List ℕ
 clash_text a (Some b) = talks_text a b
 clash_text a None = codes "node " ++ (decimal a ++ codes " and the end do not merge")
 
--- what is answered to a protocol that has no projection onto a role. That memory is refused is no such reason: its line
--- is never written
+-- what is answered to a protocol that has no projection onto a role. That memory is refused is no such reason: the last
+-- line is never written
 abbrev pub proj_answer : Names_data → ProjFault → Answer
 proj_answer names (proj.Unmergeable role a b) = unprojectable (role_name names role) (clash_text a b)
 proj_answer names (proj.Unreached role node) = unprojectable (role_name names role) (codes "unreached at node " ++ decimal node)

@@ -3,7 +3,8 @@ use Rattle.std.specs.Prelude.{◌≡◌, ℕ, List, [], ◌∷◌, ◌++◌, Opt
 use Rattle.rs_model.specs.Data.{Names_data, Machine_data}
 use Rattle.rs_global.specs.Canonical.{IsCanonicalText, IsTextShaped}
 use Rattle.rs_global.specs.Enough.{AreEnough}
-use Rattle.rs_machines.specs.Canonical.{IsCanonicalMachineText, IsMachineTextShaped, AreEnoughFor}
+use Rattle.rs_machines.specs.Canonical.{IsCanonicalMachineText, IsMachineTextShaped}
+use Rattle.rs_machines.specs.Enough.{AreEnoughFor}
 use Rattle.rs_text.specs.Sound.{IsSound}
 use Rattle.rs_tool.specs.Data.{Document_data}
 
@@ -22,11 +23,15 @@ pub record IsCanonicalDocument (d : Document_data) (text : List ℕ) : Type 0 wh
   pub machines : AreCanonicalMachines d.names d.machines back
   pub is : text ≡ front ++ back
 
--- the machines that are there can be printed by these names
+-- the machine, where it is there, can be printed by these names
+abbrev pub IsShown : Names_data → Option Machine_data → Type 0
+IsShown names None = Unit {0}
+IsShown names (Some machine) = IsMachineTextShaped machine × AreEnoughFor names machine
+
+-- .. so can all of them
 abbrev pub AreShown : Names_data → List (Option Machine_data) → Type 0
 AreShown names [] = Unit {0}
-AreShown names (None ∷ machines) = AreShown names machines
-AreShown names (Some machine ∷ machines) = IsMachineTextShaped machine × AreEnoughFor names machine × AreShown names machines
+AreShown names (own ∷ machines) = IsShown names own × AreShown names machines
 
 -- .. and the protocol too
 pub record CanBeShown (d : Document_data) : Type 0 where
@@ -34,6 +39,14 @@ pub record CanBeShown (d : Document_data) : Type 0 where
   pub shaped : IsTextShaped d.protocol
   pub enough : AreEnough d.names d.protocol
   pub machines : AreShown d.names d.machines
+
+-- the machine's line was written behind what was there
+abbrev pub IsMachineBehind : Names_data → Machine_data → List ℕ → List ℕ → Type 0
+IsMachineBehind names machine old new = (line : List ℕ) × IsCanonicalMachineText names machine line × (new ≡ old ++ line)
+
+abbrev pub IsLineBehind : Names_data → Option Machine_data → List ℕ → List ℕ → Type 0
+IsLineBehind names None old new = new ≡ old
+IsLineBehind names (Some machine) old new = IsMachineBehind names machine old new
 
 -- the machines were written behind what was there
 abbrev pub IsShownBehind : Names_data → List (Option Machine_data) → List ℕ → List ℕ → Type 0

@@ -29,7 +29,7 @@ use crate::status::Status;
 use crate::words::{Task, names_command};
 use rs_machines::print_table;
 use rs_model::{Machine, Name, Names, NoMemory, Protocol};
-use rs_project::{ProjFault, Projection};
+use rs_project::Projection;
 use rs_safety::{Accepted, accept_same};
 use rs_text::Text;
 use rs_wellformed::well_formed;
@@ -156,7 +156,6 @@ fn projections_or_answer(alloc: Global, document: &Document) -> Result<Projected
     }
     match projections_of(alloc, &document.protocol) {
         Ok(projections) => Ok(Projected::Projections(projections)),
-        Err(ProjFault::NoMemory) => Err(NoMemory),
         Err(fault) => Ok(Projected::Refused(proj_answer(
             alloc,
             &document.names,

@@ -1,6 +1,6 @@
 //! An answer, made whole before its first byte is written.
 
-ghost use Rattle.std.specs.Prelude.{◌≡◌, ◌≤◌, ◌++◌, IfOk, codes, length};
+ghost use Rattle.std.specs.Prelude.{◌≡◌, ◌≤◌, ◌++◌, IfOk, OnOk, codes, length};
 ghost use Rattle.std.specs.Fmt.{decimal};
 ghost use Rattle.rs_machines.specs.Tables.{name_at};
 ghost use Rattle.rs_tool.specs.Answer as spec;
@@ -273,9 +273,10 @@ fn joined(alloc: Global, before: &[u8], behind: &[u8]) -> Result<Text, NoMemory>
     Ok(text)
 }
 
-/// What is answered to a protocol that has no projection onto a role.
+/// What is answered to a protocol that has no projection onto a role; nothing where memory was refused.
 pub fn proj_answer(alloc: Global, names: &Names, fault: ProjFault) -> Result<Made, NoMemory>
-    ensures { IfOk result (λ m. m ≡ texts.proj_answer names.now fault) }
+    ensures answer { IfOk result (λ m. m ≡ texts.proj_answer names.now fault) }
+    ensures memory { OnOk result (fault ≡ ProjFault.NoMemory → ⊥) }
 {
     match fault {
         ProjFault::Unmergeable { role, a, b } => {
@@ -290,7 +291,7 @@ pub fn proj_answer(alloc: Global, names: &Names, fault: ProjFault) -> Result<Mad
             let what = joined(alloc, b"projection ", role_name(names, role))?;
             too_large(alloc, what.as_slice())
         }
-        ProjFault::NoMemory => unprojectable(alloc, b"", b""),
+        ProjFault::NoMemory => Err(NoMemory),
     }
 }
 

@@ -25,9 +25,7 @@ pub fn projections_of(alloc: Global, protocol: &Protocol) -> Result<Vec<Projecti
             Ok(projection) => projection,
             Err(fault) => return Err(fault),
         };
-        if projections.push(projection).is_err() {
-            return Err(ProjFault::NoMemory);
-        }
+        projections.push(projection)?;
     }
     Ok(projections)
 }

@@ -1,34 +1,25 @@
-use Rattle.std.proofs.Common.{rules, ◌≡◌, ◌≤◌, ◌<◌, ◌^◌, ◌++◌, ℕ, List, codes, length, map, IfOk, OnOk, None, ◌+◌, ◌-◌, ◌*◌, ◌/◌, ◌%◌, Bool, true, false, nat_eq, nat_lt, [], ◌∷◌, slice_index_or, slice_set, bit_and, bit_or, Fits, w8, w32, w64, Bor, MutBor}
-use Rattle.std.specs.List.{All, flat_map}
-use Rattle.std.specs.String.{string_bytes}
-use Rattle.rs_machines.specs.Tables.{table_of}
-use Rattle.rs_model.specs.Faults as machine
-use Rattle.rs_safety.specs.Accepting.{AreSame}
-use Rattle.rs_tool.specs.Answer as spec
-use Rattle.rs_tool.specs.Sessions as sessions
-use Rattle.rs_tool.specs.Answers.{Answers, AnswersCheck, AnswersDocument, AnswersMachines, AnswersNoDocument, AnswersProject, AnswersSession, AnswersShow, AnswersText, most_bytes, tables_text}
-use Rattle.rs_tool.specs.Projecting.{IsProjected}
-use Rattle.rs_tool.specs.Reading.{IsFound, IsInOrder, IsReady}
-use Rattle.rs_tool.specs.Sessions.{AreProjected}
-use Rattle.rs_tool.specs.Shown.{CanBeShown, IsCanonicalDocument}
-use Rattle.rs_tool.specs.Top.{IsVerdict}
-use Rattle.rs_tool.specs.Words.{task_of}
-use Rattle.rs_tool.specs.declared.words.Task.{Task}
-use Rattle.rs_wellformed.specs.WellFormed.{IsWellFormed}
+use Rattle.std.proofs.Common.{◌≡◌, ◌∙◌, ap, sym, refl}
+use Rattle.rs_model.specs.Data.{Names_data, Protocol_data}
+use Rattle.rs_safety.specs.Accepting.{Accepted_data}
+use Rattle.rs_tool.proofs.Headline.{projections-are}
+use Rattle.rs_tool.proofs.Founds.{ill_machine_by, differs_by, same_by}
 use Rattle.rs_tool.proofs.answering.answer_to_session.Goals as goal
 
--- src/answering.rt:80:9
 pub returns-in-Some-clause-answer : goal.returns-in-Some-clause-answer
-returns-in-Some-clause-answer c = ?
+returns-in-Some-clause-answer c =
+    ill_machine_by c.args.names.now c.args.protocol.now.roles _ c.args.machines.items _ c.args.projections.now c.in-Some.role c.in-Some.fault c.machine_answer.result (ap (λ (p : Protocol_data). p.roles) c.protocol.view_is) c.as_slice.ensures.value
+    c.in-Some.ensures.some c.machine_answer.ensures
 
--- src/answering.rt:82:11
 pub accept_same-requires-clause-projected : goal.accept_same-requires-clause-projected
-accept_same-requires-clause-projected c = ?
+accept_same-requires-clause-projected c = projections-are c.args.protocol.now c.args.projections.now c.requires.projected
 
--- src/answering.rt:78:1
 pub returns-in-Ok-clause-answer : goal.returns-in-Ok-clause-answer
-returns-in-Ok-clause-answer c = ?
+returns-in-Ok-clause-answer c =
+    same_by c.args.names.now c.args.protocol.now.roles _ c.args.machines.items _ c.machines.result.now c.args.projections.now _ c.answer_to_machines.result (ap (λ (p : Protocol_data). p.roles) c.protocol.view_is) c.as_slice.ensures.value
+    c.in_default.ensures.none c.in-Ok.ensures.same (c.as_slice-in-Ok.ensures.value ∙ ap (λ (n : Names_data). n.roles) c.names.view_is)
+    (c.machines.ensures.machines ∙ ap (λ (x : Accepted_data). x.machines) c.in-Ok.ensures.accepted) c.answer_to_machines.ensures.answer
 
--- src/answering.rt:65:1
 pub returns-clause-answer : goal.returns-clause-answer
-returns-clause-answer c = ?
+returns-clause-answer c =
+    differs_by c.args.names.now c.args.protocol.now.roles _ c.args.machines.items _ c.args.projections.now c.in-Err.field-0.role c.not_built.result (ap (λ (p : Protocol_data). p.roles) c.protocol.view_is) c.as_slice.ensures.value
+    c.in_default.ensures.none c.in-Err.ensures.other c.not_built.ensures

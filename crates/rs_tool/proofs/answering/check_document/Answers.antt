@@ -1,26 +1,9 @@
-use Rattle.std.proofs.Common.{rules, ◌≡◌, ◌≤◌, ◌<◌, ◌^◌, ◌++◌, ℕ, List, codes, length, map, IfOk, OnOk, None, ◌+◌, ◌-◌, ◌*◌, ◌/◌, ◌%◌, Bool, true, false, nat_eq, nat_lt, [], ◌∷◌, slice_index_or, slice_set, bit_and, bit_or, Fits, w8, w32, w64, Bor, MutBor}
-use Rattle.std.specs.List.{All, flat_map}
-use Rattle.std.specs.String.{string_bytes}
-use Rattle.rs_machines.specs.Tables.{table_of}
-use Rattle.rs_model.specs.Faults as machine
-use Rattle.rs_safety.specs.Accepting.{AreSame}
-use Rattle.rs_tool.specs.Answer as spec
-use Rattle.rs_tool.specs.Sessions as sessions
-use Rattle.rs_tool.specs.Answers.{Answers, AnswersCheck, AnswersDocument, AnswersMachines, AnswersNoDocument, AnswersProject, AnswersSession, AnswersShow, AnswersText, most_bytes, tables_text}
-use Rattle.rs_tool.specs.Projecting.{IsProjected}
-use Rattle.rs_tool.specs.Reading.{IsFound, IsInOrder, IsReady}
-use Rattle.rs_tool.specs.Sessions.{AreProjected}
-use Rattle.rs_tool.specs.Shown.{CanBeShown, IsCanonicalDocument}
-use Rattle.rs_tool.specs.Top.{IsVerdict}
-use Rattle.rs_tool.specs.Words.{task_of}
-use Rattle.rs_tool.specs.declared.words.Task.{Task}
-use Rattle.rs_wellformed.specs.WellFormed.{IsWellFormed}
+use Rattle.rs_tool.proofs.Founds.{checks_by, cant_check}
 use Rattle.rs_tool.proofs.answering.check_document.Goals as goal
 
--- src/answering.rt:168:1
 pub returns-in-Projections-clause-answer : goal.returns-in-Projections-clause-answer
-returns-in-Projections-clause-answer c = ?
+returns-in-Projections-clause-answer c =
+    checks_by c.args.document.now c.in-Projections.projections c.as_slice.result.now c.answer_to_projected.result c.as_slice.ensures.value (rw c.in-Projections.is at c.in_ok-projections.ensures) c.answer_to_projected.ensures.answer
 
--- src/answering.rt:168:1
 pub returns-in-Refused-clause-answer : goal.returns-in-Refused-clause-answer
-returns-in-Refused-clause-answer c = ?
+returns-in-Refused-clause-answer c = cant_check c.args.document.now c.in-Refused.made (rw c.in-Refused.is at c.in_ok-projections.ensures)

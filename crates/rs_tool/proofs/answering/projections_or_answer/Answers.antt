@@ -1,27 +1,14 @@
-use Rattle.std.proofs.Common.{rules, ◌≡◌, ◌≤◌, ◌<◌, ◌^◌, ◌++◌, ℕ, List, codes, length, map, IfOk, OnOk, None, ◌+◌, ◌-◌, ◌*◌, ◌/◌, ◌%◌, Bool, true, false, nat_eq, nat_lt, [], ◌∷◌, slice_index_or, slice_set, bit_and, bit_or, Fits, w8, w32, w64, Bor, MutBor}
-use Rattle.std.specs.List.{All, flat_map}
-use Rattle.std.specs.String.{string_bytes}
-use Rattle.rs_machines.specs.Tables.{table_of}
-use Rattle.rs_model.specs.Faults as machine
-use Rattle.rs_safety.specs.Accepting.{AreSame}
-use Rattle.rs_tool.specs.Answer as spec
-use Rattle.rs_tool.specs.Sessions as sessions
-use Rattle.rs_tool.specs.Answers.{Answers, AnswersCheck, AnswersDocument, AnswersMachines, AnswersNoDocument, AnswersProject, AnswersSession, AnswersShow, AnswersText, most_bytes, tables_text}
-use Rattle.rs_tool.specs.Projecting.{IsProjected}
-use Rattle.rs_tool.specs.Reading.{IsFound, IsInOrder, IsReady}
-use Rattle.rs_tool.specs.Sessions.{AreProjected}
-use Rattle.rs_tool.specs.Shown.{CanBeShown, IsCanonicalDocument}
-use Rattle.rs_tool.specs.Top.{IsVerdict}
-use Rattle.rs_tool.specs.Words.{task_of}
-use Rattle.rs_tool.specs.declared.words.Task.{Task}
-use Rattle.rs_wellformed.specs.WellFormed.{IsWellFormed}
+use Rattle.std.proofs.Common.{◌∙◌, ap}
+use Rattle.rs_tool.specs.Data.{Document_data}
+use Rattle.rs_tool.proofs.Founds.{ill_formed_by, unprojected_by}
 use Rattle.rs_tool.proofs.answering.projections_or_answer.Goals as goal
 
--- src/answering.rt:151:9
 pub returns-in-Err : goal.returns-in-Err
-returns-in-Err c = ?
+returns-in-Err c =
+    ill_formed_by c.args.document.now _ _ c.in-Err.fault c.in_ok-wf_answer.field-0 (ap (λ (d : Document_data). d.names) c.document.view_is) (ap (λ (d : Document_data). d.protocol) c.document.view_is)
+    c.in-Err.ensures.err c.in_ok-wf_answer.ensures
 
--- src/answering.rt:146:1
-pub returns-in_ok-proj_answer-in-Err-projections_of :
-    goal.returns-in_ok-proj_answer-in-Err-projections_of
-returns-in_ok-proj_answer-in-Err-projections_of c = ?
+pub returns-in_ok-proj_answer-in-Err-projections_of : goal.returns-in_ok-proj_answer-in-Err-projections_of
+returns-in_ok-proj_answer-in-Err-projections_of c =
+    unprojected_by c.args.document.now _ _ c.in-Err-projections_of.fault c.in_ok-proj_answer-in-Err-projections_of.field-0 (ap (λ (d : Document_data). d.names) c.document.view_is) (ap (λ (d : Document_data). d.protocol) c.document.view_is)
+    c.in_default.ensures.none c.in_ok-proj_answer-in-Err-projections_of.ensures.memory c.in-Err-projections_of.ensures.err c.in_ok-proj_answer-in-Err-projections_of.ensures.answer

@@ -1,18 +1,18 @@
-use Rattle.std.proofs.Common.{rules, ◌≡◌, ◌≤◌, ◌<◌, length, IfOk, IfSome, Some, None, slice_get, ℕ, ◌+◌, ◌-◌, ◌*◌, ◌/◌, ◌%◌, Bool, true, false, nat_eq, nat_lt, List, [], ◌∷◌, ◌++◌, slice_index_or, slice_set, bit_and, bit_or, Fits, w8, w32, w64, Bor, MutBor}
-use Rattle.rs_text.specs.Lexemes.{sign_of, text_of, next_lexeme, lexeme_of}
-use Rattle.rs_tool.specs.Documents as spec
-use Rattle.rs_tool.specs.Documents.{StandsAt, is_word, machine_word, with_machine}
-use Rattle.rs_tool.specs.Reading.{GoesOnWith, IsBegin, IsFound, IsInOrder, IsPart, IsReady, is_held, twice_of}
+use Rattle.std.proofs.Common.{sym, ap}
+use Rattle.rs_tool.specs.Data.{Document_data}
+use Rattle.rs_tool.proofs.Parts.{add_by, fail_before, twice_fault}
 use Rattle.rs_tool.proofs.documents.add_machine.Goals as goal
 
--- src/documents.rt:153:9
 pub returns-in-Some : goal.returns-in-Some
-returns-in-Some c = ?
+returns-in-Some c = (twice_fault c.args.bytes.now c.args.at c.args.document.now c.in-Some.second c.requires.machine (sym c.in-Some.ensures.twice), c.in-Some.ensures.place)
 
--- src/documents.rt:141:1
 pub returns-in-Ok : goal.returns-in-Ok
-returns-in-Ok c = ?
+returns-in-Ok c =
+    add_by c.args.bytes.now c.args.at c.args.document.now _ c.read_machine.new.names _ _ _ c.in-Ok.machine c.in-Ok.next (ap (λ (d : Document_data). d.names) c.document.view_is) (ap (λ (d : Document_data). d.protocol) c.document.view_is)
+    (ap (λ (d : Document_data). d.machines) c.document.view_is) c.put_machine.ensures c.requires.ready c.requires.machine (sym c.in_default.ensures.twice) c.in-Ok.ensures.ok c.in-Ok.ensures.sound c.in-Ok.ensures.roles c.in-Ok.ensures.labels
+    c.in-Ok.ensures.states c.in-Ok.ensures.within
 
--- src/documents.rt:141:1
 pub returns-in-Err-2 : goal.returns-in-Err-2
-returns-in-Err-2 c = ?
+returns-in-Err-2 c =
+    (fail_before c.args.bytes.now c.args.at c.args.document.now _ c.in-Err.fault (ap (λ (d : Document_data). d.names) c.document.view_is) c.requires.machine (sym c.in_default.ensures.twice) (λ e. cc (c.if-eq.ensures, e, c.if-eq.false))
+    c.in-Err.ensures.err, c.in-Err.ensures.place)

@@ -1,10 +1,5 @@
-use Rattle.std.proofs.Common.{rules, ◌≡◌, ◌≤◌, ◌<◌, length, IfOk, IfSome, Some, None, slice_get, ℕ, ◌+◌, ◌-◌, ◌*◌, ◌/◌, ◌%◌, Bool, true, false, nat_eq, nat_lt, List, [], ◌∷◌, ◌++◌, slice_index_or, slice_set, bit_and, bit_or, Fits, w8, w32, w64, Bor, MutBor}
-use Rattle.rs_text.specs.Lexemes.{sign_of, text_of, next_lexeme, lexeme_of}
-use Rattle.rs_tool.specs.Documents as spec
-use Rattle.rs_tool.specs.Documents.{StandsAt, is_word, machine_word, with_machine}
-use Rattle.rs_tool.specs.Reading.{GoesOnWith, IsBegin, IsFound, IsInOrder, IsPart, IsReady, is_held, twice_of}
+use Rattle.rs_tool.proofs.Parts.{breaks}
 use Rattle.rs_tool.proofs.documents.read_part.Goals as goal
 
--- src/documents.rt:169:1
 pub returns-in-Fault : goal.returns-in-Fault
-returns-in-Fault c = ?
+returns-in-Fault c = (breaks c.args.bytes.now c.args.at c.args.document.now c.in-Fault.kind (rw c.in-Fault.is at c.begin_at.ensures), c.requires.within)

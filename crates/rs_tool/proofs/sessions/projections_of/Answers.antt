@@ -1,15 +1,14 @@
-use Rattle.std.proofs.Common.{rules, ◌≡◌, ◌≤◌, ◌<◌, ◌⊎◌, ◌^◌, length, IfOk, IfErr, IfSome, IfNone, Some, None, ℕ, ◌+◌, ◌-◌, ◌*◌, ◌/◌, ◌%◌, Bool, true, false, nat_eq, nat_lt, List, [], ◌∷◌, ◌++◌, slice_index_or, slice_set, bit_and, bit_or, Fits, w8, w32, w64, Bor, MutBor}
-use Rattle.std.specs.List.{All}
-use Rattle.rs_tool.specs.Projecting.{Refuses}
-use Rattle.rs_tool.specs.Reading.{AreShort}
-use Rattle.rs_tool.specs.Sessions.{AreProjected, first_refusal, machine_or, machines_of}
-use Rattle.rs_wellformed.specs.WellFormed.{IsWellFormed}
+use Rattle.std.proofs.Common.{◌<◌, subst}
+use Rattle.rs_model.specs.Data.{Protocol_data}
+use Rattle.rs_tool.proofs.Founds.{next_projection, refused_at}
 use Rattle.rs_tool.proofs.sessions.projections_of.Goals as goal
 
--- src/sessions.rt:26:27
 pub returns-in-Err-clause-err : goal.returns-in-Err-clause-err
-returns-in-Err-clause-err c = ?
+returns-in-Err-clause-err c =
+    refused_at c.args.protocol.now c.loop-role.role c.loop-role.projections.items c.in-Err.fault
+    (subst (λ (p : Protocol_data). c.loop-role.role < p.roles) c.protocol.view_is c.loop-role-test.true) c.loop-role.invariant c.in-Err.ensures.err
 
--- src/sessions.rt:23:5
 pub loop-role-preserved : goal.loop-role-preserved
-loop-role-preserved c = ?
+loop-role-preserved c =
+    rw c.in_ok-push.ensures.items
+    (next_projection c.args.protocol.now c.loop-role.role c.loop-role.projections.items c.in-Ok.projection c.loop-role.invariant c.in-Ok.ensures.ok)
