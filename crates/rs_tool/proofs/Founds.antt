@@ -260,7 +260,6 @@ cant_check d a h = CantCheck h.0
 pub cant_project : (d : Document_data) (a : Answer) → IsProjected d (projected.Refused a) → AnswersProject d a
 cant_project d a h = CantProject h.0
 
-
 sizes : (own : List (Option Machine_data)) (d : Document_data) (projections : List Projection_data) → own ≡ d.machines → IsReady d → length d.names.roles ≡ d.protocol.roles → AreProjected d.protocol projections → length own ≡ length projections
 sizes own d projections e ready roles h = ap length e ∙ ready.one_each ∙ roles ∙ sym h.many
 

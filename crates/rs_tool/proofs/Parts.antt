@@ -94,9 +94,9 @@ twice_is bytes names machines at second e = named_is bytes names machines at sec
 pub twice_found : (bytes : List ℕ) (names : Names_data) (machines : List (Option Machine_data)) (at second : ℕ) → IsTwice bytes names machines at second → twice_of names machines (second_of bytes at) ≡ Some second
 twice_found bytes names machines at second h =
     ap (λ s. twice_named (plain_text s) names machines (second_of bytes at).from) h.word
-      ∙ ap (λ p. twice_by p machines (second_of bytes at).from) h.role
-      ∙ ap (λ q. if is_held q then Some (second_of bytes at).from else None) h.has
-      ∙ ap Some (sym h.stands)
+    ∙ ap (λ p. twice_by p machines (second_of bytes at).from) h.role
+    ∙ ap (λ q. if is_held q then Some (second_of bytes at).from else None) h.has
+    ∙ ap Some (sym h.stands)
 
 pub none_twice : (bytes : List ℕ) (names : Names_data) (machines : List (Option Machine_data)) (at : ℕ) → twice_of names machines (second_of bytes at) ≡ None → (second : ℕ) → IsTwice bytes names machines at second → ⊥
 none_twice bytes names machines at e second h = let f : Some second ≡ None = sym (twice_found bytes names machines at second h) ∙ e in cc

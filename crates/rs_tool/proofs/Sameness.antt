@@ -62,8 +62,8 @@ same_sort a b = elim (same_number (sort_number a) (sort_number b)) [
 make_arm : (a b : Arm) → a.label ≡ b.label → a.sort ≡ b.sort → a.next ≡ b.next → a ≡ b
 make_arm a b e f g =
     ap (λ z. record { label = z; sort = a.sort; next = a.next }) e
-      ∙ ap (λ z. record { label = b.label; sort = z; next = a.next }) f
-      ∙ ap (λ z. record { label = b.label; sort = b.sort; next = z }) g
+    ∙ ap (λ z. record { label = b.label; sort = z; next = a.next }) f
+    ∙ ap (λ z. record { label = b.label; sort = b.sort; next = z }) g
 
 abbrev IsSameHead : Arm → Arm → Type 0
 IsSameHead a b = (a.label ≡ b.label) × (a.sort ≡ b.sort)
@@ -100,8 +100,8 @@ same_state (Takes p arms) (Takes q others) = same_takes p q arms others
 make_machine : (a b : Machine_data) → (a.role ≡ b.role) × (a.start ≡ b.start) → a.states ≡ b.states → a ≡ b
 make_machine a b e f =
     ap (λ z. record { role = z; states = a.states; start = a.start }) e.0
-      ∙ ap (λ z. record { role = b.role; states = a.states; start = z }) e.1
-      ∙ ap (λ z. record { role = b.role; states = z; start = b.start }) f
+    ∙ ap (λ z. record { role = b.role; states = a.states; start = z }) e.1
+    ∙ ap (λ z. record { role = b.role; states = z; start = b.start }) f
 
 abbrev IsSameBegin : Machine_data → Machine_data → Type 0
 IsSameBegin a b = (a.role ≡ b.role) × (a.start ≡ b.start)

@@ -148,19 +148,11 @@ fn projections_or_answer(alloc: Global, document: &Document) -> Result<Projected
     ensures { IfOk result (IsProjected document.now) }
 {
     if let Err(fault) = well_formed(&document.protocol) {
-        return Ok(Projected::Refused(wf_answer(
-            alloc,
-            &document.names,
-            fault,
-        )?));
+        return Ok(Projected::Refused(wf_answer(alloc, &document.names, fault)?));
     }
     match projections_of(alloc, &document.protocol) {
         Ok(projections) => Ok(Projected::Projections(projections)),
-        Err(fault) => Ok(Projected::Refused(proj_answer(
-            alloc,
-            &document.names,
-            fault,
-        )?)),
+        Err(fault) => Ok(Projected::Refused(proj_answer(alloc, &document.names, fault)?)),
     }
 }
 

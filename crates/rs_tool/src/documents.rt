@@ -160,8 +160,10 @@ fn add_machine(
             put_machine(&mut document.machines, machine);
             Ok(Part::Machine(next))
         }
-        Err(fault) if fault.kind == TextKind::NoMemory => Err(NoMemory),
-        Err(fault) => Ok(Part::Fault(fault)),
+        Err(fault) => match fault.kind {
+            TextKind::NoMemory => Err(NoMemory),
+            _ => Ok(Part::Fault(fault)),
+        },
     }
 }
 
@@ -185,12 +187,7 @@ fn read_part(
 }
 
 /// Reads the machines behind a protocol, to the end of the text or to the first derivation.
-fn read_parts(
-    alloc: Global,
-    bytes: &[u8],
-    at: usize,
-    document: Document,
-) -> Result<Found, NoMemory>
+fn read_parts(alloc: Global, bytes: &[u8], at: usize, document: Document) -> Result<Found, NoMemory>
     requires within { at ≤ length bytes.now }
     requires ready { IsReady document }
     ensures found { IfOk result (GoesOnWith bytes.now document at) }

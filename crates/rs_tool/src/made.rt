@@ -200,8 +200,17 @@ pub fn wf_answer(alloc: Global, names: &Names, fault: WfFault) -> Result<Made, N
         }
         WfFault::NoArms { node } => malformed_node(alloc, b"protocol: no arms at node ", node, b""),
         WfFault::TooManyArms { .. } => too_large(alloc, b"arms"),
-        WfFault::TwiceLabel { node, label } => malformed_label(alloc, label_name(names, label), node),
-        WfFault::BadNext { node } => malformed_node(alloc, b"protocol: bad next at node ", node, b""),
+        WfFault::TwiceLabel { node, label } => malformed_label(
+            alloc,
+            label_name(names, label),
+            node,
+        ),
+        WfFault::BadNext { node } => malformed_node(
+            alloc,
+            b"protocol: bad next at node ",
+            node,
+            b"",
+        ),
     }
 }
 

@@ -120,11 +120,7 @@ fn any_receives(machines: &[Machine]) -> bool
 fn room_of(machines: &[Machine]) -> u64
     ensures { result ≡ spec.room_of machines.now }
 {
-    if any_receives(machines) {
-        3
-    } else {
-        1
-    }
+    if any_receives(machines) { 3 } else { 1 }
 }
 
 /// The report of an accepted session of machines that are their projections.

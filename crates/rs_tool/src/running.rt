@@ -12,9 +12,9 @@ ghost use Rattle.rs_tool.specs.Top.{Tells, Writes, IsVerdict, IsStopped, IsAnswe
 use crate::answering::{MOST_BYTES, answer_to_long_text, answer_to_text, answer_to_words};
 use crate::made::Made;
 use crate::status::{Reply, Serial, Status};
+use crate::words::{Task, task_of};
 use rs_io::{ReadStop, Sink, Source, read_all, write_all};
 use rs_model::NoMemory;
-use crate::words::{Task, task_of};
 use std::alloc::Global;
 use std::sync::Wait;
 use std::thread::Threads;

@@ -12,9 +12,11 @@ const SESSION: &str = "roles A, B\nprotocol A->B:x(). B->A:y(). end\n";
 const REPORT: &str = "accepted\nA: nodes 4 pending 1 rank 0\nB: nodes 4 pending 1 rank 0\nroom 3\n";
 
 /// The double buffer with an end, without a machine of the kernel's own.
-const BUFFER: &str = "roles K, S, T\nprotocol rec X. K->S:ready(). T->K:ready(). S->K{copy(bytes). K->T:copy(bytes). X, stop(). K->S:ready(). K->T:stop(). end}\n";
+const BUFFER: &str =
+    "roles K, S, T\nprotocol rec X. K->S:ready(). T->K:ready(). S->K{copy(bytes). K->T:copy(bytes). X, stop(). K->S:ready(). K->T:stop(). end}\n";
 
-const BUFFER_TABLES: &str = "table K {\n0 S!{ready() 1}\n1 T?{ready() 2}\n2 S?{copy(bytes) 3, stop() 4}\n3 T!{copy(bytes) 0}\n4 S!{ready() 5}\n5 T!{stop() 6}\n6 end\n}\ntable S {\n0 K?{ready() 1}\n1 K!{copy(bytes) 0, stop() 2}\n2 K?{ready() 3}\n3 end\n}\ntable T {\n0 K!{ready() 1}\n1 K?{copy(bytes) 0, stop() 2}\n2 end\n}\n";
+const BUFFER_TABLES: &str =
+    "table K {\n0 S!{ready() 1}\n1 T?{ready() 2}\n2 S?{copy(bytes) 3, stop() 4}\n3 T!{copy(bytes) 0}\n4 S!{ready() 5}\n5 T!{stop() 6}\n6 end\n}\ntable S {\n0 K?{ready() 1}\n1 K!{copy(bytes) 0, stop() 2}\n2 K?{ready() 3}\n3 end\n}\ntable T {\n0 K!{ready() 1}\n1 K?{copy(bytes) 0, stop() 2}\n2 end\n}\n";
 
 fn strings(alloc: Global, words: &[&str]) -> Result<Vec<String>, Fail> {
     let mut strings = Vec::new(alloc);
@@ -49,58 +51,268 @@ fn texts_and_words_have_their_answers(rt: HostRuntime) -> Result<(), Fail> {
         ([].as_slice(), SESSION, Status::Usage, "usage\n"),
         (["frob"].as_slice(), SESSION, Status::Usage, "usage\n"),
         (["Check"].as_slice(), SESSION, Status::Usage, "usage\n"),
-        (["check", "x"].as_slice(), SESSION, Status::NotBuilt, "not built\n"),
-        (["gen", "3"].as_slice(), SESSION, Status::NotBuilt, "not built\n"),
+        (
+            ["check", "x"].as_slice(),
+            SESSION,
+            Status::NotBuilt,
+            "not built\n",
+        ),
+        (
+            ["gen", "3"].as_slice(),
+            SESSION,
+            Status::NotBuilt,
+            "not built\n",
+        ),
         // accepted
         (check, SESSION, Status::Fine, REPORT),
-        (check, "roles A,B protocol A->B{x(unit). rec Y. B->A:y(). end}# c", Status::Fine, REPORT),
-        (check, "roles A, B\nprotocol A->B:x(). B->A:y(). end\nmachine A: B!x(). B?y(). end\n", Status::Fine, REPORT),
-        (check, "roles A, B\nprotocol end\n", Status::Fine, "accepted\nA: nodes 1 pending 0 rank 0\nB: nodes 1 pending 0 rank 0\nroom 1\n"),
-        (check, BUFFER, Status::Fine, "accepted\nK: nodes 10 pending 1 rank 0\nS: nodes 6 pending 1 rank 0\nT: nodes 5 pending 1 rank 0\nroom 3\n"),
+        (
+            check,
+            "roles A,B protocol A->B{x(unit). rec Y. B->A:y(). end}# c",
+            Status::Fine,
+            REPORT,
+        ),
+        (
+            check,
+            "roles A, B\nprotocol A->B:x(). B->A:y(). end\nmachine A: B!x(). B?y(). end\n",
+            Status::Fine,
+            REPORT,
+        ),
+        (
+            check,
+            "roles A, B\nprotocol end\n",
+            Status::Fine,
+            "accepted\nA: nodes 1 pending 0 rank 0\nB: nodes 1 pending 0 rank 0\nroom 1\n",
+        ),
+        (
+            check,
+            BUFFER,
+            Status::Fine,
+            "accepted\nK: nodes 10 pending 1 rank 0\nS: nodes 6 pending 1 rank 0\nT: nodes 5 pending 1 rank 0\nroom 3\n",
+        ),
         // a machine that differs from its projection
-        (check, "roles A, B\nprotocol A->B:x(). B->A:y(). end\nmachine B: A!y(). A?x(). end\n", Status::NotBuilt, "not built\n"),
+        (
+            check,
+            "roles A, B\nprotocol A->B:x(). B->A:y(). end\nmachine B: A!y(). A?x(). end\n",
+            Status::NotBuilt,
+            "not built\n",
+        ),
         // derivations
-        (check, "roles A, B\nprotocol end\nderivation $", Status::NotBuilt, "not built\n"),
-        (show, "roles A, B\nprotocol end\nderivation $", Status::NotBuilt, "not built\n"),
-        (project, "roles A, B\nprotocol end\nderivation $", Status::NotBuilt, "not built\n"),
+        (
+            check,
+            "roles A, B\nprotocol end\nderivation $",
+            Status::NotBuilt,
+            "not built\n",
+        ),
+        (
+            show,
+            "roles A, B\nprotocol end\nderivation $",
+            Status::NotBuilt,
+            "not built\n",
+        ),
+        (
+            project,
+            "roles A, B\nprotocol end\nderivation $",
+            Status::NotBuilt,
+            "not built\n",
+        ),
         // faults of a text
-        (check, "", Status::Malformed, "malformed 1:1 expected roles\n"),
-        (show, "", Status::Malformed, "malformed 1:1 expected roles\n"),
-        (check, "roles A", Status::Malformed, "malformed 1:8 expected ,\n"),
-        (check, "roles A, B\n", Status::Malformed, "malformed 2:1 expected , or protocol\n"),
-        (check, "roles A, B\nprotocol ", Status::Malformed, "malformed 2:10 expected body\n"),
-        (check, "roles A, B\nprotocol A", Status::Malformed, "malformed 2:10 unbound name\n"),
-        (check, "roles A, B\nprotocol A-", Status::Malformed, "malformed 2:11 bad byte\n"),
-        (check, "roles A, B\nprotocol A->B:x(", Status::Malformed, "malformed 2:17 expected sort or )\n"),
-        (check, "roles A, B\nprotocol A->B:x()", Status::Malformed, "malformed 2:18 expected .\n"),
-        (check, "roles A, B\nprotocol rec X. X", Status::Malformed, "malformed 2:17 unguarded name\n"),
-        (check, "roles A, B\nprotocol X", Status::Malformed, "malformed 2:10 unbound name\n"),
-        (check, "roles A, B\nprotocol A->C:x(). end", Status::Malformed, "malformed 2:13 unknown role\n"),
-        (check, "roles A, 4294967296", Status::Malformed, "malformed 1:10 number too large\n"),
-        (check, "roles A, B\nprotocol end\nend", Status::Malformed, "malformed 3:1 expected machine, derivation or the end\n"),
-        (check, "roles A, B\nprotocol A->B:x(). B->A:y(). end\nmachine B: A!y(). A?x(). end\nmachine B: A!y(). A?x(). end\n", Status::Malformed, "malformed 4:9 name twice\n"),
-        (check, "roles A, B\nprotocol end\nmachine C: end", Status::Malformed, "malformed 3:9 unknown role\n"),
-        (check, "roles A, B\nprotocol end\nmachine A end", Status::Malformed, "malformed 3:11 expected :\n"),
+        (
+            check,
+            "",
+            Status::Malformed,
+            "malformed 1:1 expected roles\n",
+        ),
+        (
+            show,
+            "",
+            Status::Malformed,
+            "malformed 1:1 expected roles\n",
+        ),
+        (
+            check,
+            "roles A",
+            Status::Malformed,
+            "malformed 1:8 expected ,\n",
+        ),
+        (
+            check,
+            "roles A, B\n",
+            Status::Malformed,
+            "malformed 2:1 expected , or protocol\n",
+        ),
+        (
+            check,
+            "roles A, B\nprotocol ",
+            Status::Malformed,
+            "malformed 2:10 expected body\n",
+        ),
+        (
+            check,
+            "roles A, B\nprotocol A",
+            Status::Malformed,
+            "malformed 2:10 unbound name\n",
+        ),
+        (
+            check,
+            "roles A, B\nprotocol A-",
+            Status::Malformed,
+            "malformed 2:11 bad byte\n",
+        ),
+        (
+            check,
+            "roles A, B\nprotocol A->B:x(",
+            Status::Malformed,
+            "malformed 2:17 expected sort or )\n",
+        ),
+        (
+            check,
+            "roles A, B\nprotocol A->B:x()",
+            Status::Malformed,
+            "malformed 2:18 expected .\n",
+        ),
+        (
+            check,
+            "roles A, B\nprotocol rec X. X",
+            Status::Malformed,
+            "malformed 2:17 unguarded name\n",
+        ),
+        (
+            check,
+            "roles A, B\nprotocol X",
+            Status::Malformed,
+            "malformed 2:10 unbound name\n",
+        ),
+        (
+            check,
+            "roles A, B\nprotocol A->C:x(). end",
+            Status::Malformed,
+            "malformed 2:13 unknown role\n",
+        ),
+        (
+            check,
+            "roles A, 4294967296",
+            Status::Malformed,
+            "malformed 1:10 number too large\n",
+        ),
+        (
+            check,
+            "roles A, B\nprotocol end\nend",
+            Status::Malformed,
+            "malformed 3:1 expected machine, derivation or the end\n",
+        ),
+        (
+            check,
+            "roles A, B\nprotocol A->B:x(). B->A:y(). end\nmachine B: A!y(). A?x(). end\nmachine B: A!y(). A?x(). end\n",
+            Status::Malformed,
+            "malformed 4:9 name twice\n",
+        ),
+        (
+            check,
+            "roles A, B\nprotocol end\nmachine C: end",
+            Status::Malformed,
+            "malformed 3:9 unknown role\n",
+        ),
+        (
+            check,
+            "roles A, B\nprotocol end\nmachine A end",
+            Status::Malformed,
+            "malformed 3:11 expected :\n",
+        ),
         // protocols that aren't well formed
-        (check, "roles A, B\nprotocol A->A:x(). end", Status::Malformed, "malformed protocol: node 0 talks to itself\n"),
-        (show, "roles A, B\nprotocol A->A:x(). end", Status::Fine, "roles A, B\nprotocol A->A:x(). end\n"),
-        (check, "roles A, B\nprotocol A->B{x(). end, x(). end}", Status::Malformed, "malformed protocol: label x twice at node 0\n"),
-        (show, "roles A, B\nprotocol A->B{x(). end, x(). end}", Status::Fine, "roles A, B\nprotocol A->B{x(). end, x(). end}\n"),
+        (
+            check,
+            "roles A, B\nprotocol A->A:x(). end",
+            Status::Malformed,
+            "malformed protocol: node 0 talks to itself\n",
+        ),
+        (
+            show,
+            "roles A, B\nprotocol A->A:x(). end",
+            Status::Fine,
+            "roles A, B\nprotocol A->A:x(). end\n",
+        ),
+        (
+            check,
+            "roles A, B\nprotocol A->B{x(). end, x(). end}",
+            Status::Malformed,
+            "malformed protocol: label x twice at node 0\n",
+        ),
+        (
+            show,
+            "roles A, B\nprotocol A->B{x(). end, x(). end}",
+            Status::Fine,
+            "roles A, B\nprotocol A->B{x(). end, x(). end}\n",
+        ),
         // protocols without a projection
-        (check, "roles p, q, r\nprotocol rec X. q->r{a(). X, b(). q->p:c(). end}", Status::Unprojectable, "unprojectable\np: unreached at node 0\n"),
-        (project, "roles p, q, r\nprotocol rec X. q->r{a(). X, b(). q->p:c(). end}", Status::Unprojectable, "unprojectable\np: unreached at node 0\n"),
-        (check, "roles A, B, C\nprotocol A->B{l(). C->A:x(). end, r(). C->A:y(). end}", Status::Unprojectable, "unprojectable\nC: nodes 1 and 2 do not merge\n"),
-        (check, "roles A, B, C\nprotocol A->B{l(). A->C:x(). end, r(). end}", Status::Unprojectable, "unprojectable\nC: node 1 and the end do not merge\n"),
+        (
+            check,
+            "roles p, q, r\nprotocol rec X. q->r{a(). X, b(). q->p:c(). end}",
+            Status::Unprojectable,
+            "unprojectable\np: unreached at node 0\n",
+        ),
+        (
+            project,
+            "roles p, q, r\nprotocol rec X. q->r{a(). X, b(). q->p:c(). end}",
+            Status::Unprojectable,
+            "unprojectable\np: unreached at node 0\n",
+        ),
+        (
+            check,
+            "roles A, B, C\nprotocol A->B{l(). C->A:x(). end, r(). C->A:y(). end}",
+            Status::Unprojectable,
+            "unprojectable\nC: nodes 1 and 2 do not merge\n",
+        ),
+        (
+            check,
+            "roles A, B, C\nprotocol A->B{l(). A->C:x(). end, r(). end}",
+            Status::Unprojectable,
+            "unprojectable\nC: node 1 and the end do not merge\n",
+        ),
         // machines that aren't well formed
-        (check, "roles A, B\nprotocol A->B:x(). end\nmachine A: B!{x(). end, x(). end}", Status::Malformed, "malformed machine A: label x twice at state 0\n"),
-        (check, "roles A, B\nprotocol A->B:x(). end\nmachine A: A!x(). end", Status::Malformed, "malformed machine A: state 0 talks to itself\n"),
-        (project, "roles A, B\nprotocol A->B:x(). end\nmachine A: A!x(). end", Status::Fine, "table A {\n0 B!{x() 1}\n1 end\n}\ntable B {\n0 A?{x() 1}\n1 end\n}\n"),
+        (
+            check,
+            "roles A, B\nprotocol A->B:x(). end\nmachine A: B!{x(). end, x(). end}",
+            Status::Malformed,
+            "malformed machine A: label x twice at state 0\n",
+        ),
+        (
+            check,
+            "roles A, B\nprotocol A->B:x(). end\nmachine A: A!x(). end",
+            Status::Malformed,
+            "malformed machine A: state 0 talks to itself\n",
+        ),
+        (
+            project,
+            "roles A, B\nprotocol A->B:x(). end\nmachine A: A!x(). end",
+            Status::Fine,
+            "table A {\n0 B!{x() 1}\n1 end\n}\ntable B {\n0 A?{x() 1}\n1 end\n}\n",
+        ),
         // canonical texts and tables
-        (show, "roles A,B protocol rec X. A->B:x(). X # c", Status::Fine, "roles A, B\nprotocol rec X0. A->B:x(). X0\n"),
-        (show, "roles A, B protocol rec X. rec Y. A->B{a(). X, b(nat). Y}", Status::Fine, "roles A, B\nprotocol rec X0. A->B{a(). X0, b(nat). X0}\n"),
-        (show, "roles A, B protocol A->B{x(unit). end}", Status::Fine, "roles A, B\nprotocol A->B:x(). end\n"),
+        (
+            show,
+            "roles A,B protocol rec X. A->B:x(). X # c",
+            Status::Fine,
+            "roles A, B\nprotocol rec X0. A->B:x(). X0\n",
+        ),
+        (
+            show,
+            "roles A, B protocol rec X. rec Y. A->B{a(). X, b(nat). Y}",
+            Status::Fine,
+            "roles A, B\nprotocol rec X0. A->B{a(). X0, b(nat). X0}\n",
+        ),
+        (
+            show,
+            "roles A, B protocol A->B{x(unit). end}",
+            Status::Fine,
+            "roles A, B\nprotocol A->B:x(). end\n",
+        ),
         (project, BUFFER, Status::Fine, BUFFER_TABLES),
-        (show, "roles K, S, T\nprotocol rec X. K->S:ready(). T->K:ready(). S->K{copy(bytes). K->T:copy(bytes). X, stop(). K->S:ready(). K->T:stop(). end}\nmachine K: S!ready(). rec X. S!ready(). T?ready(). S?{copy(bytes). T!copy(bytes). X, stop(). T!stop(). end}\n", Status::Fine, "roles K, S, T\nprotocol rec X0. K->S:ready(). T->K:ready(). S->K{copy(bytes). K->T:copy(bytes). X0, stop(). K->S:ready(). K->T:stop(). end}\nmachine K: S!ready(). rec X1. S!ready(). T?ready(). S?{copy(bytes). T!copy(bytes). X1, stop(). T!stop(). end}\n"),
+        (
+            show,
+            "roles K, S, T\nprotocol rec X. K->S:ready(). T->K:ready(). S->K{copy(bytes). K->T:copy(bytes). X, stop(). K->S:ready(). K->T:stop(). end}\nmachine K: S!ready(). rec X. S!ready(). T?ready(). S?{copy(bytes). T!copy(bytes). X, stop(). T!stop(). end}\n",
+            Status::Fine,
+            "roles K, S, T\nprotocol rec X0. K->S:ready(). T->K:ready(). S->K{copy(bytes). K->T:copy(bytes). X0, stop(). K->S:ready(). K->T:stop(). end}\nmachine K: S!ready(). rec X1. S!ready(). T?ready(). S?{copy(bytes). T!copy(bytes). X1, stop(). T!stop(). end}\n",
+        ),
     ] {
         let (found, bytes) = answer(&rt, alloc, words, text.as_bytes())?;
         assert_eq!(rt; found, status, "{text}");
@@ -173,18 +385,74 @@ fn limits_hold_at_their_last_value(rt: HostRuntime) -> Result<(), Fail> {
     let alloc = rt.alloc();
     let talks = "roles A, B, C, D\nprotocol ";
     for (text, status, written) in [
-        (repeated(alloc, talks, "A->B:x(). C->D:x(). ", 512, "end")?, Status::Fine, "accepted\nA: nodes 513 pending 0 rank 0\nB: nodes 1025 pending 1 rank 0\nC: nodes 513 pending 0 rank 0\nD: nodes 1025 pending 1 rank 0\nroom 3\n"),
-        (repeated(alloc, talks, "A->B:x(). C->D:x(). ", 512, "A->B:x(). end")?, Status::TooLarge, "too large: nodes\n"),
-        (repeated(alloc, "roles A, B\nprotocol ", "A->B:x(). ", 1_024, "end")?, Status::TooLarge, "too large: projection A\n"),
-        (repeated(alloc, "roles A, B\nprotocol ", "A->B:x(). ", 1_023, "end")?, Status::Fine, "accepted\nA: nodes 1024 pending 0 rank 0\nB: nodes 2047 pending 1 rank 0\nroom 3\n"),
-        (many_arms(alloc, 32)?, Status::Fine, "accepted\nA: nodes 2 pending 0 rank 0\nB: nodes 34 pending 1 rank 0\nroom 3\n"),
+        (
+            repeated(alloc, talks, "A->B:x(). C->D:x(). ", 512, "end")?,
+            Status::Fine,
+            "accepted\nA: nodes 513 pending 0 rank 0\nB: nodes 1025 pending 1 rank 0\nC: nodes 513 pending 0 rank 0\nD: nodes 1025 pending 1 rank 0\nroom 3\n",
+        ),
+        (
+            repeated(alloc, talks, "A->B:x(). C->D:x(). ", 512, "A->B:x(). end")?,
+            Status::TooLarge,
+            "too large: nodes\n",
+        ),
+        (
+            repeated(alloc, "roles A, B\nprotocol ", "A->B:x(). ", 1_024, "end")?,
+            Status::TooLarge,
+            "too large: projection A\n",
+        ),
+        (
+            repeated(alloc, "roles A, B\nprotocol ", "A->B:x(). ", 1_023, "end")?,
+            Status::Fine,
+            "accepted\nA: nodes 1024 pending 0 rank 0\nB: nodes 2047 pending 1 rank 0\nroom 3\n",
+        ),
+        (
+            many_arms(alloc, 32)?,
+            Status::Fine,
+            "accepted\nA: nodes 2 pending 0 rank 0\nB: nodes 34 pending 1 rank 0\nroom 3\n",
+        ),
         (many_arms(alloc, 33)?, Status::TooLarge, "too large: arms\n"),
-        (repeated(alloc, "roles A, B\nprotocol ", "rec X. ", 200, "A->B:x(). X")?, Status::Fine, "accepted\nA: nodes 1 pending 0 rank 0\nB: nodes 2 pending 1 rank 0\nroom 3\n"),
-        (repeated(alloc, "roles A, B\nprotocol ", "rec X. ", 201, "A->B:x(). X")?, Status::TooLarge, "too large: nesting\n"),
-        (repeated(alloc, SESSION, " ", 1_048_576 - 44, "")?, Status::Fine, REPORT),
-        (repeated(alloc, SESSION, " ", 1_048_577 - 44, "")?, Status::TooLarge, "too large: text\n"),
-        (many_sets(alloc, "")?, Status::Fine, "accepted\np: nodes 2048 pending 1 rank 0\nq: nodes 66 pending 0 rank 0\nr: nodes 4 pending 1 rank 0\nroom 3\n"),
-        (many_sets(alloc, "q->p:a(). ")?, Status::TooLarge, "too large: projection p\n"),
+        (
+            repeated(
+                alloc,
+                "roles A, B\nprotocol ",
+                "rec X. ",
+                200,
+                "A->B:x(). X",
+            )?,
+            Status::Fine,
+            "accepted\nA: nodes 1 pending 0 rank 0\nB: nodes 2 pending 1 rank 0\nroom 3\n",
+        ),
+        (
+            repeated(
+                alloc,
+                "roles A, B\nprotocol ",
+                "rec X. ",
+                201,
+                "A->B:x(). X",
+            )?,
+            Status::TooLarge,
+            "too large: nesting\n",
+        ),
+        (
+            repeated(alloc, SESSION, " ", 1_048_576 - 44, "")?,
+            Status::Fine,
+            REPORT,
+        ),
+        (
+            repeated(alloc, SESSION, " ", 1_048_577 - 44, "")?,
+            Status::TooLarge,
+            "too large: text\n",
+        ),
+        (
+            many_sets(alloc, "")?,
+            Status::Fine,
+            "accepted\np: nodes 2048 pending 1 rank 0\nq: nodes 66 pending 0 rank 0\nr: nodes 4 pending 1 rank 0\nroom 3\n",
+        ),
+        (
+            many_sets(alloc, "q->p:a(). ")?,
+            Status::TooLarge,
+            "too large: projection p\n",
+        ),
     ] {
         let (found, bytes) = answer(&rt, alloc, &["check"], text.as_bytes())?;
         assert_eq!(rt; found, status, "{written}");
