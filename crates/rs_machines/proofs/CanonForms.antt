@@ -71,7 +71,7 @@ act_back p n i (Takes s arms) le e h =
     let f = any_stands Arm (leads_to n) arms h in
     record { state = i; behind = le; mark = mark.Takes; peer = s; arms = arms; acts = e; place = f.0; arm = f.1; stands = f.2; leads = eqb-true f.1.next n f.3 }
 
-leads_as : (n : ℕ) (m : Mark) (p : Role) (arms : List Arm) → act_leads n (state_of m p arms) ≡ list_any (leads_to n) arms
+pub leads_as : (n : ℕ) (m : Mark) (p : Role) (arms : List Arm) → act_leads n (state_of m p arms) ≡ list_any (leads_to n) arms
 leads_as n mark.Puts p arms = refl
 leads_as n mark.Takes p arms = refl
 

@@ -18,7 +18,7 @@ use Rattle.rs_machines.specs.Canonical.{IsMachineTextShaped}
 use Rattle.rs_machines.specs.Enough.{AreEnoughFor}
 use Rattle.rs_machines.specs.Machines.{state_of, role_of, first_state, arm_of, act_of, Numbering, numbering, label_of, labels_of, labels_of_arms, arms_of, states_of, states_of_arms, done_of, has_end, acts_in, names_of, machine_of}
 use Rattle.rs_machines.specs.Spells.{Fits, SpellsMachine}
-use Rattle.rs_machines.proofs.Shapes.{Good, tree_good, peer_known}
+use Rattle.rs_machines.proofs.SpeltShapes.{Good, tree_good, peer_known}
 use Rattle.rs_machines.specs.Trees.{Body, ends, again, binds, acts, offers, Branches, one, more, MachineTree}
 
 two : (p q : Bool) → (p && q) ≡ true → (p ≡ true) × (q ≡ true)

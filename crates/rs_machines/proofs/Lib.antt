@@ -19,7 +19,7 @@ pub mod Placing
 pub mod Refusals
 pub mod Examples
 pub mod TreeLabels
-pub mod Shapes
+pub mod SpeltShapes
 pub mod Acts
 pub mod CanonForms
 pub mod Existence
@@ -34,3 +34,7 @@ pub mod CanonNumbers
 pub mod CanonWhole
 pub mod Printed
 pub mod BackFlags
+pub mod PlainNames
+pub mod ShapeSteps
+pub mod ShapeGoes
+pub mod ShapeGrown
