@@ -38,3 +38,4 @@ pub mod PlainNames
 pub mod ShapeSteps
 pub mod ShapeGoes
 pub mod ShapeGrown
+pub mod ShapeWhole
