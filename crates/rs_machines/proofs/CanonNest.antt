@@ -1,5 +1,5 @@
 -- The canonical text of a machine nests no deeper than a text that spells it.
-use Rattle.std.proofs.Common.{◌≡◌, ◌≢◌, ℕ, zero, suc, ◌+◌, ◌<◌, ◌≤◌, List, [], ◌∷◌, ◌++◌, length, Bool, true, false, ◌==◌, ◌&&◌, ◌||◌, if◌then◌else◌, nat_lt, Option, Some, None, inl, inr, refl, sym, ap, ◌∙◌, subst, arith, slice_get, append_assoc, length-append}
+use Rattle.std.proofs.Common.{◌≡◌, ◌≢◌, ℕ, zero, suc, ◌+◌, ◌<◌, ◌≤◌, List, [], ◌∷◌, ◌++◌, length, Bool, true, false, ◌==◌, ◌&&◌, ◌||◌, if◌then◌else◌, nat_lt, Option, Some, None, inl, inr, refl, sym, ap, ◌∙◌, subst, arith, slice_get}
 use Rattle.std.specs.Str.{bytes_eq}
 use Rattle.std.proofs.lemmas.Bool.{ltb-true, lt-ltb, eq-eqb, le-ltb}
 use Rattle.std.proofs.lemmas.Bool.Decides.{eqb_tells}
@@ -11,11 +11,10 @@ use Rattle.rs_machines.specs.declared.marks.Mark.{Mark}
 use Rattle.rs_machines.specs.declared.marks.Mark.TheVariants as mark
 use Rattle.rs_model.specs.declared.graph.Role.{Role}
 use Rattle.rs_model.specs.declared.values.Sort.{Sort}
-use Rattle.rs_text.proofs.Gaps.{true_or_false}
 use Rattle.rs_text.proofs.Naming.{grown_append, grown_among}
 use Rattle.rs_text.specs.Names.{Bound, bound_to, number_or, grown, is_among}
 use Rattle.rs_machines.specs.Trees.{Body, ends, again, binds, acts, offers, Branches, one, more}
-use Rattle.rs_machines.specs.Machines.{state_of, role_of, labels_of, labels_of_arms, acts_in, acts_in_arms, Numbering, first_state, arm_of, arms_of, act_of, states_of, states_of_arms, done_of}
+use Rattle.rs_machines.specs.Machines.{state_of, role_of, labels_of, labels_of_arms, acts_in, acts_in_arms, Numbering, first_state, arm_of, arms_of, states_of, states_of_arms, done_of}
 use Rattle.rs_machines.specs.Scenes.{Scene, with_label, in_act, in_braces, in_rec, behind}
 use Rattle.rs_machines.specs.Spells.{is_guarded, has_room_for, body_fits, arms_fit}
 use Rattle.rs_machines.specs.Canonical.{name_of_state, IsGoneBackTo}

@@ -1,19 +1,15 @@
 -- The canonical form of a body has the same graph.
-use Rattle.std.proofs.Common.{◌≡◌, ◌≢◌, ℕ, zero, suc, ◌+◌, ◌-◌, ◌<◌, ◌≤◌, ◌^◌, List, [], ◌∷◌, ◌++◌, length, map, Bool, true, false, ◌||◌, if◌then◌else◌, nat_lt, Option, Some, None, inl, inr, refl, sym, ap, ◌∙◌, subst, arith, slice_get, append_assoc, append-nil, length-append}
+use Rattle.std.proofs.Common.{◌≡◌, ◌≢◌, ℕ, suc, ◌+◌, ◌<◌, ◌≤◌, ◌^◌, List, [], ◌∷◌, ◌++◌, length, map, Bool, true, false, ◌||◌, if◌then◌else◌, Option, Some, None, refl, sym, ap, ◌∙◌, arith, slice_get, append_assoc, length-append}
 use Rattle.std.specs.Fmt.{decimal}
-use Rattle.std.specs.Prelude.{codes}
 use Rattle.std.specs.Str.{bytes_eq}
 use Rattle.std.proofs.lemmas.Bool.{ltb-true}
 use Rattle.std.proofs.lemmas.List.{map-append}
 use Rattle.std.proofs.lemmas.Slice.Eq.{bytes_eq-Decides}
-use Rattle.rs_model.specs.Data.{Machine_data, Names_data}
+use Rattle.rs_model.specs.Data.{Machine_data}
 use Rattle.rs_model.specs.declared.graph.Arm.{Arm}
 use Rattle.rs_model.specs.declared.machines.State.{State}
-use Rattle.rs_model.specs.declared.machines.State.TheVariants.{Done}
-use Rattle.rs_model.specs.declared.graph.Role.{Role}
 use Rattle.rs_model.specs.declared.values.Sort.{Sort}
 use Rattle.rs_model.specs.declared.values.Sort.TheVariants as sort
-use Rattle.rs_text.proofs.Gaps.{true_or_false}
 use Rattle.rs_text.proofs.Values.{decimal_reads}
 use Rattle.rs_text.specs.Arms.{sort_or_unit}
 use Rattle.rs_text.specs.Lexemes.{value_of}
@@ -21,8 +17,8 @@ use Rattle.rs_text.specs.Names.{Bound, bound_to, number_or}
 use Rattle.rs_machines.specs.Trees.{Body, ends, again, binds, acts, offers, Branches, one, more}
 use Rattle.rs_machines.specs.Machines.{state_of, labels_of, labels_of_arms, acts_in, acts_in_arms, has_end, has_end_arms, Numbering, role_of, label_of, first_state, arm_of, arms_of, act_of, states_of, states_of_arms}
 use Rattle.rs_machines.specs.Spells.{is_guarded}
-use Rattle.rs_machines.specs.Canonical.{name_of_state, shown_sort, IsGoneBackTo}
-use Rattle.rs_machines.proofs.CanonForms.{goes_back, back_is, is_back, seam, Writing, role_as, label_as, sort_as, wrapped, offered, canon, canon_arms, Named, NamedArms, Low, low_rec, low_up, Ins, ins_rec, HasRole, HasLabel, HasNames, HasNamesArms}
+use Rattle.rs_machines.specs.Canonical.{name_of_state, shown_sort}
+use Rattle.rs_machines.proofs.CanonForms.{goes_back, is_back, Writing, role_as, label_as, sort_as, wrapped, offered, canon, canon_arms, Named, NamedArms, Low, low_rec, low_up, Ins, ins_rec, HasRole, HasLabel, HasNames, HasNamesArms}
 use Rattle.rs_machines.specs.declared.marks.Mark.{Mark}
 use Rattle.rs_machines.proofs.Existence.{one_longer, at_seam, states_length}
 

@@ -1,5 +1,5 @@
 -- Names by number: a letter and the decimal digits.
-use Rattle.std.proofs.Common.{◌≡◌, ◌≢◌, ℕ, zero, suc, ◌+◌, ◌<◌, ◌≤◌, ◌^◌, List, [], ◌∷◌, ◌++◌, length, Bool, true, false, ◌&&◌, ◌||◌, nat_le, not, if◌then◌else◌, Option, Some, None, inl, inr, refl, sym, ap, ◌∙◌, subst, arith, slice_get, length-append}
+use Rattle.std.proofs.Common.{◌≡◌, ℕ, zero, suc, ◌+◌, ◌<◌, ◌≤◌, ◌^◌, List, [], ◌∷◌, ◌++◌, length, Bool, true, false, ◌&&◌, ◌||◌, nat_le, if◌then◌else◌, Some, inl, inr, refl, sym, ap, ◌∙◌, arith, slice_get, length-append}
 use Rattle.std.proofs.lemmas.Bool.Decides.{leb_tells}
 use Rattle.std.proofs.lemmas.Fmt.{length-decimal-le}
 use Rattle.std.proofs.lemmas.List.Folds.{list_all-append}
@@ -11,10 +11,10 @@ use Rattle.rs_text.proofs.Naming.{place_law, grown_differ}
 use Rattle.rs_text.proofs.Values.{decimal_reads}
 use Rattle.rs_text.specs.Bytes.{is_letter, is_digit, is_word_byte}
 use Rattle.rs_text.specs.Lexemes.{value_of}
-use Rattle.rs_text.specs.Names.{number_or, grown, is_among, place_of, StandsFirst}
+use Rattle.rs_text.specs.Names.{grown, is_among, place_of}
 use Rattle.rs_text.specs.Sound.{differ}
 use Rattle.rs_text.specs.Words.{is_word, is_role_word}
-use Rattle.rs_machines.proofs.CanonNumbers.{among_at, at_among}
+use Rattle.rs_machines.proofs.CanonNumbers.{among_at}
 
 -- the n-th name with a letter
 abbrev pub plain_name : ℕ → ℕ → List ℕ
@@ -50,9 +50,9 @@ some_text x y h = cc
 by_last : (letter n i : ℕ) → i < suc n → (i < n → slice_get (plain_names letter n) i ≡ Some (plain_name letter i)) → slice_get (plain_names letter (suc n)) i ≡ Some (plain_name letter i)
 by_last letter n i lt f = elim (leb_tells n i) [
   | inl e ↦ (
-    let le : n ≤ i = e.1 in
-    let same : i ≡ n = omega arith in
-    ap (λ z. slice_get (plain_names letter (suc n)) z) (same ∙ sym (plain_count letter n)) ∙ behind_stands (plain_names letter n) (plain_name letter n) ∙ ap (λ z. Some (plain_name letter z)) (sym same))
+      let le : n ≤ i = e.1 in
+      let same : i ≡ n = omega arith in
+      ap (λ z. slice_get (plain_names letter (suc n)) z) (same ∙ sym (plain_count letter n)) ∙ behind_stands (plain_names letter n) (plain_name letter n) ∙ ap (λ z. Some (plain_name letter z)) (sym same))
   | inr e ↦ front_stands (plain_names letter n) (plain_name letter n ∷ []) i (plain_name letter i) (f e.1)
 ]
 
@@ -64,17 +64,17 @@ pub plain_place : (letter n i : ℕ) → i < n → n < 2 ^ 64 → place_of (plai
 plain_place letter n i lt small = (place_law (plain_name letter i) (plain_names letter n) i).1 (record {
   there = plain_stands letter n i lt;
   first = λ k below same. let e : plain_name letter k ≡ plain_name letter i = some_text (plain_name letter k) (plain_name letter i) (sym (plain_stands letter n k (omega arith)) ∙ same) in
-  let number : k ≡ i = plain_is letter k i (omega arith) (omega arith) e in omega arith;
+      let number : k ≡ i = plain_is letter k i (omega arith) (omega arith) e in omega arith;
 })
 
 pub plain_new : (letter n : ℕ) → n < 2 ^ 64 → is_among (plain_name letter n) (plain_names letter n) ≡ false
 plain_new letter n small = elim (true_or_false (is_among (plain_name letter n) (plain_names letter n))) [
   | inl e ↦ (
-    let j = among_at (plain_names letter n) (plain_name letter n) e in
-    let lt : j.0 < length (plain_names letter n) = slice_get_within (plain_names letter n) j.0 (plain_name letter n) j.1 in
-    let count : length (plain_names letter n) ≡ n = plain_count letter n in
-    let same : plain_name letter j.0 ≡ plain_name letter n = some_text (plain_name letter j.0) (plain_name letter n) (sym (plain_stands letter n j.0 (omega arith)) ∙ j.1) in
-    let number : j.0 ≡ n = plain_is letter j.0 n (omega arith) small same in absurd (omega arith))
+      let j = among_at (plain_names letter n) (plain_name letter n) e in
+      let lt : j.0 < length (plain_names letter n) = slice_get_within (plain_names letter n) j.0 (plain_name letter n) j.1 in
+      let count : length (plain_names letter n) ≡ n = plain_count letter n in
+      let same : plain_name letter j.0 ≡ plain_name letter n = some_text (plain_name letter j.0) (plain_name letter n) (sym (plain_stands letter n j.0 (omega arith)) ∙ j.1) in
+      let number : j.0 ≡ n = plain_is letter j.0 n (omega arith) small same in absurd (omega arith))
   | inr e ↦ e
 ]
 

@@ -1,27 +1,23 @@
 -- The walk over the graph that a tree spells goes to its end.
-use Rattle.std.proofs.Common.{◌≡◌, ◌≢◌, ℕ, zero, suc, ◌+◌, ◌-◌, ◌<◌, ◌≤◌, List, [], ◌∷◌, ◌++◌, length, drop, Bool, true, false, not, ◌==◌, ◌&&◌, ◌||◌, if◌then◌else◌, nat_lt, nat_le, Option, Some, None, ◌⊎◌, inl, inr, refl, sym, ap, ◌∙◌, subst, arith, slice_get, append_assoc, append-nil, length-append}
+use Rattle.std.proofs.Common.{◌≡◌, ◌≢◌, ℕ, zero, suc, ◌+◌, ◌<◌, ◌≤◌, List, [], ◌∷◌, ◌++◌, length, drop, Bool, true, false, ◌==◌, ◌&&◌, ◌||◌, if◌then◌else◌, nat_lt, Option, Some, None, inl, inr, refl, sym, ap, ◌∙◌, arith, slice_get, append_assoc, length-append}
 use Rattle.std.proofs.lemmas.Bool.{ltb-true, lt-ltb, eq-eqb, le-ltb, le-leb}
 use Rattle.std.proofs.lemmas.Bool.Decides.{eqb_tells}
 use Rattle.std.proofs.lemmas.List.Folds.{list_any-append}
-use Rattle.std.proofs.lemmas.Option.{slice_get_within}
 use Rattle.std.proofs.Math.Seq.{drop-append_seam}
 use Rattle.std.specs.List.{list_any}
 use Rattle.std.specs.Str.{bytes_eq}
 use Rattle.rs_model.specs.Data.{Machine_data}
 use Rattle.rs_model.specs.declared.graph.Arm.{Arm}
 use Rattle.rs_model.specs.declared.machines.State.{State}
-use Rattle.rs_model.specs.declared.machines.State.TheVariants.{Done, Puts, Takes}
 use Rattle.rs_machines.specs.declared.marks.Mark.{Mark}
 use Rattle.rs_machines.specs.declared.marks.Mark.TheVariants as mark
 use Rattle.rs_model.specs.declared.graph.Role.{Role}
-use Rattle.rs_model.specs.declared.values.Sort.{Sort}
-use Rattle.rs_text.proofs.Gaps.{true_or_false}
-use Rattle.rs_text.specs.Names.{Bound, bound_to, number_or, grown, is_among, place_of}
+use Rattle.rs_text.specs.Names.{Bound, bound_to, number_or, grown, is_among}
 use Rattle.rs_machines.specs.declared.shapes.Walk.{Walk}
 use Rattle.rs_machines.specs.Trees.{Body, ends, again, binds, acts, offers, Branches, one, more}
-use Rattle.rs_machines.specs.Machines.{state_of, labels_of, labels_of_arms, acts_in, acts_in_arms, has_end, has_end_arms, Numbering, role_of, label_of, first_state, arm_of, arms_of, act_of, states_of, states_of_arms}
+use Rattle.rs_machines.specs.Machines.{state_of, labels_of, acts_in, acts_in_arms, has_end, has_end_arms, Numbering, role_of, first_state, arm_of, arms_of, act_of, states_of, states_of_arms}
 use Rattle.rs_machines.specs.Spells.{is_guarded, has_room_for, body_fits, arms_fit}
-use Rattle.rs_machines.specs.Shapes.{leads_to, act_leads, leads_from, last_of, met, or_none, arms_met, closed, deeper, are_more, is_none, nested, is_fit, one_more, act_met, state_met, visited, to_end}
+use Rattle.rs_machines.specs.Shapes.{leads_to, act_leads, leads_from, last_of, met, or_none, arms_met, closed, deeper, are_more, is_none, nested, is_fit, one_more, act_met, state_met, visited}
 use Rattle.rs_machines.proofs.CanonForms.{Low, low_rec, low_up, Ins, ins_rec, both, Named, NamedArms, leads_as}
 use Rattle.rs_machines.proofs.CanonNest.{Recs, RecsArms, scene}
 use Rattle.rs_machines.proofs.Existence.{states_length, arms_length, one_longer, at_seam}

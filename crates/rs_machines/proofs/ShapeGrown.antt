@@ -1,9 +1,9 @@
 -- What the walk has met is the machine of a tree.
-use Rattle.std.proofs.Common.{◌≡◌, ◌≢◌, ℕ, zero, suc, ◌+◌, ◌-◌, ◌<◌, ◌≤◌, ◌^◌, List, [], ◌∷◌, ◌++◌, length, drop, Bool, true, false, not, ◌==◌, ◌&&◌, ◌||◌, if◌then◌else◌, nat_lt, nat_le, Option, Some, None, inl, inr, refl, sym, ap, ◌∙◌, subst, arith, slice_get, append_assoc}
+use Rattle.std.proofs.Common.{◌≡◌, ◌≢◌, ℕ, zero, suc, ◌+◌, ◌-◌, ◌<◌, ◌≤◌, ◌^◌, List, [], ◌∷◌, ◌++◌, length, drop, Bool, true, false, ◌==◌, ◌&&◌, ◌||◌, if◌then◌else◌, nat_lt, nat_le, Option, Some, None, inl, inr, refl, sym, ap, ◌∙◌, subst, arith, slice_get, append_assoc}
 use Rattle.std.proofs.lemmas.Bool.{ltb-true, ltb-false, lt-ltb, eq-eqb, eqb-true, leb-true}
 use Rattle.std.proofs.lemmas.Bool.Decides.{eqb_tells}
 use Rattle.std.proofs.lemmas.Slice.Eq.{bytes_eq-Decides}
-use Rattle.std.specs.List.{list_all, list_any}
+use Rattle.std.specs.List.{list_all}
 use Rattle.std.specs.Str.{bytes_eq}
 use Rattle.rs_model.specs.Data.{Machine_data, Names_data}
 use Rattle.rs_model.specs.declared.graph.Arm.{Arm}
@@ -16,16 +16,16 @@ use Rattle.rs_text.proofs.Gaps.{true_or_false}
 use Rattle.rs_text.proofs.Naming.{grown_append, among}
 use Rattle.rs_text.specs.Arms.{sort_or_unit}
 use Rattle.rs_text.specs.Names.{Bound, bound_to, number_or, grown, is_among, place_of}
-use Rattle.rs_text.specs.Words.{is_word, is_role_word}
+use Rattle.rs_text.specs.Words.{is_role_word}
 use Rattle.rs_machines.specs.declared.marks.Mark.{Mark}
 use Rattle.rs_machines.specs.declared.marks.Mark.TheVariants as mark
 use Rattle.rs_machines.specs.declared.shapes.Walk.{Walk}
-use Rattle.rs_machines.specs.Trees.{Body, ends, again, binds, acts, offers, Branches, one, more}
-use Rattle.rs_machines.specs.Machines.{state_of, labels_of, labels_of_arms, acts_in, acts_in_arms, has_end, has_end_arms, Numbering, role_of, label_of, first_state, arm_of, arms_of, act_of, states_of, states_of_arms}
+use Rattle.rs_machines.specs.Trees.{Body, ends, again, Branches, one, more}
+use Rattle.rs_machines.specs.Machines.{state_of, labels_of, labels_of_arms, acts_in, acts_in_arms, has_end, has_end_arms, Numbering, role_of, first_state, arm_of, arms_of, states_of, states_of_arms}
 use Rattle.rs_machines.specs.Spells.{is_guarded, has_room_for, body_fits, arms_fit}
 use Rattle.rs_machines.specs.Canonical.{name_of_state, shown_sort}
 use Rattle.rs_machines.specs.Writable.{AreWordsIn, AreWordsInArms}
-use Rattle.rs_machines.specs.Shapes.{is_small_arm, leads_to, act_leads, leads_from, last_of, met, or_none, arms_met, closed, deeper, are_more, is_none, nested, is_fit, one_more, act_met, state_met, visited, to_end}
+use Rattle.rs_machines.specs.Shapes.{is_small_arm, leads_to, act_leads, leads_from, last_of, met, or_none, arms_met, closed, deeper, are_more, nested, is_fit, one_more, act_met, state_met, visited, to_end}
 use Rattle.rs_machines.proofs.CanonForms.{any_stands, stands_any, drop_get, wrapped, offered, both, leads_as}
 use Rattle.rs_machines.proofs.CanonNest.{scene, all_true, wrapped_fits}
 use Rattle.rs_machines.proofs.CanonSame.{state_name_is, opened_for, wrapped_acts, offered_acts, wrapped_end, offered_end, wrapped_labels, offered_labels, wrapped_states, wrapped_first, offered_states, offered_first, sort_same}
@@ -194,24 +194,24 @@ pub met_grown : (p : Machine_data) (names : Names_data) (bound : Bound) (depth :
     → (to < from → bound_to (name_of_state to) bound ≡ Some to) → met visit (last_of p.states) from to w ≡ Some u → Grown p names bound depth w u to
 met_grown p names bound depth visit from to w u plain grows le within named back h = elim (true_or_false (nat_lt to from)) [
   | inl e ↦ (
-    let lt : to < from = ltb-true to from e in
-    let same : w ≡ u = walk_some w u (sym (if_true (nat_lt to from) (Some w) (if to == w.count && nat_lt to (last_of p.states) then visit to w else to_end (last_of p.states) to w) e) ∙ h) in
-    subst (λ (z : Walk). Grown p names bound depth w z to) same (back_grown p names bound depth to w plain (omega arith) within (back lt)))
+      let lt : to < from = ltb-true to from e in
+      let same : w ≡ u = walk_some w u (sym (if_true (nat_lt to from) (Some w) (if to == w.count && nat_lt to (last_of p.states) then visit to w else to_end (last_of p.states) to w) e) ∙ h) in
+      subst (λ (z : Walk). Grown p names bound depth w z to) same (back_grown p names bound depth to w plain (omega arith) within (back lt)))
   | inr e ↦ (
-    let h2 = sym (if_false (nat_lt to from) (Some w) (if to == w.count && nat_lt to (last_of p.states) then visit to w else to_end (last_of p.states) to w) e) ∙ h in
-    elim (true_or_false (to == w.count && nat_lt to (last_of p.states))) [
-      | inl f ↦ (
-        let q = both (to == w.count) (nat_lt to (last_of p.states)) f in
-        grows to w u (eqb-true to w.count q.0) (ltb-true to (last_of p.states) q.1) named (sym (if_true (to == w.count && nat_lt to (last_of p.states)) (visit to w) (to_end (last_of p.states) to w) f) ∙ h2))
-      | inr f ↦ (
-        let h3 = sym (if_false (to == w.count && nat_lt to (last_of p.states)) (visit to w) (to_end (last_of p.states) to w) f) ∙ h2 in
-        elim (true_or_false (to == last_of p.states)) [
-          | inl i ↦ (
-            let same : record w { ended = true } ≡ u = walk_some (record w { ended = true }) u (sym (if_true (to == last_of p.states) (Some (record w { ended = true })) None i) ∙ h3) in
-            subst (λ (z : ℕ). Grown p names bound depth w u z) (sym (eqb-true to (last_of p.states) i)) (subst (λ (z : Walk). Grown p names bound depth w z (last_of p.states)) same (end_grown p names bound depth w within)))
-          | inr i ↦ absurd (not_some u (sym (if_false (to == last_of p.states) (Some (record w { ended = true })) None i) ∙ h3))
-        ])
-    ])
+      let h2 = sym (if_false (nat_lt to from) (Some w) (if to == w.count && nat_lt to (last_of p.states) then visit to w else to_end (last_of p.states) to w) e) ∙ h in
+      elim (true_or_false (to == w.count && nat_lt to (last_of p.states))) [
+        | inl f ↦ (
+            let q = both (to == w.count) (nat_lt to (last_of p.states)) f in
+            grows to w u (eqb-true to w.count q.0) (ltb-true to (last_of p.states) q.1) named (sym (if_true (to == w.count && nat_lt to (last_of p.states)) (visit to w) (to_end (last_of p.states) to w) f) ∙ h2))
+        | inr f ↦ (
+            let h3 = sym (if_false (to == w.count && nat_lt to (last_of p.states)) (visit to w) (to_end (last_of p.states) to w) f) ∙ h2 in
+            elim (true_or_false (to == last_of p.states)) [
+              | inl i ↦ (
+                  let same : record w { ended = true } ≡ u = walk_some (record w { ended = true }) u (sym (if_true (to == last_of p.states) (Some (record w { ended = true })) None i) ∙ h3) in
+                  subst (λ (z : ℕ). Grown p names bound depth w u z) (sym (eqb-true to (last_of p.states) i)) (subst (λ (z : Walk). Grown p names bound depth w z (last_of p.states)) same (end_grown p names bound depth w within)))
+              | inr i ↦ absurd (not_some u (sym (if_false (to == last_of p.states) (Some (record w { ended = true })) None i) ∙ h3))
+            ])
+      ])
 ]
 
 -- ---- arms
@@ -259,7 +259,7 @@ one_grown p names bound depth a w u plain small g =
       labels = ap (λ z. grown z (labels_of g.body)) same ∙ g.labels;
       ended = g.ended;
       fits = all_true (has_room_for l (scene names.roles bound depth w.count names.labels)) (body_fits g.body (scene names.roles bound depth w.count (grown names.labels (l ∷ []))))
-      (or_first (is_among l names.labels) (nat_lt (length names.labels) 256) known) (subst (λ (z : List (List ℕ)). body_fits g.body (scene names.roles bound depth w.count z) ≡ true) (sym same) g.fits);
+          (or_first (is_among l names.labels) (nat_lt (length names.labels) 256) known) (subst (λ (z : List (List ℕ)). body_fits g.body (scene names.roles bound depth w.count z) ≡ true) (sym same) g.fits);
       words = (plain_label a.label.0 (omega arith), g.words);
       shut = g.shut;
       shape = refl;
@@ -279,18 +279,18 @@ more_grown p names bound depth a b bs w x u plain small g r =
     record {
       branches = more l (shown_sort a.sort) g.body r.branches;
       are = ap (λ z. z ∷ arms_of (numbers p names) r.branches bound (w.count + acts_in g.body)) (arm_is p names a (first_state g.body bound w.count (last_of p.states)) plain lt g.first)
-      ∙ ap (λ z. a ∷ arms_of (numbers p names) r.branches bound z) counts ∙ ap (λ z. a ∷ z) r.are;
+          ∙ ap (λ z. a ∷ arms_of (numbers p names) r.branches bound z) counts ∙ ap (λ z. a ∷ z) r.are;
       parts = g.parts ∙ ap (λ z. states_of (numbers p names) g.body bound w.count ++ z) (r.parts ∙ ap (λ z. states_of_arms (numbers p names) r.branches bound z ++ drop u.count p.states) (sym counts))
-      ∙ sym (append_assoc (states_of (numbers p names) g.body bound w.count) (states_of_arms (numbers p names) r.branches bound (w.count + acts_in g.body)) (drop u.count p.states));
+          ∙ sym (append_assoc (states_of (numbers p names) g.body bound w.count) (states_of_arms (numbers p names) r.branches bound (w.count + acts_in g.body)) (drop u.count p.states));
       counts = omega arith;
       labels = grown_append (labels_of g.body) (labels_of_arms r.branches) (grown names.labels (l ∷ [])) ∙ ap (λ z. grown z (labels_of_arms r.branches)) labels ∙ r.labels;
       ended = r.ended ∙ ap (λ z. z || has_end_arms r.branches) g.ended ∙ or_assoc w.ended (has_end g.body) (has_end_arms r.branches);
       fits = all_true (has_room_for l (scene roles bound depth w.count names.labels) && body_fits g.body (scene roles bound depth w.count (grown names.labels (l ∷ []))))
-      (arms_fit r.branches (scene roles bound depth (w.count + acts_in g.body) (grown (grown names.labels (l ∷ [])) (labels_of g.body))))
-      (all_true (has_room_for l (scene roles bound depth w.count names.labels)) (body_fits g.body (scene roles bound depth w.count (grown names.labels (l ∷ []))))
-      (or_first (is_among l names.labels) (nat_lt (length names.labels) 256) known) (subst (λ (z : List (List ℕ)). body_fits g.body (scene roles bound depth w.count z) ≡ true) (sym same) g.fits))
-      (subst (λ (z : ℕ). arms_fit r.branches (scene roles bound depth z (grown (grown names.labels (l ∷ [])) (labels_of g.body))) ≡ true) (sym counts)
-      (subst (λ (z : List (List ℕ)). arms_fit r.branches (scene roles bound depth x.count z) ≡ true) (sym labels) r.fits));
+          (arms_fit r.branches (scene roles bound depth (w.count + acts_in g.body) (grown (grown names.labels (l ∷ [])) (labels_of g.body))))
+          (all_true (has_room_for l (scene roles bound depth w.count names.labels)) (body_fits g.body (scene roles bound depth w.count (grown names.labels (l ∷ []))))
+          (or_first (is_among l names.labels) (nat_lt (length names.labels) 256) known) (subst (λ (z : List (List ℕ)). body_fits g.body (scene roles bound depth w.count z) ≡ true) (sym same) g.fits))
+          (subst (λ (z : ℕ). arms_fit r.branches (scene roles bound depth z (grown (grown names.labels (l ∷ [])) (labels_of g.body))) ≡ true) (sym counts)
+          (subst (λ (z : List (List ℕ)). arms_fit r.branches (scene roles bound depth x.count z) ≡ true) (sym labels) r.fits));
       words = (plain_label a.label.0 (omega arith), g.words, r.words);
       shut = still_closed p w.count x.count u.count (omega arith) g.shut r.shut;
       shape = refl;
@@ -365,14 +365,14 @@ act_grown p names bound depth y s a arms w u plain there lt low free g =
       body = wrapped c n act;
       first = wrapped_first (last_of p.states) c n act bound ∙ offered_first (last_of p.states) peer y g.branches inner n;
       parts = drop_at p.states n (state_of y s (a ∷ arms)) there ∙ ap (λ z. state_of y s (a ∷ arms) ∷ z) g.parts
-      ∙ ap (λ z. z ++ drop u.count p.states) (sym (wrapped_states (numbers p names) c n act bound ∙ offered_states (numbers p names) peer y g.branches inner n
-      ∙ ap (λ z. z ∷ states_of_arms (numbers p names) g.branches inner (suc n)) (ap (λ z. state_of y z (arms_of (numbers p names) g.branches inner (suc n))) (role_numbered p names s plain few) ∙ ap (λ z. state_of y s z) g.are)));
+          ∙ ap (λ z. z ++ drop u.count p.states) (sym (wrapped_states (numbers p names) c n act bound ∙ offered_states (numbers p names) peer y g.branches inner n
+          ∙ ap (λ z. z ∷ states_of_arms (numbers p names) g.branches inner (suc n)) (ap (λ z. state_of y z (arms_of (numbers p names) g.branches inner (suc n))) (role_numbered p names s plain few) ∙ ap (λ z. state_of y s z) g.are)));
       counts = omega arith;
       labels = ap (λ z. grown names.labels z) (wrapped_labels c n act ∙ offered_labels peer y g.branches) ∙ g.labels;
       ended = g.ended ∙ ap (λ z. w.ended || z) (sym (wrapped_end c n act ∙ offered_end peer y g.branches));
       fits = wrapped_fits c n act roles bound depth names.labels (shallower c (are_more (a ∷ arms)) depth low)
-      (offered_fits g.branches peer y roles inner (deeper c depth) n names.labels (role_known p names s.0 plain few) (omega arith)
-      (subst (λ (z : Bool). deeper z (deeper c depth) ≤ 200) (sym g.shape) low) (subst (λ (z : Bool). arms_fit g.branches (scene roles inner (deeper z (deeper c depth)) (suc n) names.labels) ≡ true) (sym g.shape) g.fits));
+          (offered_fits g.branches peer y roles inner (deeper c depth) n names.labels (role_known p names s.0 plain few) (omega arith)
+          (subst (λ (z : Bool). deeper z (deeper c depth) ≤ 200) (sym g.shape) low) (subst (λ (z : Bool). arms_fit g.branches (scene roles inner (deeper z (deeper c depth)) (suc n) names.labels) ≡ true) (sym g.shape) g.fits));
       words = one_words c n act (omega arith) (offered_words g.branches peer y (plain_role s.0 (omega arith)) g.words);
       shut = λ v lo hi. elim (eqb_tells v n) [
         | inl e ↦ ap (λ z. leads_from p.states u.count z) e.1 ∙ free
@@ -400,20 +400,20 @@ whole_grown (a ∷ arms) p names bound depth visit y s w u plain grows there lt 
     let last : last_of p.states ≤ 256 = plain.last in
     elim (true_or_false (is_fit inner ours)) [
       | inl e ↦ (
-        let q = both (nat_le inner 200) true e in
-        let low : inner ≤ 200 = leb-true inner 200 q.0 in
-        let h2 = sym (if_true (is_fit inner ours) (or_none (closed p.states n) (arms_met (visit inner) (last_of p.states) (suc n) ours (one_more w))) None e) ∙ h in
-        let x = chained (closed p.states n) (arms_met (visit inner) (last_of p.states) (suc n) ours (one_more w)) u h2 in
-        let known : (v : ℕ) → v < suc n → leads_from p.states n v ≡ true → bound_to (name_of_state v) outer ≡ Some v =
-        λ v le lead. opened_names c n v bound (omega arith) (omega arith) (λ ne. named v (omega arith) lead) (λ same. ap (λ z. leads_from p.states n z) (sym same) ∙ lead) in
-        let g : GrownArms p names outer inner (one_more w) x.0 ours =
-        arms_grown arms p names outer inner (visit inner) (suc n) a (one_more w) x.0 plain (plain.labels n y s ours there) (grows outer inner low) (omega arith) (omega arith) (λ v le lead. known v le (later_leads p.states (suc n) n v (omega arith) lead)) (λ place b i le. known b.next le (arm_leads p.states n y s ours place b there i)) x.1 in
-        elim (true_or_false (leads_from p.states x.0.count n)) [
-          | inl f ↦ absurd (not_some u (sym (if_true (leads_from p.states x.0.count n) None (Some x.0) f) ∙ x.2))
-          | inr f ↦ (
-            let same : x.0 ≡ u = walk_some x.0 u (sym (if_false (leads_from p.states x.0.count n) None (Some x.0) f) ∙ x.2) in
-            subst (λ (z : Walk). Grown p names bound depth w z n) same (act_grown p names bound depth y s a arms w x.0 plain there lt low f g))
-        ])
+          let q = both (nat_le inner 200) true e in
+          let low : inner ≤ 200 = leb-true inner 200 q.0 in
+          let h2 = sym (if_true (is_fit inner ours) (or_none (closed p.states n) (arms_met (visit inner) (last_of p.states) (suc n) ours (one_more w))) None e) ∙ h in
+          let x = chained (closed p.states n) (arms_met (visit inner) (last_of p.states) (suc n) ours (one_more w)) u h2 in
+          let known : (v : ℕ) → v < suc n → leads_from p.states n v ≡ true → bound_to (name_of_state v) outer ≡ Some v =
+          λ v le lead. opened_names c n v bound (omega arith) (omega arith) (λ ne. named v (omega arith) lead) (λ same. ap (λ z. leads_from p.states n z) (sym same) ∙ lead) in
+          let g : GrownArms p names outer inner (one_more w) x.0 ours =
+          arms_grown arms p names outer inner (visit inner) (suc n) a (one_more w) x.0 plain (plain.labels n y s ours there) (grows outer inner low) (omega arith) (omega arith) (λ v le lead. known v le (later_leads p.states (suc n) n v (omega arith) lead)) (λ place b i le. known b.next le (arm_leads p.states n y s ours place b there i)) x.1 in
+          elim (true_or_false (leads_from p.states x.0.count n)) [
+            | inl f ↦ absurd (not_some u (sym (if_true (leads_from p.states x.0.count n) None (Some x.0) f) ∙ x.2))
+            | inr f ↦ (
+                let same : x.0 ≡ u = walk_some x.0 u (sym (if_false (leads_from p.states x.0.count n) None (Some x.0) f) ∙ x.2) in
+                subst (λ (z : Walk). Grown p names bound depth w z n) same (act_grown p names bound depth y s a arms w x.0 plain there lt low f g))
+          ])
       | inr e ↦ absurd (not_some u (sym (if_false (is_fit inner ours) (or_none (closed p.states n) (arms_met (visit inner) (last_of p.states) (suc n) ours (one_more w))) None e) ∙ h))
     ]
 

@@ -1,5 +1,5 @@
 -- The walk goes to its end exactly where some text reads to the machine.
-use Rattle.std.proofs.Common.{◌≡◌, ◌≢◌, ℕ, zero, suc, ◌+◌, ◌-◌, ◌<◌, ◌≤◌, ◌↔◌, List, [], ◌∷◌, ◌++◌, length, drop, Bool, true, false, not, ◌==◌, ◌&&◌, ◌||◌, if◌then◌else◌, nat_lt, nat_le, Option, Some, None, inl, inr, refl, sym, ap, ◌∙◌, subst, arith, slice_get, append-nil, length-append}
+use Rattle.std.proofs.Common.{◌≡◌, ℕ, zero, suc, ◌+◌, ◌-◌, ◌<◌, ◌≤◌, ◌↔◌, List, [], ◌∷◌, ◌++◌, length, drop, Bool, true, false, not, ◌==◌, ◌||◌, if◌then◌else◌, nat_le, Option, Some, None, inl, inr, refl, sym, ap, ◌∙◌, subst, arith, slice_get, append-nil, length-append}
 use Rattle.std.proofs.lemmas.List.{drop_all}
 use Rattle.std.proofs.lemmas.Bool.{eq-eqb, eqb-true, le-leb, leb-true, ltb-true}
 use Rattle.std.specs.Bool.{IsTrue}
@@ -11,17 +11,16 @@ use Rattle.rs_model.specs.declared.machines.State.{State}
 use Rattle.rs_model.specs.declared.machines.State.TheVariants.{Done, Puts, Takes}
 use Rattle.rs_text.proofs.Gaps.{true_or_false}
 use Rattle.rs_text.proofs.Naming.{among}
-use Rattle.rs_text.specs.Names.{Bound, bound_to, grown, place_of}
 use Rattle.rs_machines.specs.declared.marks.Mark.{Mark}
 use Rattle.rs_machines.specs.declared.marks.Mark.TheVariants as mark
 use Rattle.rs_machines.specs.declared.shapes.Walk.{Walk}
 use Rattle.rs_machines.specs.Canonical.{IsMachineTextShaped}
-use Rattle.rs_machines.specs.Machines.{state_of, labels_of, acts_in, has_end, Numbering, role_of, first_state, states_of, numbering, machine_of, names_of, done_of}
+use Rattle.rs_machines.specs.Machines.{state_of, acts_in, has_end, Numbering, first_state, states_of, numbering, machine_of, names_of, done_of}
 use Rattle.rs_machines.specs.Scenes.{first_scene}
-use Rattle.rs_machines.specs.Spells.{body_fits, Fits, SpellsMachine}
+use Rattle.rs_machines.specs.Spells.{Fits, SpellsMachine}
 use Rattle.rs_machines.specs.Shapes.{is_small_role, is_small_arm, is_small_state, are_small, act_leads, leads_from, is_end_at, ends_last, last_of, met, visited, same_bool, is_whole, begin, walks}
 use Rattle.rs_machines.specs.Texts.{machine_text}
-use Rattle.rs_machines.specs.Trees.{Body, MachineTree}
+use Rattle.rs_machines.specs.Trees.{MachineTree}
 use Rattle.rs_machines.specs.Writable.{AreWords}
 use Rattle.rs_machines.proofs.Acts.{is_act}
 use Rattle.rs_machines.proofs.CanonForms.{back_is, seam, both, fits_named}
@@ -208,8 +207,8 @@ has_text p names plain few w =
       fits = record { role = among names.roles (plain_name 82 p.role.0) 0 p.role.0 (plain.role_at p.role.0 few); body = g.fits };
       words = record { role = plain_role p.role.0 (omega arith); body = g.words };
       spells = ap (λ z. machine z (states_of (numbering names t) g.body [] 0 ++ done_of (has_end g.body)) (first_state g.body [] 0 (acts_in g.body))) (role_numbered p names p.role plain few)
-      ∙ ap (λ z. machine p.role z (first_state g.body [] 0 (acts_in g.body))) states
-      ∙ ap (λ z. machine p.role p.states z) (ap (λ z. first_state g.body [] 0 z) acts_are ∙ g.first);
+          ∙ ap (λ z. machine p.role z (first_state g.body [] 0 (acts_in g.body))) states
+          ∙ ap (λ z. machine p.role p.states z) (ap (λ z. first_state g.body [] 0 z) acts_are ∙ g.first);
     }
 
 shaped_with : (p : Machine_data) (names : Names_data) → Text p names → IsMachineTextShaped p

@@ -124,7 +124,3 @@ begin = record { count = 0; ended = false }
 -- whether the walk meets all acts, of which there aren't too many
 abbrev pub walks : Machine_data → Bool
 walks p = nat_le (last_of p.states) 256 && is_whole p (met (visited (suc (last_of p.states)) p 0) (last_of p.states) 0 p.start begin)
-
--- whether some text reads to the machine, whose roles and labels have small numbers
-abbrev pub is_shaped : Machine_data → Bool
-is_shaped p = are_small p && walks p

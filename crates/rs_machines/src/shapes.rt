@@ -18,7 +18,7 @@ pub struct Walk {
 pub fn machine_text_shaped(machine: &Machine) -> bool
     ensures { IsTrue result ↔ IsMachineTextShaped machine.now }
 {
-    are_small(machine) && is_shaped(machine)
+    are_small(machine) && walks(machine)
 }
 
 /// Whether there are names for its roles and labels, which is so by their types.
@@ -72,7 +72,7 @@ fn are_small_arms(arms: &[Arm]) -> bool
 }
 
 /// Whether a walk over the acts in order of text meets them all.
-fn is_shaped(machine: &Machine) -> bool
+fn walks(machine: &Machine) -> bool
     ensures { result ≡ spec.walks machine.now }
 {
     let last = last_of(machine.states.as_slice());
@@ -83,7 +83,10 @@ fn is_shaped(machine: &Machine) -> bool
         count: 0,
         ended: false,
     };
-    is_whole(machine, met(machine, last as u32 + 1, 0, 0, machine.start, begin))
+    is_whole(
+        machine,
+        met(machine, last as u32 + 1, 0, 0, machine.start, begin),
+    )
 }
 
 /// Whether all acts were met, and an end where there is one.
@@ -92,7 +95,8 @@ fn is_whole(machine: &Machine, walk: Option<Walk>) -> bool
 {
     let states = machine.states.as_slice();
     match walk {
-        Some(walk) => walk.count as usize == last_of(states) && same_bool(walk.ended, ends_last(states)),
+        Some(walk) => walk.count as usize == last_of(states)
+            && same_bool(walk.ended, ends_last(states)),
         None => false,
     }
 }

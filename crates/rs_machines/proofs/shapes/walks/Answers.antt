@@ -1,7 +1,7 @@
-use Rattle.std.proofs.Common.{◌≡◌, ◌+◌, suc, ◌≤◌, ℕ, sym, ap, ◌∙◌, subst, arith}
+use Rattle.std.proofs.Common.{◌≡◌, ◌+◌, ◌≤◌, ℕ, ap, ◌∙◌, subst, arith}
 use Rattle.rs_machines.specs.Shapes.{last_of, met, visited, begin}
 use Rattle.rs_machines.proofs.ShapeSteps.{walks_is}
-use Rattle.rs_machines.proofs.shapes.is_shaped.Goals as goal
+use Rattle.rs_machines.proofs.shapes.walks.Goals as goal
 
 pub returns : goal.returns
 returns c =
