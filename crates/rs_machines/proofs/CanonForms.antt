@@ -93,7 +93,7 @@ abbrev pub or_empty : Option (List ℕ) → List ℕ
 or_empty None = []
 or_empty (Some name) = name
 
--- how a text's names are numbered, the names that are written instead, and the states of its graph
+-- how a text's names are numbered, the names that are written instead, and the states of its machine
 pub record Writing : Type 0 where
   pub numbers : Numbering
   pub names : Names_data
@@ -113,7 +113,7 @@ abbrev pub wrapped : Bool → ℕ → Body → Body
 wrapped true k b = binds (name_of_state k) b
 wrapped false k b = b
 
--- one arm by a colon, more by braces
+-- one arm right behind the mark, more in braces
 abbrev pub offered : (s : List ℕ) (r : Mark) → Branches → Body
 offered s r (one l sort b) = acts s r l sort b
 offered s r (more l sort b arms) = offers s r (more l sort b arms)

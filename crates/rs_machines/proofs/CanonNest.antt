@@ -206,7 +206,7 @@ done_backs : (good : ℕ → Bool) (n : ℕ) (c : Bool) → Backs good n (done_o
 done_backs good n true = (tt, tt)
 done_backs good n false = tt
 
--- a rec stands in front of each act of the tree that is gone back to in its graph
+-- a rec stands in front of each act of the tree that is gone back to in its machine
 pub tree_recs : (m : Numbering) (p : Machine_data) (t : Body) (c : Bool) → p.states ≡ states_of m t [] 0 ++ done_of c → m.last ≡ acts_in t → Named t [] 0 → (back : ℕ → Bool) → ((v : ℕ) → back v ≡ true → IsGoneBackTo p v) → Recs back t false 0
 tree_recs m p t c e last named back is =
     let good : ℕ → Bool = rec_at t false 0 in
@@ -224,7 +224,7 @@ tree_recs m p t c e last named back is =
 abbrev pub scene : List (List ℕ) → Bound → (depth count : ℕ) → List (List ℕ) → Scene
 scene roles bound depth count labels = record { roles = roles; bound = bound; depth = depth; acts = count; labels = labels }
 
-deeper_within : (c here : Bool) (inner d : ℕ) → (c ≡ true → here ≡ true) → inner ≤ d → (here ≡ true → inner < d) → deeper c inner ≤ d
+pub deeper_within : (c here : Bool) (inner d : ℕ) → (c ≡ true → here ≡ true) → inner ≤ d → (here ≡ true → inner < d) → deeper c inner ≤ d
 deeper_within true here inner d f le lt = let h = lt (f refl) in omega arith
 deeper_within false here inner d f le lt = le
 
@@ -256,12 +256,12 @@ acts_fit x y l sort c roles named d k ls a few known h =
     all_true (is_among x roles && nat_lt k 256 && has_room_for l (scene roles named d k ls)) (body_fits c (scene roles named d (suc k) (grown ls (l ∷ []))))
     (all_true (is_among x roles && nat_lt k 256) (has_room_for l (scene roles named d k ls)) (all_true (is_among x roles) (nat_lt k 256) a (lt-ltb k 256 few)) (or_first (is_among l ls) (nat_lt (length ls) 256) known)) h
 
-offers_fit : (x : List ℕ) (y : Mark) (c : Branches) (roles : List (List ℕ)) (named : Bound) (d k : ℕ) (ls : List (List ℕ)) → is_among x roles ≡ true → k < 256 → d < 200 → arms_fit c (scene roles named (suc d) (suc k) ls) ≡ true → body_fits (offers x y c) (scene roles named d k ls) ≡ true
+pub offers_fit : (x : List ℕ) (y : Mark) (c : Branches) (roles : List (List ℕ)) (named : Bound) (d k : ℕ) (ls : List (List ℕ)) → is_among x roles ≡ true → k < 256 → d < 200 → arms_fit c (scene roles named (suc d) (suc k) ls) ≡ true → body_fits (offers x y c) (scene roles named d k ls) ≡ true
 offers_fit x y c roles named d k ls a few low h =
     all_true (is_among x roles && nat_lt k 256 && nat_lt d 200) (arms_fit c (scene roles named (suc d) (suc k) ls))
     (all_true (is_among x roles && nat_lt k 256) (nat_lt d 200) (all_true (is_among x roles) (nat_lt k 256) a (lt-ltb k 256 few)) (lt-ltb d 200 low)) h
 
-name_fits : (back : ℕ → Bool) (bound named : Bound) (k : ℕ) (x : List ℕ) (found : Option ℕ) → bound_to x bound ≡ found → Leads back found k → Inv back bound named k → is_guarded (bound_to (name_of_state (number_or found)) named) k ≡ true
+pub name_fits : (back : ℕ → Bool) (bound named : Bound) (k : ℕ) (x : List ℕ) (found : Option ℕ) → bound_to x bound ≡ found → Leads back found k → Inv back bound named k → is_guarded (bound_to (name_of_state (number_or found)) named) k ≡ true
 name_fits back bound named k x None e h inv = absurd h
 name_fits back bound named k x (Some m) e h inv = rw (inv x m e h.1 h.0) (lt-ltb m k h.0)
 

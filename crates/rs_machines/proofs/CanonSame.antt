@@ -1,4 +1,4 @@
--- The canonical form of a body has the same graph.
+-- The canonical form of a body has the same states.
 use Rattle.std.proofs.Common.{◌≡◌, ◌≢◌, ℕ, suc, ◌+◌, ◌<◌, ◌≤◌, ◌^◌, List, [], ◌∷◌, ◌++◌, length, map, Bool, true, false, ◌||◌, if◌then◌else◌, Option, Some, None, refl, sym, ap, ◌∙◌, arith, slice_get, append_assoc, length-append}
 use Rattle.std.specs.Fmt.{decimal}
 use Rattle.std.specs.Str.{bytes_eq}
@@ -156,7 +156,7 @@ mutual
       ∙ ap (λ z. label_as w l ∷ (map (label_as w) (labels_of b) ++ z)) (canon_arms_labels w arms bound (k + acts_in b))
       ∙ ap (λ z. label_as w l ∷ z) (sym (map-append (label_as w) (labels_of b) (labels_of_arms arms)))
 
--- ---- the same graph
+-- ---- the same states
 
 pub wrapped_states : (m : Numbering) (c : Bool) (k : ℕ) (b : Body) (named : Bound) → states_of m (wrapped c k b) named k ≡ states_of m b (opened_for c k named) k
 wrapped_states m true k b named = refl
@@ -262,7 +262,7 @@ mutual
         states = ap (λ z. z ++ states_of_arms m d named (k + acts_in c)) i.states ∙ ap (λ z. states_of w.numbers b bound k ++ states_of_arms m d named z) step ∙ ap (λ z. states_of w.numbers b bound k ++ z) o.states;
       }
 
--- ---- in the graph of a tree, names lead to acts that are gone back to
+-- ---- in the machine of a tree, names lead to acts that are gone back to
 
 fine_name : (p : Machine_data) (x : List ℕ) (bound : Bound) (from k : ℕ) (found : Option ℕ) → bound_to x bound ≡ found → is_guarded found k ≡ true → Ins bound from k → (number_or found < from → goes_back p.states (number_or found) ≡ true) → Leads (goes_back p.states) found k
 fine_name p x bound from k None e g ins back = absurd (cc g)

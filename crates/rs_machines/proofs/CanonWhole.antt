@@ -38,7 +38,7 @@ written_labels old t names enough = let w = writing_of old t names in canon_grow
 named : (old : Names_data) (t : MachineTree) → Fits old t → Named t.body [] 0
 named old t fits = fits_named t.body (first_scene old) fits.body
 
-is_fine : (old : Names_data) (t : MachineTree) → Fits old t → Fine (goes_back (machine_of old t).states) t.body [] 0
+pub is_fine : (old : Names_data) (t : MachineTree) → Fits old t → Fine (goes_back (machine_of old t).states) t.body [] 0
 is_fine old t fits = fine (numbering old t) (machine_of old t) t.body [] 0 0 [] (done_of (has_end t.body)) refl refl (named old t fits) (λ x m i. absurd (cc i)) (λ x m i lt. lt) (λ lt. absurd (omega arith))
 
 numbers_same : (old : Names_data) (t : MachineTree) (names : Names_data) → Ready old t names → SameNumbers (writing_of old t names) (numbering names (canonical_tree old t names))

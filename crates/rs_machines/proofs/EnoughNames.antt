@@ -86,7 +86,7 @@ below_test k n h = elim (leb_tells (suc k) n) [ inl e ↦ e.0 | inr e ↦ absurd
 test_below : (k n : ℕ) → nat_lt k n ≡ true → k < n
 test_below k n h = elim (leb_tells (suc k) n) [ inl e ↦ (let m = e.1 in omega arith) | inr e ↦ absurd (cc (e.0, h)) ]
 
-abbrev with_name : List ℕ → List (List ℕ) → List (List ℕ)
+abbrev pub with_name : List ℕ → List (List ℕ) → List (List ℕ)
 with_name x names = if is_among x names then names else names ++ x ∷ []
 
 placed_by : (o : Option ℕ) (x : List ℕ) (names : List (List ℕ)) → place_of x names ≡ o → is_among x names ≡ true → (k : ℕ) × (place_of x names ≡ Some k)
@@ -97,7 +97,7 @@ absent_by : (o : Option ℕ) (x : List ℕ) (names : List (List ℕ)) → place_
 absent_by None x names e h = e
 absent_by (Some k) x names e h = absurd (cc (among names x 0 k e, h))
 
-placed : (x : List ℕ) (names : List (List ℕ)) → (k : ℕ) × (place_of x (with_name x names) ≡ Some k)
+pub placed : (x : List ℕ) (names : List (List ℕ)) → (k : ℕ) × (place_of x (with_name x names) ≡ Some k)
 placed x names = elim (true_or_false (is_among x names)) [
   | inl e ↦ rw e (placed_by (place_of x names) x names refl e)
   | inr e ↦ rw e (length names, place_of_new names x (absent_by (place_of x names) x names refl e))

@@ -39,3 +39,4 @@ pub mod ShapeSteps
 pub mod ShapeGoes
 pub mod ShapeGrown
 pub mod ShapeWhole
+pub mod CanonOlder
