@@ -1,5 +1,5 @@
 -- A machine that was read with older names is read with them again from its canonical text.
-use Rattle.std.proofs.Common.{◌≡◌, ◌≢◌, ℕ, zero, suc, ◌+◌, ◌<◌, ◌≤◌, List, [], ◌∷◌, ◌++◌, length, map, Bool, true, false, ◌&&◌, ◌||◌, if◌then◌else◌, nat_lt, Option, Some, None, inl, inr, refl, sym, ap, ◌∙◌, subst, arith, slice_get}
+use Rattle.std.proofs.Common.{◌≡◌, ℕ, suc, ◌+◌, ◌<◌, ◌≤◌, List, [], ◌∷◌, ◌++◌, length, map, Bool, true, false, ◌&&◌, ◌||◌, nat_lt, Option, Some, refl, sym, ap, ◌∙◌, subst, arith, slice_get}
 use Rattle.std.specs.Str.{bytes_eq}
 use Rattle.std.specs.List.{list_all}
 use Rattle.std.proofs.lemmas.Bool.{ltb-true, lt-ltb}
@@ -8,18 +8,18 @@ use Rattle.std.proofs.lemmas.Slice.Eq.{bytes_eq-Decides}
 use Rattle.rs_model.specs.Data.{Machine_data, Names_data}
 use Rattle.rs_model.specs.declared.values.Sort.{Sort}
 use Rattle.rs_text.proofs.Naming.{place_stands}
-use Rattle.rs_text.specs.Names.{Bound, bound_to, number_or, grown, is_among, place_of}
+use Rattle.rs_text.specs.Names.{Bound, bound_to, grown, is_among, place_of}
 use Rattle.rs_text.specs.Sound.{IsSound}
 use Rattle.rs_machines.specs.declared.marks.Mark.{Mark}
 use Rattle.rs_machines.specs.Canonical.{IsMachineTextShaped, IsCanonical, IsCanonicalMachineText}
 use Rattle.rs_machines.specs.Enough.{AreEnoughFor}
-use Rattle.rs_machines.specs.Machines.{labels_of, labels_of_arms, acts_in, has_end, Numbering, role_of, first_state, states_of, numbering, machine_of, names_of, done_of}
+use Rattle.rs_machines.specs.Machines.{labels_of, labels_of_arms, acts_in, has_end, role_of, first_state, states_of, numbering, machine_of, names_of, done_of}
 use Rattle.rs_machines.specs.Scenes.{first_scene}
 use Rattle.rs_machines.specs.Spells.{has_room_for, body_fits, arms_fit, Fits, SpellsMachine}
 use Rattle.rs_machines.specs.Shapes.{deeper}
 use Rattle.rs_machines.specs.Texts.{machine_text}
 use Rattle.rs_machines.specs.Trees.{Body, ends, again, binds, acts, offers, Branches, one, more, MachineTree}
-use Rattle.rs_machines.proofs.CanonForms.{goes_back, back_is, Writing, role_as, label_as, sort_as, wrapped, canon, canon_arms, Low, low_rec, low_up, both, fits_named, HasNames, HasNamesArms}
+use Rattle.rs_machines.proofs.CanonForms.{goes_back, back_is, Writing, role_as, label_as, sort_as, canon, canon_arms, Low, low_rec, low_up, both, fits_named, HasNames, HasNamesArms}
 use Rattle.rs_machines.proofs.CanonNest.{Recs, RecsArms, scene, all_true, deeper_within, wrapped_fits, RolesKnown, offers_fit, name_fits, tree_recs}
 use Rattle.rs_machines.proofs.CanonNumbers.{role_known}
 use Rattle.rs_machines.proofs.CanonOne.{canonical_tree_is_one}
