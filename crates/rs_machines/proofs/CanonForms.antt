@@ -1,5 +1,5 @@
 -- The canonical form of a body, which acts are gone back to, and where names lead.
-use Rattle.std.proofs.Common.{◌≡◌, ℕ, zero, suc, ◌+◌, ◌-◌, ◌<◌, ◌≤◌, List, [], ◌∷◌, ◌++◌, length, drop, Bool, true, false, ◌==◌, ◌&&◌, if◌then◌else◌, Option, Some, None, inl, inr, refl, sym, ap, ◌∙◌, arith, slice_get}
+use Rattle.std.proofs.Common.{◌≡◌, ℕ, zero, suc, ◌+◌, ◌-◌, ◌<◌, ◌≤◌, List, [], ◌∷◌, ◌++◌, length, drop, Bool, true, false, ◌&&◌, if◌then◌else◌, Option, Some, None, inl, inr, refl, sym, ap, ◌∙◌, arith, slice_get}
 use Rattle.std.proofs.lemmas.Bool.{eq-eqb, eqb-true}
 use Rattle.std.specs.List.{list_any}
 use Rattle.std.specs.Str.{bytes_eq}
@@ -71,7 +71,7 @@ act_back p n i (Takes s arms) le e h =
     let f = any_stands Arm (leads_to n) arms h in
     record { state = i; behind = le; mark = mark.Takes; peer = s; arms = arms; acts = e; place = f.0; arm = f.1; stands = f.2; leads = eqb-true f.1.next n f.3 }
 
-leads_as : (n : ℕ) (m : Mark) (p : Role) (arms : List Arm) → act_leads n (state_of m p arms) ≡ list_any (leads_to n) arms
+pub leads_as : (n : ℕ) (m : Mark) (p : Role) (arms : List Arm) → act_leads n (state_of m p arms) ≡ list_any (leads_to n) arms
 leads_as n mark.Puts p arms = refl
 leads_as n mark.Takes p arms = refl
 
@@ -93,7 +93,7 @@ abbrev pub or_empty : Option (List ℕ) → List ℕ
 or_empty None = []
 or_empty (Some name) = name
 
--- how a text's names are numbered, the names that are written instead, and the states of its graph
+-- how a text's names are numbered, the names that are written instead, and the states of its machine
 pub record Writing : Type 0 where
   pub numbers : Numbering
   pub names : Names_data
@@ -113,7 +113,7 @@ abbrev pub wrapped : Bool → ℕ → Body → Body
 wrapped true k b = binds (name_of_state k) b
 wrapped false k b = b
 
--- one arm by a colon, more by braces
+-- one arm right behind the mark, more in braces
 abbrev pub offered : (s : List ℕ) (r : Mark) → Branches → Body
 offered s r (one l sort b) = acts s r l sort b
 offered s r (more l sort b arms) = offers s r (more l sort b arms)

@@ -1,5 +1,5 @@
 -- The canonical text of a machine nests no deeper than a text that spells it.
-use Rattle.std.proofs.Common.{◌≡◌, ◌≢◌, ℕ, zero, suc, ◌+◌, ◌<◌, ◌≤◌, List, [], ◌∷◌, ◌++◌, length, Bool, true, false, ◌==◌, ◌&&◌, ◌||◌, if◌then◌else◌, nat_lt, Option, Some, None, inl, inr, refl, sym, ap, ◌∙◌, subst, arith, slice_get, append_assoc, length-append}
+use Rattle.std.proofs.Common.{◌≡◌, ◌≢◌, ℕ, zero, suc, ◌+◌, ◌<◌, ◌≤◌, List, [], ◌∷◌, ◌++◌, length, Bool, true, false, ◌==◌, ◌&&◌, ◌||◌, if◌then◌else◌, nat_lt, Option, Some, None, inl, inr, refl, sym, ap, ◌∙◌, subst, arith, slice_get}
 use Rattle.std.specs.Str.{bytes_eq}
 use Rattle.std.proofs.lemmas.Bool.{ltb-true, lt-ltb, eq-eqb, le-ltb}
 use Rattle.std.proofs.lemmas.Bool.Decides.{eqb_tells}
@@ -11,11 +11,10 @@ use Rattle.rs_machines.specs.declared.marks.Mark.{Mark}
 use Rattle.rs_machines.specs.declared.marks.Mark.TheVariants as mark
 use Rattle.rs_model.specs.declared.graph.Role.{Role}
 use Rattle.rs_model.specs.declared.values.Sort.{Sort}
-use Rattle.rs_text.proofs.Gaps.{true_or_false}
 use Rattle.rs_text.proofs.Naming.{grown_append, grown_among}
 use Rattle.rs_text.specs.Names.{Bound, bound_to, number_or, grown, is_among}
 use Rattle.rs_machines.specs.Trees.{Body, ends, again, binds, acts, offers, Branches, one, more}
-use Rattle.rs_machines.specs.Machines.{state_of, role_of, labels_of, labels_of_arms, acts_in, acts_in_arms, Numbering, first_state, arm_of, arms_of, act_of, states_of, states_of_arms, done_of}
+use Rattle.rs_machines.specs.Machines.{state_of, role_of, labels_of, labels_of_arms, acts_in, acts_in_arms, Numbering, first_state, arm_of, arms_of, states_of, states_of_arms, done_of}
 use Rattle.rs_machines.specs.Scenes.{Scene, with_label, in_act, in_braces, in_rec, behind}
 use Rattle.rs_machines.specs.Spells.{is_guarded, has_room_for, body_fits, arms_fit}
 use Rattle.rs_machines.specs.Canonical.{name_of_state, IsGoneBackTo}
@@ -207,7 +206,7 @@ done_backs : (good : ℕ → Bool) (n : ℕ) (c : Bool) → Backs good n (done_o
 done_backs good n true = (tt, tt)
 done_backs good n false = tt
 
--- a rec stands in front of each act of the tree that is gone back to in its graph
+-- a rec stands in front of each act of the tree that is gone back to in its machine
 pub tree_recs : (m : Numbering) (p : Machine_data) (t : Body) (c : Bool) → p.states ≡ states_of m t [] 0 ++ done_of c → m.last ≡ acts_in t → Named t [] 0 → (back : ℕ → Bool) → ((v : ℕ) → back v ≡ true → IsGoneBackTo p v) → Recs back t false 0
 tree_recs m p t c e last named back is =
     let good : ℕ → Bool = rec_at t false 0 in
@@ -225,7 +224,7 @@ tree_recs m p t c e last named back is =
 abbrev pub scene : List (List ℕ) → Bound → (depth count : ℕ) → List (List ℕ) → Scene
 scene roles bound depth count labels = record { roles = roles; bound = bound; depth = depth; acts = count; labels = labels }
 
-deeper_within : (c here : Bool) (inner d : ℕ) → (c ≡ true → here ≡ true) → inner ≤ d → (here ≡ true → inner < d) → deeper c inner ≤ d
+pub deeper_within : (c here : Bool) (inner d : ℕ) → (c ≡ true → here ≡ true) → inner ≤ d → (here ≡ true → inner < d) → deeper c inner ≤ d
 deeper_within true here inner d f le lt = let h = lt (f refl) in omega arith
 deeper_within false here inner d f le lt = le
 
@@ -257,12 +256,12 @@ acts_fit x y l sort c roles named d k ls a few known h =
     all_true (is_among x roles && nat_lt k 256 && has_room_for l (scene roles named d k ls)) (body_fits c (scene roles named d (suc k) (grown ls (l ∷ []))))
     (all_true (is_among x roles && nat_lt k 256) (has_room_for l (scene roles named d k ls)) (all_true (is_among x roles) (nat_lt k 256) a (lt-ltb k 256 few)) (or_first (is_among l ls) (nat_lt (length ls) 256) known)) h
 
-offers_fit : (x : List ℕ) (y : Mark) (c : Branches) (roles : List (List ℕ)) (named : Bound) (d k : ℕ) (ls : List (List ℕ)) → is_among x roles ≡ true → k < 256 → d < 200 → arms_fit c (scene roles named (suc d) (suc k) ls) ≡ true → body_fits (offers x y c) (scene roles named d k ls) ≡ true
+pub offers_fit : (x : List ℕ) (y : Mark) (c : Branches) (roles : List (List ℕ)) (named : Bound) (d k : ℕ) (ls : List (List ℕ)) → is_among x roles ≡ true → k < 256 → d < 200 → arms_fit c (scene roles named (suc d) (suc k) ls) ≡ true → body_fits (offers x y c) (scene roles named d k ls) ≡ true
 offers_fit x y c roles named d k ls a few low h =
     all_true (is_among x roles && nat_lt k 256 && nat_lt d 200) (arms_fit c (scene roles named (suc d) (suc k) ls))
     (all_true (is_among x roles && nat_lt k 256) (nat_lt d 200) (all_true (is_among x roles) (nat_lt k 256) a (lt-ltb k 256 few)) (lt-ltb d 200 low)) h
 
-name_fits : (back : ℕ → Bool) (bound named : Bound) (k : ℕ) (x : List ℕ) (found : Option ℕ) → bound_to x bound ≡ found → Leads back found k → Inv back bound named k → is_guarded (bound_to (name_of_state (number_or found)) named) k ≡ true
+pub name_fits : (back : ℕ → Bool) (bound named : Bound) (k : ℕ) (x : List ℕ) (found : Option ℕ) → bound_to x bound ≡ found → Leads back found k → Inv back bound named k → is_guarded (bound_to (name_of_state (number_or found)) named) k ≡ true
 name_fits back bound named k x None e h inv = absurd h
 name_fits back bound named k x (Some m) e h inv = rw (inv x m e h.1 h.0) (lt-ltb m k h.0)
 

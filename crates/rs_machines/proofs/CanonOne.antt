@@ -1,21 +1,17 @@
 -- A machine that some text spells has one canonical tree at most.
-use Rattle.std.proofs.Common.{◌≡◌, ◌≢◌, ℕ, zero, suc, ◌+◌, ◌<◌, ◌≤◌, List, [], ◌∷◌, ◌++◌, length, Bool, true, false, ◌&&◌, Option, Some, None, refl, sym, ap, ◌∙◌, subst, arith, slice_get}
-use Rattle.std.proofs.lemmas.List.Folds.{list_all-append}
-use Rattle.std.specs.List.{list_all}
+use Rattle.std.proofs.Common.{◌≡◌, ℕ, ◌+◌, ◌<◌, ◌≤◌, List, [], ◌∷◌, Option, Some, refl, sym, ap, ◌∙◌, subst, arith, slice_get}
 use Rattle.rs_model.specs.Data.{Machine_data, Names_data}
 use Rattle.rs_model.specs.declared.graph.Arm.{Arm}
-use Rattle.rs_model.specs.declared.machines.State.{State}
 use Rattle.rs_model.specs.declared.machines.State.TheVariants.{Done}
 use Rattle.rs_model.specs.declared.graph.Role.{Role}
 use Rattle.rs_model.specs.declared.values.Sort.{Sort}
-use Rattle.rs_text.specs.Names.{Bound}
 use Rattle.rs_machines.specs.Texts.{machine_text}
 use Rattle.rs_machines.specs.Trees.{Body, ends, again, binds, acts, offers, Branches, one, more, MachineTree}
 use Rattle.rs_machines.specs.Machines.{state_of}
 use Rattle.rs_machines.specs.declared.marks.Mark.{Mark}
 use Rattle.rs_machines.proofs.Acts.{no_act, act_parts}
 use Rattle.rs_machines.proofs.EndsLast.{EndsLast, shaped_ends_last}
-use Rattle.rs_machines.specs.Canonical.{IsMachineTextShaped, name_of_state, shown_sort, IsGoneBackTo, IsActOf, IsArmOf, IsOneArm, AreArms, Draws, DrawsAct, DrawsArms, IsCanonical, IsCanonicalMachineText}
+use Rattle.rs_machines.specs.Canonical.{IsMachineTextShaped, IsActOf, IsArmOf, IsOneArm, AreArms, Draws, DrawsAct, DrawsArms, IsCanonical, IsCanonicalMachineText}
 
 -- ---- two bodies for one state
 

@@ -1,19 +1,15 @@
--- The canonical form of a body has the same graph.
-use Rattle.std.proofs.Common.{◌≡◌, ◌≢◌, ℕ, zero, suc, ◌+◌, ◌-◌, ◌<◌, ◌≤◌, ◌^◌, List, [], ◌∷◌, ◌++◌, length, map, Bool, true, false, ◌||◌, if◌then◌else◌, nat_lt, Option, Some, None, inl, inr, refl, sym, ap, ◌∙◌, subst, arith, slice_get, append_assoc, append-nil, length-append}
+-- The canonical form of a body has the same states.
+use Rattle.std.proofs.Common.{◌≡◌, ◌≢◌, ℕ, suc, ◌+◌, ◌<◌, ◌≤◌, ◌^◌, List, [], ◌∷◌, ◌++◌, length, map, Bool, true, false, ◌||◌, if◌then◌else◌, Option, Some, None, refl, sym, ap, ◌∙◌, arith, slice_get, append_assoc, length-append}
 use Rattle.std.specs.Fmt.{decimal}
-use Rattle.std.specs.Prelude.{codes}
 use Rattle.std.specs.Str.{bytes_eq}
 use Rattle.std.proofs.lemmas.Bool.{ltb-true}
 use Rattle.std.proofs.lemmas.List.{map-append}
 use Rattle.std.proofs.lemmas.Slice.Eq.{bytes_eq-Decides}
-use Rattle.rs_model.specs.Data.{Machine_data, Names_data}
+use Rattle.rs_model.specs.Data.{Machine_data}
 use Rattle.rs_model.specs.declared.graph.Arm.{Arm}
 use Rattle.rs_model.specs.declared.machines.State.{State}
-use Rattle.rs_model.specs.declared.machines.State.TheVariants.{Done}
-use Rattle.rs_model.specs.declared.graph.Role.{Role}
 use Rattle.rs_model.specs.declared.values.Sort.{Sort}
 use Rattle.rs_model.specs.declared.values.Sort.TheVariants as sort
-use Rattle.rs_text.proofs.Gaps.{true_or_false}
 use Rattle.rs_text.proofs.Values.{decimal_reads}
 use Rattle.rs_text.specs.Arms.{sort_or_unit}
 use Rattle.rs_text.specs.Lexemes.{value_of}
@@ -21,8 +17,8 @@ use Rattle.rs_text.specs.Names.{Bound, bound_to, number_or}
 use Rattle.rs_machines.specs.Trees.{Body, ends, again, binds, acts, offers, Branches, one, more}
 use Rattle.rs_machines.specs.Machines.{state_of, labels_of, labels_of_arms, acts_in, acts_in_arms, has_end, has_end_arms, Numbering, role_of, label_of, first_state, arm_of, arms_of, act_of, states_of, states_of_arms}
 use Rattle.rs_machines.specs.Spells.{is_guarded}
-use Rattle.rs_machines.specs.Canonical.{name_of_state, shown_sort, IsGoneBackTo}
-use Rattle.rs_machines.proofs.CanonForms.{goes_back, back_is, is_back, seam, Writing, role_as, label_as, sort_as, wrapped, offered, canon, canon_arms, Named, NamedArms, Low, low_rec, low_up, Ins, ins_rec, HasRole, HasLabel, HasNames, HasNamesArms}
+use Rattle.rs_machines.specs.Canonical.{name_of_state, shown_sort}
+use Rattle.rs_machines.proofs.CanonForms.{goes_back, is_back, Writing, role_as, label_as, sort_as, wrapped, offered, canon, canon_arms, Named, NamedArms, Low, low_rec, low_up, Ins, ins_rec, HasRole, HasLabel, HasNames, HasNamesArms}
 use Rattle.rs_machines.specs.declared.marks.Mark.{Mark}
 use Rattle.rs_machines.proofs.Existence.{one_longer, at_seam, states_length}
 
@@ -160,7 +156,7 @@ mutual
       ∙ ap (λ z. label_as w l ∷ (map (label_as w) (labels_of b) ++ z)) (canon_arms_labels w arms bound (k + acts_in b))
       ∙ ap (λ z. label_as w l ∷ z) (sym (map-append (label_as w) (labels_of b) (labels_of_arms arms)))
 
--- ---- the same graph
+-- ---- the same states
 
 pub wrapped_states : (m : Numbering) (c : Bool) (k : ℕ) (b : Body) (named : Bound) → states_of m (wrapped c k b) named k ≡ states_of m b (opened_for c k named) k
 wrapped_states m true k b named = refl
@@ -266,7 +262,7 @@ mutual
         states = ap (λ z. z ++ states_of_arms m d named (k + acts_in c)) i.states ∙ ap (λ z. states_of w.numbers b bound k ++ states_of_arms m d named z) step ∙ ap (λ z. states_of w.numbers b bound k ++ z) o.states;
       }
 
--- ---- in the graph of a tree, names lead to acts that are gone back to
+-- ---- in the machine of a tree, names lead to acts that are gone back to
 
 fine_name : (p : Machine_data) (x : List ℕ) (bound : Bound) (from k : ℕ) (found : Option ℕ) → bound_to x bound ≡ found → is_guarded found k ≡ true → Ins bound from k → (number_or found < from → goes_back p.states (number_or found) ≡ true) → Leads (goes_back p.states) found k
 fine_name p x bound from k None e g ins back = absurd (cc g)

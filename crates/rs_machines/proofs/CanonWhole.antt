@@ -1,28 +1,21 @@
 -- What the canonical tree of a machine spells, and that it is read and printed again.
-use Rattle.std.proofs.Common.{◌≡◌, ◌≢◌, ℕ, zero, suc, ◌+◌, ◌<◌, ◌≤◌, List, [], ◌∷◌, ◌++◌, length, drop, Bool, true, false, ◌&&◌, ◌||◌, if◌then◌else◌, Option, Some, None, inl, inr, refl, sym, ap, ◌∙◌, subst, arith, slice_get}
-use Rattle.std.proofs.lemmas.List.{length-map}
-use Rattle.std.proofs.lemmas.List.Folds.{list_any-append}
-use Rattle.std.proofs.lemmas.Slice.Eq.{bytes_eq-Decides}
-use Rattle.rs_text.proofs.Naming.{grown_among}
-use Rattle.std.specs.Str.{bytes_eq}
+use Rattle.std.proofs.Common.{◌≡◌, ℕ, suc, ◌+◌, ◌<◌, ◌≤◌, List, [], ◌∷◌, ◌++◌, length, drop, Bool, true, false, Option, Some, None, refl, sym, ap, ◌∙◌, subst, arith}
 use Rattle.rs_model.specs.Data.{Machine_data, Names_data}
-use Rattle.rs_model.specs.declared.graph.Arm.{Arm}
 use Rattle.rs_model.specs.declared.machines.State.{State}
 use Rattle.rs_model.specs.declared.graph.Role.{Role}
-use Rattle.rs_model.specs.declared.values.Sort.{Sort}
-use Rattle.rs_text.specs.Names.{Bound, bound_to, number_or, grown, is_among, place_of}
-use Rattle.rs_text.specs.Sound.{differ, IsSound}
+use Rattle.rs_text.specs.Names.{Bound, bound_to, number_or, grown, place_of}
+use Rattle.rs_text.specs.Sound.{IsSound}
 use Rattle.rs_text.specs.Words.{is_word, is_role_word}
 use Rattle.rs_machines.specs.Enough.{AreEnoughFor}
 use Rattle.rs_machines.specs.Texts.{machine_text}
 use Rattle.rs_machines.specs.Trees.{Body, ends, again, binds, acts, offers, Branches, one, more, MachineTree, ends_by_name, ends_a_name}
-use Rattle.rs_machines.specs.Machines.{state_of, labels_of, labels_of_arms, acts_in, acts_in_arms, has_end, Numbering, role_of, label_of, first_state, states_of, numbering, machine_of, names_of, done_of}
+use Rattle.rs_machines.specs.Machines.{labels_of, acts_in, acts_in_arms, has_end, role_of, label_of, first_state, states_of, numbering, machine_of, names_of, done_of}
 use Rattle.rs_machines.specs.Scenes.{first_scene}
-use Rattle.rs_machines.specs.Spells.{body_fits, Fits, SpellsMachine}
+use Rattle.rs_machines.specs.Spells.{Fits, SpellsMachine}
 use Rattle.rs_machines.specs.Writable.{AreWords, AreWordsIn, AreWordsInArms}
 use Rattle.rs_text.specs.Lexemes.{next_lexeme}
 use Rattle.rs_machines.specs.Canonical.{IsMachineTextShaped, IsCanonical, IsCanonicalMachineText}
-use Rattle.rs_machines.proofs.CanonForms.{goes_back, back_is, Writing, role_as, label_as, sort_as, wrapped, offered, canon, canon_arms, Named, fits_named, Low, low_rec, low_up, HasRole, HasLabel, HasNames, HasNamesArms}
+use Rattle.rs_machines.proofs.CanonForms.{goes_back, back_is, Writing, role_as, label_as, sort_as, wrapped, canon, canon_arms, Named, fits_named, Low, low_rec, low_up, HasRole, HasLabel, HasNames, HasNamesArms}
 use Rattle.rs_machines.proofs.CanonOne.{canonical_tree_is_one}
 use Rattle.rs_machines.proofs.CanonSame.{Fine, fine, Same, same, SameNumbers, canon_acts, canon_end}
 use Rattle.rs_machines.proofs.CanonNest.{Recs, tree_recs, canon_fits, canon_grown, fits_acts}
@@ -45,7 +38,7 @@ written_labels old t names enough = let w = writing_of old t names in canon_grow
 named : (old : Names_data) (t : MachineTree) → Fits old t → Named t.body [] 0
 named old t fits = fits_named t.body (first_scene old) fits.body
 
-is_fine : (old : Names_data) (t : MachineTree) → Fits old t → Fine (goes_back (machine_of old t).states) t.body [] 0
+pub is_fine : (old : Names_data) (t : MachineTree) → Fits old t → Fine (goes_back (machine_of old t).states) t.body [] 0
 is_fine old t fits = fine (numbering old t) (machine_of old t) t.body [] 0 0 [] (done_of (has_end t.body)) refl refl (named old t fits) (λ x m i. absurd (cc i)) (λ x m i lt. lt) (λ lt. absurd (omega arith))
 
 numbers_same : (old : Names_data) (t : MachineTree) (names : Names_data) → Ready old t names → SameNumbers (writing_of old t names) (numbering names (canonical_tree old t names))

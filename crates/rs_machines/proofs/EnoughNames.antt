@@ -18,7 +18,7 @@ use Rattle.rs_machines.specs.Canonical.{IsMachineTextShaped}
 use Rattle.rs_machines.specs.Enough.{AreEnoughFor}
 use Rattle.rs_machines.specs.Machines.{state_of, role_of, first_state, arm_of, act_of, Numbering, numbering, label_of, labels_of, labels_of_arms, arms_of, states_of, states_of_arms, done_of, has_end, acts_in, names_of, machine_of}
 use Rattle.rs_machines.specs.Spells.{Fits, SpellsMachine}
-use Rattle.rs_machines.proofs.Shapes.{Good, tree_good, peer_known}
+use Rattle.rs_machines.proofs.SpeltShapes.{Good, tree_good, peer_known}
 use Rattle.rs_machines.specs.Trees.{Body, ends, again, binds, acts, offers, Branches, one, more, MachineTree}
 
 two : (p q : Bool) → (p && q) ≡ true → (p ≡ true) × (q ≡ true)
@@ -86,7 +86,7 @@ below_test k n h = elim (leb_tells (suc k) n) [ inl e ↦ e.0 | inr e ↦ absurd
 test_below : (k n : ℕ) → nat_lt k n ≡ true → k < n
 test_below k n h = elim (leb_tells (suc k) n) [ inl e ↦ (let m = e.1 in omega arith) | inr e ↦ absurd (cc (e.0, h)) ]
 
-abbrev with_name : List ℕ → List (List ℕ) → List (List ℕ)
+abbrev pub with_name : List ℕ → List (List ℕ) → List (List ℕ)
 with_name x names = if is_among x names then names else names ++ x ∷ []
 
 placed_by : (o : Option ℕ) (x : List ℕ) (names : List (List ℕ)) → place_of x names ≡ o → is_among x names ≡ true → (k : ℕ) × (place_of x names ≡ Some k)
@@ -97,7 +97,7 @@ absent_by : (o : Option ℕ) (x : List ℕ) (names : List (List ℕ)) → place_
 absent_by None x names e h = e
 absent_by (Some k) x names e h = absurd (cc (among names x 0 k e, h))
 
-placed : (x : List ℕ) (names : List (List ℕ)) → (k : ℕ) × (place_of x (with_name x names) ≡ Some k)
+pub placed : (x : List ℕ) (names : List (List ℕ)) → (k : ℕ) × (place_of x (with_name x names) ≡ Some k)
 placed x names = elim (true_or_false (is_among x names)) [
   | inl e ↦ rw e (placed_by (place_of x names) x names refl e)
   | inr e ↦ rw e (length names, place_of_new names x (absent_by (place_of x names) x names refl e))

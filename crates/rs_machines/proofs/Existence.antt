@@ -1,16 +1,15 @@
 -- A machine that some text spells has a canonical tree.
 use Rattle.std.proofs.Common.{◌≡◌, ℕ, suc, ◌+◌, ◌<◌, ◌≤◌, List, [], ◌∷◌, ◌++◌, length, Bool, true, false, Option, Some, None, refl, sym, ap, ◌∙◌, subst, arith, ◌||◌, slice_get, append_assoc, length-append}
 use Rattle.std.proofs.lemmas.Bool.{ltb-true}
-use Rattle.std.proofs.lemmas.Option.{slice_get_within, slice_get-get_or}
+use Rattle.std.proofs.lemmas.Option.{slice_get-get_or}
 use Rattle.rs_model.specs.Data.{Machine_data, Names_data}
 use Rattle.rs_model.specs.declared.graph.Arm.{Arm}
 use Rattle.rs_model.specs.declared.machines.State.{State}
 use Rattle.rs_model.specs.declared.machines.State.TheVariants.{Done}
-use Rattle.rs_model.specs.declared.graph.Role.{Role}
 use Rattle.rs_model.specs.declared.values.Sort.{Sort}
-use Rattle.rs_text.specs.Names.{Bound, bound_to, number_or, place_of}
+use Rattle.rs_text.specs.Names.{Bound, bound_to, number_or}
 use Rattle.rs_machines.specs.Trees.{Body, ends, again, binds, acts, offers, Branches, one, more, MachineTree}
-use Rattle.rs_machines.specs.Machines.{state_of, acts_in, acts_in_arms, has_end, has_end_arms, Numbering, role_of, label_of, first_state, arm_of, arms_of, act_of, states_of, states_of_arms, numbering, machine_of, done_of}
+use Rattle.rs_machines.specs.Machines.{acts_in, acts_in_arms, has_end, has_end_arms, Numbering, role_of, label_of, first_state, arm_of, arms_of, act_of, states_of, states_of_arms, numbering, machine_of, done_of}
 use Rattle.rs_machines.specs.Spells.{is_guarded, Fits}
 use Rattle.rs_machines.specs.Scenes.{first_scene}
 use Rattle.rs_machines.specs.Canonical.{IsMachineTextShaped, name_of_state, IsActOf, IsArmOf, IsOneArm, AreArms, Draws, DrawsArms, IsCanonical, IsCanonicalMachineText}

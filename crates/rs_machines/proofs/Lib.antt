@@ -19,8 +19,8 @@ pub mod Placing
 pub mod Refusals
 pub mod Examples
 pub mod TreeLabels
-pub mod Shapes
 pub mod NamedStates
+pub mod SpeltShapes
 pub mod Acts
 pub mod CanonForms
 pub mod Existence
@@ -35,3 +35,9 @@ pub mod CanonNumbers
 pub mod CanonWhole
 pub mod Printed
 pub mod BackFlags
+pub mod PlainNames
+pub mod ShapeSteps
+pub mod ShapeGoes
+pub mod ShapeGrown
+pub mod ShapeWhole
+pub mod CanonOlder

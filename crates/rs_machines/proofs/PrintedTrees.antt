@@ -1,6 +1,5 @@
 -- The text of a tree is written for its tokens.
 use Rattle.std.proofs.Common.{◌≡◌, ℕ, ◌+◌, ◌<◌, ◌≤◌, List, [], ◌∷◌, ◌++◌, length, drop, codes, true, false, Option, Some, None, refl, sym, ap, subst, append-nil, length-append, length-drop, arith}
-use Rattle.std.specs.List.{flat_map}
 use Rattle.rs_model.specs.declared.values.Sort.{Sort}
 use Rattle.rs_model.specs.declared.values.Sort.TheVariants as sort
 use Rattle.rs_model.specs.Data.{Names_data}

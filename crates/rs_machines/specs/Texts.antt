@@ -1,5 +1,5 @@
 -- The text of a machine tree, with the spacing of canonical texts.
-use Rattle.std.specs.Prelude.{ℕ, List, [], ◌∷◌, ◌++◌, codes, Option, Some, None}
+use Rattle.std.specs.Prelude.{ℕ, List, [], ◌++◌, codes, Option, Some, None}
 use Rattle.rs_model.specs.declared.values.Sort.{Sort}
 use Rattle.rs_text.specs.Arms.{sort_text}
 use Rattle.rs_machines.specs.declared.marks.Mark.{Mark}

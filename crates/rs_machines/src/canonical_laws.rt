@@ -55,6 +55,11 @@ pub fn printed_text_is_read_anywhere()
     ensures { (bytes : List ℕ) (at : ℕ) (names : Names_data) (machine : Machine_data) (text behind : List ℕ) → IsMachineTextShaped machine → IsSound names → AreEnoughFor names machine → (canonical : IsCanonicalMachineText names machine text) → drop at bytes ≡ text ++ behind → (ends_by_name canonical.tree.body ≡ true → ends_a_name (next_lexeme bytes (at + length text)).sign ≡ true) → SpellsMachine bytes at names names machine (next_lexeme bytes (at + length text)).from }
 {}
 
+/// What was read with older names is read with them again from its printed text, and the same new names come.
+pub fn printed_text_is_read_with_the_names_before()
+    ensures { (bytes : List ℕ) (at : ℕ) (old new : Names_data) (machine : Machine_data) (until : ℕ) (text : List ℕ) → SpellsMachine bytes at old new machine until → IsSound new → IsCanonicalMachineText new machine text → SpellsMachine text 0 old new machine (length text) }
+{}
+
 /// What is read from a printed text is printed as that text again.
 pub fn printed_text_is_printed_again()
     ensures { (names others : Names_data) (machine other : Machine_data) (text : List ℕ) (until : ℕ) → IsMachineTextShaped machine → IsSound names → AreEnoughFor names machine → IsCanonicalMachineText names machine text → SpellsMachine text 0 names others other until → IsCanonicalMachineText others other text }

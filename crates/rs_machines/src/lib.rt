@@ -12,6 +12,7 @@ pub mod printing_laws;
 #[cfg(test)]
 mod printing_tests;
 mod reading;
+mod shapes;
 pub mod spelling_laws;
 mod tables;
 #[cfg(test)]
@@ -19,4 +20,5 @@ mod tests;
 
 pub use machines::read_machine;
 pub use printing::print_machine;
+pub use shapes::machine_text_shaped;
 pub use tables::print_table;

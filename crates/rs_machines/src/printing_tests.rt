@@ -1,6 +1,6 @@
 use crate::tests::three_roles;
-use crate::{print_machine, read_machine};
-use rs_model::NoMemory;
+use crate::{machine_text_shaped, print_machine, read_machine};
+use rs_model::{NoMemory, State};
 use rs_text::Text;
 use std::alloc::Global;
 use std::test::Fail;
@@ -84,6 +84,43 @@ fn prints_long_texts_again(rt: HostRuntime) -> Result<(), Fail> {
         let want = nested(rt.alloc(), piece, count, close)?;
         let text = printed(rt.alloc(), want.as_slice())?;
         assert_eq!(rt; text.as_slice(), want.as_slice());
+    }
+    Ok(())
+}
+
+/// Whether the machine that a text spells is text-shaped with this start, and with one more end behind it.
+fn shaped(alloc: Global, bytes: &[u8], start: u32, more: bool) -> Result<bool, NoMemory> {
+    let mut names = three_roles(alloc)?;
+    if rs_text::sound(&names) && names.roles.len() <= 16 && names.labels.len() <= 256 {
+        return match read_machine(alloc, bytes, 0, &mut names) {
+            Ok((machine, _until)) => {
+                let mut machine = machine;
+                machine.start = start;
+                if more {
+                    machine.states.push(State::Done)?;
+                }
+                Ok(machine_text_shaped(&machine))
+            }
+            Err(_fault) => Ok(false),
+        };
+    }
+    Ok(false)
+}
+
+#[test]
+fn tells_text_shaped(rt: HostRuntime) -> Result<(), Fail> {
+    let cases = [
+        (b"machine K: S!x(). end".as_slice(), 0, false, true),
+        (b"machine K: S!x(). end", 1, false, false),
+        (b"machine K: S!x(). end", 0, true, false),
+        (b"machine T: end", 0, false, true),
+        (b"machine T: rec X. K?x(). X", 0, false, true),
+        (b"machine T: rec X. K?x(). X", 1, false, false),
+        (b"machine T: rec X. K?x(). X", 0, true, false),
+    ];
+    for (bytes, start, more, want) in cases {
+        let found = shaped(rt.alloc(), bytes, start, more)?;
+        assert_eq!(rt; found, want);
     }
     Ok(())
 }
