@@ -7,6 +7,7 @@ pub mod Merged
 pub mod Meetings
 pub mod Agreeing
 pub mod Numbers
+pub mod Buckets
 pub mod Behind
 pub mod Steps
 pub mod Lockstep

@@ -3,6 +3,7 @@
 #![tactic(auto)]
 
 mod clashes;
+mod filing;
 mod finding;
 mod fronts;
 pub mod laws;
