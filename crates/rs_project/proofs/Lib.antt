@@ -3,6 +3,7 @@ pub mod Flags
 pub mod Spread
 pub mod Surveys
 pub mod Cycles
+pub mod Peels
 pub mod Merged
 pub mod Meetings
 pub mod Agreeing

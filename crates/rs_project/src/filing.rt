@@ -10,9 +10,9 @@ use std::marker::Model;
 
 const BUCKETS: usize = 251;
 
-/// Numbers of fronts.
+/// Numbers.
 #[derive(Drop)]
-struct Bucket {
+pub struct Bucket {
     numbers: Vec<u32>,
 }
 
@@ -25,13 +25,15 @@ impl Model for Bucket {
 }
 
 impl Bucket {
-    fn as_slice(&self) -> &[u32]
+    /// The numbers.
+    pub fn as_slice(&self) -> &[u32]
         ensures { result.now ≡ self.now }
     {
         self.numbers.as_slice()
     }
 
-    fn push(&mut self, number: u32) -> Result<(), NoMemory>
+    /// Adds a number at the end.
+    pub fn push(&mut self, number: u32) -> Result<(), NoMemory>
         ensures ok { OnOk result (self.new ≡ self.old ++ (number ∷ [])) }
         ensures err { OnErr result (self.new ≡ self.old) }
     {
@@ -65,7 +67,7 @@ impl Fronts {
         ensures { IfOk result (λ f. f ≡ []) }
     {
         let items = Vec::new(alloc);
-        let buckets = empty_buckets(alloc)?;
+        let buckets = empty_buckets(alloc, BUCKETS)?;
         Ok(Fronts { items, buckets })
     }
 
@@ -105,11 +107,12 @@ impl Fronts {
     }
 }
 
-fn empty_buckets(alloc: Global) -> Result<Vec<Bucket>, NoMemory>
-    ensures { IfOk result (λ v. length v.items ≡ 251) }
+/// So many buckets without numbers.
+pub fn empty_buckets(alloc: Global, count: usize) -> Result<Vec<Bucket>, NoMemory>
+    ensures { IfOk result (λ v. length v.items ≡ count) }
 {
-    let mut buckets = Vec::with_capacity(alloc, BUCKETS)?;
-    for _ in 0..BUCKETS {
+    let mut buckets = Vec::with_capacity(alloc, count)?;
+    for _ in 0..count {
         buckets.push(Bucket {
             numbers: Vec::new(alloc),
         })?;
