@@ -6,8 +6,8 @@ use Rattle.rs_project.proofs.Lists.{read-via}
 use Rattle.rs_project.proofs.Steps.{talks-within, state-fault, works-on, merges-at}
 use Rattle.rs_project.proofs.projecting.state_of.Goals as goal
 
-pub first_clash-requires : goal.first_clash-requires
-first_clash-requires c =
+pub first_clash-requires-clause-talks : goal.first_clash-requires-clause-talks
+first_clash-requires-clause-talks c =
     let f = c.index-as_slice-number.result in
     let here = read-via c.args.fronts.now c.as_slice.result.now c.args.number f c.as_slice.ensures c.requires.number c.index-as_slice-number.is in
     talks-within c.args.protocol.now c.args.survey.now.role f.talks (λ t m. c.requires.found.right c.args.number f t here m)
