@@ -1,5 +1,5 @@
 -- Which talks agree.
-use Rattle.std.proofs.Common.{◌≡◌, ◌⊎◌, inl, inr, ℕ, zero, suc, ◌+◌, ◌≤◌, Bool, true, false, not, ◌&&◌, ◌||◌, ◌==◌, List, [], ◌∷◌, length, map, get_or, Option, Some, None, slice_get, refl, sym, ap, ap₂, ◌∙◌, subst, subst₂, arith, if◌then◌else◌}
+use Rattle.std.proofs.Common.{◌≡◌, ◌⊎◌, ◌<◌, inl, inr, ℕ, zero, suc, ◌+◌, ◌≤◌, Bool, true, false, not, ◌&&◌, ◌||◌, ◌==◌, List, [], ◌∷◌, length, map, get_or, Option, Some, None, slice_get, refl, sym, ap, ap₂, ◌∙◌, subst, subst₂, arith, if◌then◌else◌}
 use Rattle.std.specs.List.{list_any}
 use Rattle.std.proofs.lemmas.Bool.{cases_lt}
 use Rattle.std.proofs.lemmas.Bool.Decides.{eqb_tells}
@@ -14,13 +14,13 @@ use Rattle.rs_model.specs.declared.values.Sort.{Sort}
 use Rattle.rs_model.specs.declared.values.Sort.TheVariants as sort
 use Rattle.rs_wellformed.specs.Faults.{Talks}
 use Rattle.rs_wellformed.specs.WellFormed.{IsWellFormed}
-use Rattle.rs_project.specs.Clashes.{is_choice, is_other_sort, has_all, same_sorts, both_send, both_receive, agree_nodes, AgreeAt, AgreeBefore, AllAgree, TalksClash, EndsAlone}
+use Rattle.rs_project.specs.Clashes.{is_choice, is_other_sort, has_all, same_sorts, both_send, both_receive, agree_nodes, AgreeAt, AgreeBefore, AllAgree, TalksClash, EndsAlone, sends}
 use Rattle.rs_project.specs.Data.{Front_data}
 use Rattle.rs_project.specs.Graph.{Involves}
 use Rattle.rs_project.specs.Marks.{Among}
 use Rattle.rs_project.specs.Projection.{Choice, choice_of, HaveSameChoices, HaveSameSorts, Agree, BothSend, BothReceive}
 use Rattle.rs_project.specs.Refusals.{FirstClash, OfTalks, OfTheEnd, Merges}
-use Rattle.rs_project.proofs.Lists.{contained, contains, among-at, at-read, at-short}
+use Rattle.rs_project.proofs.Lists.{contained, contains, among-at, at-read, at-short, at-within}
 use Rattle.rs_project.proofs.Surveys.{role-by, or-split, or-left, or-right}
 
 sort_at : ℕ → Sort
@@ -278,9 +278,6 @@ before-more pr role talks e k b a = λ h lt. elim (cases_lt h e) [
   | inr l ↦ (let same : e ≡ h = omega (arith, l, lt) in let P : ℕ → Type 0 = λ z. AgreeAt pr role talks z k in subst P same (agrees-at pr role talks e k a))
 ]
 
-pub before-all : (pr : Protocol_data) (role : Role) (talks : List ℕ) (e k : ℕ) → k ≤ e → AgreeBefore pr role talks e k → AgreeBefore pr role talks k k
-before-all pr role talks e k le b = λ h lt. b h (omega (arith, le, lt))
-
 pub all-more : (pr : Protocol_data) (role : Role) (talks : List ℕ) (k : ℕ) → AllAgree pr role talks k → AgreeBefore pr role talks k k → AllAgree pr role talks (k + 1)
 all-more pr role talks k all b = λ h j lt le. elim (cases_lt j k) [
   | inl l ↦ all h j lt l
@@ -326,3 +323,35 @@ merges-by pr role front wf inv all alone = record {
       ];
   alone = alone;
 }
+
+-- where the role sends, what agrees with one talk agrees with each other
+through-send : (pr : Protocol_data) (role receiver : Role) (arms : List Arm) (f c d : ℕ) → Talks pr f role receiver arms → (role ≡ receiver → ⊥) → Agree pr role f c → Agree pr role f d → Agree pr role c d
+through-send pr role receiver arms f c d t apart (BothSend p xs bs t1 u1 s1) (BothSend q cs ds t2 u2 s2) =
+    let pq : p ≡ q = cc (t1, t2) in
+    let same : xs ≡ cs = cc (t1, t2) in
+    let P : Role → Type 0 = λ z. Talks pr d role z ds in
+    let Q : List Arm → Type 0 = λ z. HaveSameChoices z ds in
+    let s3 = subst Q (sym same) s2 in
+    BothSend p bs ds u1 (subst P (sym pq) u2) (λ x. ((λ h. (s3 x).0 ((s1 x).1 h)), (λ h. (s1 x).0 ((s3 x).1 h))))
+through-send pr role receiver arms f c d t apart (BothSend p xs bs t1 u1 s1) (BothReceive q cs ds t2 u2 s2) = (let e : role ≡ receiver = cc (t, t2) in absurd (apart e))
+through-send pr role receiver arms f c d t apart (BothReceive p xs bs t1 u1 s1) other = (let e : role ≡ receiver = cc (t, t1) in absurd (apart e))
+
+first-sends : (pr : Protocol_data) (role : Role) (f c d : ℕ) (node : Node) → IsWellFormed pr → slice_get pr.nodes f ≡ Some node → sends role node ≡ true → Agree pr role f c → Agree pr role f d → Agree pr role c d
+first-sends pr role f c d Finished wf is h a b = absurd (cc (h))
+first-sends pr role f c d (Talk s r arms) wf is h a b =
+    let e = role-by s role h in
+    let P : Role → Type 0 = λ z. slice_get pr.nodes f ≡ Some (Talk z r arms) in
+    let t = subst P e is in
+    through-send pr role r arms f c d t ((wf.talks f role r arms t).others) a b
+
+pub one-for-all : (pr : Protocol_data) (role : Role) (talks : List ℕ) (k : ℕ) (node : Node) → IsWellFormed pr → slice_get pr.nodes (get_or talks 0 0) ≡ Some node → sends role node ≡ true → k < length talks
+    → AllAgree pr role talks k → AgreeBefore pr role talks 1 k → AgreeBefore pr role talks k k
+one-for-all pr role talks k node wf is h short all before zero lt = before zero (omega arith)
+one-for-all pr role talks k node wf is h short all before (suc i) lt = λ c d hc hd.
+    let first = at-within talks 0 (omega (arith, short)) in
+    let f = first.0 in
+    let P : ℕ → Type 0 = λ z. slice_get pr.nodes z ≡ Some node in
+    first-sends pr role f c d node wf (subst P (at-read talks 0 f 0 first.1) is) h (all 0 (suc i) (omega arith) lt f c first.1 hc) (before 0 (omega arith) f d first.1 hd)
+
+pub before-some : (pr : Protocol_data) (role : Role) (talks : List ℕ) (e m k : ℕ) → m ≤ e → AgreeBefore pr role talks e k → AgreeBefore pr role talks m k
+before-some pr role talks e m k le b = λ h lt. b h (omega (arith, le, lt))

@@ -8,7 +8,7 @@ use Rattle.rs_model.specs.declared.graph.Arm.{Arm}
 use Rattle.rs_model.specs.declared.graph.Label.{Label}
 use Rattle.rs_project.specs.Marks.{Among}
 use Rattle.rs_project.specs.Projection.{Choice, choice_of, choices_of, first_choices, merged_choices}
-use Rattle.rs_project.proofs.Lists.{contained, among-left, among-right, among-split}
+use Rattle.rs_project.proofs.Lists.{contained, among-left, among-right}
 
 pub arm-choice : (arms : List Arm) (k : ℕ) (arm : Arm) → slice_get arms k ≡ Some arm → Among (map choice_of arms) (choice_of arm)
 arm-choice [] k arm h = absurd (cc (h))

@@ -3,10 +3,12 @@ pub mod Flags
 pub mod Spread
 pub mod Surveys
 pub mod Cycles
+pub mod Peels
 pub mod Merged
 pub mod Meetings
 pub mod Agreeing
 pub mod Numbers
+pub mod Buckets
 pub mod Behind
 pub mod Steps
 pub mod Lockstep

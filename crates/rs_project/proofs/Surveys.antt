@@ -52,7 +52,7 @@ awaited-set pr role flags n node is h all = λ m on. elim (set-only flags n m on
   | inr e ↦ (let P : ℕ → Type 0 = λ z. IsAwaited pr role z in subst P e (awaited-by pr role flags n node all is h))
 ]
 
-leads-on-by : (pr : Protocol_data) (flags : List Bool) (n place next : ℕ) (node : Node) → slice_get pr.nodes n ≡ Some node → LeadsTo pr n place next → IsOn flags next → leads_on flags node ≡ true
+pub leads-on-by : (pr : Protocol_data) (flags : List Bool) (n place next : ℕ) (node : Node) → slice_get pr.nodes n ≡ Some node → LeadsTo pr n place next → IsOn flags next → leads_on flags node ≡ true
 leads-on-by pr flags n place next Finished is goes on = absurd (leads-among pr n place next Finished is goes)
 leads-on-by pr flags n place next (Talk sender receiver arms) is goes on = any-all flags arms next (leads-among pr n place next (Talk sender receiver arms) is goes) on
 

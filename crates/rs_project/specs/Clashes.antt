@@ -45,6 +45,11 @@ both_receive role (Talk s r arms) (Talk t q theirs) =
 abbrev pub agree_nodes : Role → Node → Node → Bool
 agree_nodes role one other = both_send role one other || both_receive role one other
 
+-- the node is a talk in which the role sends
+abbrev pub sends : Role → Node → Bool
+sends role Finished = false
+sends role (Talk s r arms) = s.0 == role.0
+
 -- the talks at the two places agree
 abbrev pub AgreeAt : Protocol_data → Role → List ℕ → ℕ → ℕ → Type 0
 AgreeAt protocol role talks h k = (c d : ℕ) → slice_get talks h ≡ Some c → slice_get talks k ≡ Some d → Agree protocol role c d

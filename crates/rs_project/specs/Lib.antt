@@ -6,4 +6,5 @@ pub mod Projected
 pub mod Refusals
 pub mod Marks
 pub mod Clashes
+pub mod Filing
 pub mod Working

@@ -8,7 +8,7 @@ use Rattle.rs_model.specs.declared.graph.Node.{Node}
 use Rattle.rs_model.specs.declared.graph.Node.TheVariants.{Finished, Talk}
 use Rattle.rs_model.specs.declared.graph.Role.{Role}
 use Rattle.rs_project.specs.Projected.{nexts_of}
-use Rattle.rs_project.specs.Graph.{PathStep, LeadsTo, IsPath, IsReached, IsReachedFrom, Involves, IsIdle, PassesBy, AllPassBy, MeetsFirst, MeetsTheEnd}
+use Rattle.rs_project.specs.Graph.{PathStep, LeadsTo, IsPath, IsReached, IsReachedFrom, Involves, IsIdle, PassesBy, AllPassBy, MeetsFirst, MeetsTheEnd, IsUnreached}
 
 -- the list has x
 abbrev pub Among : {X : Type 0} → List X → X → Type 0
@@ -108,6 +108,13 @@ pub record IsLive (protocol : Protocol_data) (role : Role) (flags : List Bool) :
   pub reached : (n : ℕ) → IsOn flags n → IsReached protocol n
   pub passing : (n : ℕ) → IsOn flags n → PassesBy protocol role n
   pub whole : (n : ℕ) → IsReached protocol n → PassesBy protocol role n → IsOn flags n
+
+-- the flags are those of nodes that are reached from the root and pass by the role, all unreached ones among them
+pub record IsLeft (protocol : Protocol_data) (role : Role) (flags : List Bool) : Type 0 where
+  pub size : length flags ≡ length protocol.nodes
+  pub reached : (n : ℕ) → IsOn flags n → IsReached protocol n
+  pub passing : (n : ℕ) → IsOn flags n → PassesBy protocol role n
+  pub whole : (n : ℕ) → IsUnreached protocol role n → IsOn flags n
 
 -- what is known of the nodes for the role: which involve the role, from which a talk of it can be reached, and which pass by it
 pub record Survey_data : Type 0 where

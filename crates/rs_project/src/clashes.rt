@@ -1,8 +1,9 @@
 ghost use Rattle.std.specs.Prelude.{◌≡◌, ◌<◌, ◌≤◌, ℕ, [], true, false, length, slice_get, Some, None, MatchOption};
 ghost use Rattle.std.specs.List.{All, list_any};
-ghost use Rattle.rs_project.specs.Clashes.{AgreeBefore, AllAgree, ClashesWith, EndsAlone, TalksClash, agree_nodes, both_receive, both_send, has_all, is_choice, is_other_sort, same_sorts};
+ghost use Rattle.rs_project.specs.Clashes.{AgreeBefore, AllAgree, ClashesWith, EndsAlone, TalksClash, agree_nodes, both_receive, both_send, has_all, is_choice, is_other_sort, same_sorts, sends};
 ghost use Rattle.rs_project.specs.Projection.{Agree};
 ghost use Rattle.rs_project.specs.Refusals.{FirstClash};
+ghost use Rattle.rs_wellformed.specs.WellFormed.{IsWellFormed};
 
 use crate::fronts::Front;
 use rs_model::{Arm, Node, Protocol, Role};
@@ -16,7 +17,8 @@ pub struct Clash {
 
 /// The first two members that clash: the least later one, and for it the least earlier one.
 pub fn first_clash(protocol: &Protocol, role: Role, front: &Front) -> Option<Clash>
-    requires { All (λ t. t < length protocol.now.nodes) front.now.talks }
+    requires well_formed { IsWellFormed protocol.now }
+    requires talks { All (λ t. t < length protocol.now.nodes) front.now.talks }
     ensures { MatchOption result (AllAgree protocol.now role front.now.talks (length front.now.talks) × EndsAlone front.now) (λ clash. FirstClash protocol.now role front.now clash.a clash.b) }
 {
     if let Some(clash) = talk_clash(protocol, role, &front.talks) {
@@ -45,7 +47,8 @@ fn end_clash(front: &Front) -> Option<Clash>
 }
 
 fn talk_clash(protocol: &Protocol, role: Role, talks: &[u32]) -> Option<Clash>
-    requires { All (λ t. t < length protocol.now.nodes) talks.now }
+    requires well_formed { IsWellFormed protocol.now }
+    requires talks { All (λ t. t < length protocol.now.nodes) talks.now }
     ensures { MatchOption result (AllAgree protocol.now role talks.now (length talks.now)) (λ clash. TalksClash protocol.now role talks.now clash.a clash.b) }
 {
     for later in 0..talks.len() {
@@ -59,19 +62,46 @@ fn talk_clash(protocol: &Protocol, role: Role, talks: &[u32]) -> Option<Clash>
     None
 }
 
-// The place of the first talk that clashes with the one at a later place.
+// The place of the first talk that clashes with the one at a later place, where those before it agree.
 fn clash_before(protocol: &Protocol, role: Role, talks: &[u32], later: usize) -> Option<usize>
+    requires well_formed { IsWellFormed protocol.now }
+    requires earlier { AllAgree protocol.now role talks.now later }
     requires talks { All (λ t. t < length protocol.now.nodes) talks.now }
     requires later { later < length talks.now }
     ensures { MatchOption result (AgreeBefore protocol.now role talks.now later later) (λ i. ClashesWith protocol.now role talks.now i later) }
 {
-    for earlier in 0..later {
+    let enough = enough_before(protocol, role, talks, later);
+    for earlier in 0..enough {
         let agree = do_agree(protocol, role, talks[earlier], talks[later]);
         if !agree {
             return Some(earlier);
         }
     }
     None
+}
+
+// With how many of the talks before it one has to be compared: where the role sends in the first, that one stands for all.
+fn enough_before(protocol: &Protocol, role: Role, talks: &[u32], later: usize) -> usize
+    requires well_formed { IsWellFormed protocol.now }
+    requires earlier { AllAgree protocol.now role talks.now later }
+    requires talks { All (λ t. t < length protocol.now.nodes) talks.now }
+    requires later { later < length talks.now }
+    ensures most { result ≤ later }
+    ensures enough { AgreeBefore protocol.now role talks.now result later → AgreeBefore protocol.now role talks.now later later }
+{
+    if later > 1 && sends(role, &protocol.nodes[talks[0] as usize]) {
+        return 1;
+    }
+    later
+}
+
+fn sends(role: Role, node: &Node) -> bool
+    ensures { result ≡ sends role node.now }
+{
+    match node {
+        Node::Finished => false,
+        Node::Talk { sender, .. } => *sender == role,
+    }
 }
 
 fn do_agree(protocol: &Protocol, role: Role, one: u32, other: u32) -> bool

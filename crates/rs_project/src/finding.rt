@@ -8,6 +8,7 @@ ghost use Rattle.rs_project.specs.Working.{Adds, AreFound, ArmsFault, Discovers,
 ghost use Rattle.rs_wellformed.specs.WellFormed.{IsWellFormed};
 
 use crate::ProjFault;
+use crate::filing::Fronts;
 use crate::fronts::{Front, front_of};
 use crate::merging::starts_behind;
 use crate::surveying::Survey;
@@ -23,17 +24,17 @@ pub fn arms_of(
     survey: &Survey,
     talks: &[u32],
     choices: &[Arm],
-    fronts: &mut Vec<Front>,
+    fronts: &mut Fronts,
 ) -> Result<Arms, ProjFault>
     requires well_formed { IsWellFormed protocol.now }
     requires few { length protocol.now.nodes < 2 ^ 32 }
     requires survey { IsSurvey protocol.now survey.now.role survey.now }
     requires talks { All (λ t. t < length protocol.now.nodes) talks.now }
     requires choices { map choice_of choices.now ≡ merged_choices protocol.now talks.now }
-    requires found { AreFound protocol.now survey.now.role fronts.old.items }
-    ensures ok { IfOk result (λ arms. Discovers protocol.now survey.now.role fronts.old.items talks.now (map choice_of choices.now) fronts.new.items (nexts_of arms)) }
+    requires found { AreFound protocol.now survey.now.role fronts.old }
+    ensures ok { IfOk result (λ arms. Discovers protocol.now survey.now.role fronts.old talks.now (map choice_of choices.now) fronts.new (nexts_of arms)) }
     ensures choices { IfOk result (λ arms. map choice_of arms ≡ map choice_of choices.now) }
-    ensures err { IfErr result (λ e. ArmsFault protocol.now survey.now.role fronts.old.items talks.now (map choice_of choices.now) e) }
+    ensures err { IfErr result (λ e. ArmsFault protocol.now survey.now.role fronts.old talks.now (map choice_of choices.now) e) }
 {
     let mut arms = Arms::new(alloc);
     for choice in choices {
@@ -57,15 +58,15 @@ fn find(
     survey: &Survey,
     talks: &[u32],
     label: Label,
-    fronts: &mut Vec<Front>,
+    fronts: &mut Fronts,
 ) -> Result<u32, ProjFault>
     requires well_formed { IsWellFormed protocol.now }
     requires few { length protocol.now.nodes < 2 ^ 32 }
     requires survey { IsSurvey protocol.now survey.now.role survey.now }
     requires talks { All (λ t. t < length protocol.now.nodes) talks.now }
-    requires fronts { length fronts.old.items ≤ 1024 }
-    ensures ok { IfOk result (λ n. Finds protocol.now survey.now.role fronts.old.items talks.now label fronts.new.items n) }
-    ensures err { IfErr result (λ e. FindFault protocol.now survey.now.role fronts.old.items talks.now label e) }
+    requires fronts { length fronts.old ≤ 1024 }
+    ensures ok { IfOk result (λ n. Finds protocol.now survey.now.role fronts.old talks.now label fronts.new n) }
+    ensures err { IfErr result (λ e. FindFault protocol.now survey.now.role fronts.old talks.now label e) }
 {
     let front = front_behind(alloc, protocol, survey, talks, label)?;
     match number_of(survey.role, fronts, front) {
@@ -93,46 +94,18 @@ fn front_behind(
 }
 
 // The number of a front, which is added where it is new.
-fn number_of(role: Role, fronts: &mut Vec<Front>, front: Front) -> Result<u32, ProjFault>
-    requires { length fronts.old.items ≤ 1024 }
-    ensures ok { IfOk result (λ n. Adds fronts.old.items front fronts.new.items n) }
-    ensures err { IfErr result (λ e. NumberFault role fronts.old.items front e) }
+fn number_of(role: Role, fronts: &mut Fronts, front: Front) -> Result<u32, ProjFault>
+    requires { length fronts.old ≤ 1024 }
+    ensures ok { IfOk result (λ n. Adds fronts.old front fronts.new n) }
+    ensures err { IfErr result (λ e. NumberFault role fronts.old front e) }
 {
-    if let Some(place) = place_of(fronts.as_slice(), &front) {
-        return Ok(place as u32);
+    if let Some(number) = fronts.number_of(&front) {
+        return Ok(number);
     }
     let number = fronts.len();
     if number == MOST_STATES {
         return Err(ProjFault::TooManyStates { role });
     }
-    fronts.push(front)?;
+    fronts.add(front)?;
     Ok(number as u32)
-}
-
-fn place_of(fronts: &[Front], front: &Front) -> Option<usize>
-    ensures { MatchOption result (IsNew fronts.now front.now) (λ n. slice_get fronts.now n ≡ Some front.now) }
-{
-    for i in 0..fronts.len() {
-        if same_front(&fronts[i], front) {
-            return Some(i);
-        }
-    }
-    None
-}
-
-fn same_front(one: &Front, other: &Front) -> bool
-    ensures sound { result ≡ true → one.now ≡ other.now }
-    ensures whole { result ≡ false → one.now ≡ other.now → ⊥ }
-{
-    if one.ends != other.ends {
-        return false;
-    }
-    same_talks(&one.talks, &other.talks)
-}
-
-fn same_talks(one: &[u32], other: &[u32]) -> bool
-    ensures sound { result ≡ true → one.now ≡ other.now }
-    ensures whole { result ≡ false → one.now ≡ other.now → ⊥ }
-{
-    one == other
 }

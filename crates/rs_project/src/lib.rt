@@ -3,10 +3,12 @@
 #![tactic(auto)]
 
 mod clashes;
+mod filing;
 mod finding;
 mod fronts;
 pub mod laws;
 mod merging;
+mod peeling;
 mod projecting;
 mod rounds;
 mod spreading;

@@ -10,6 +10,7 @@ ghost use Rattle.rs_project.specs.Working.{AreFound, ArmsFault, Discovers, HasSh
 ghost use Rattle.rs_wellformed.specs.WellFormed.{IsWellFormed};
 
 use crate::clashes::first_clash;
+use crate::filing::Fronts;
 use crate::finding::arms_of;
 use crate::fronts::{Front, front_of};
 use crate::merging::merged_arms;
@@ -123,8 +124,8 @@ fn work(
     ensures ok { IfOk result (λ p. Projected protocol.now survey.now.role p) }
     ensures err { IfErr result (λ e. (e ≡ ProjFault.NoMemory) ⊎ FirstRefusal protocol.now survey.now.role e) }
 {
-    let mut fronts = Vec::new(alloc);
-    fronts.push(start)?;
+    let mut fronts = Fronts::new(alloc)?;
+    fronts.add(start)?;
     let mut states: Vec<State> = Vec::new(alloc);
     while states.len() < fronts.len() {
         let state = match state_of(alloc, protocol, survey, states.len(), &mut fronts) {
@@ -133,7 +134,7 @@ fn work(
         };
         states.push(state)?;
     }
-    let sets = sets_of(alloc, &fronts)?;
+    let sets = sets_of(alloc, fronts.as_slice())?;
     let machine = Machine {
         role: survey.role,
         states,
@@ -147,17 +148,17 @@ fn state_of(
     protocol: &Protocol,
     survey: &Survey,
     number: usize,
-    fronts: &mut Vec<Front>,
+    fronts: &mut Fronts,
 ) -> Result<State, ProjFault>
     requires well_formed { IsWellFormed protocol.now }
     requires few { length protocol.now.nodes < 2 ^ 32 }
     requires survey { IsSurvey protocol.now survey.now.role survey.now }
-    requires found { AreFound protocol.now survey.now.role fronts.old.items }
-    requires number { number < length fronts.old.items }
-    ensures ok { IfOk result (λ s. WorksOn protocol.now survey.now.role fronts.old.items number fronts.new.items s) }
-    ensures err { IfErr result (λ e. StateFault protocol.now survey.now.role fronts.old.items number e) }
+    requires found { AreFound protocol.now survey.now.role fronts.old }
+    requires number { number < length fronts.old }
+    ensures ok { IfOk result (λ s. WorksOn protocol.now survey.now.role fronts.old number fronts.new s) }
+    ensures err { IfErr result (λ e. StateFault protocol.now survey.now.role fronts.old number e) }
 {
-    let front = &fronts[number];
+    let front = &fronts.as_slice()[number];
     if let Some(clash) = first_clash(protocol, survey.role, front) {
         return Err(ProjFault::Unmergeable {
             role: survey.role,
@@ -179,17 +180,17 @@ fn merged_state(
     protocol: &Protocol,
     survey: &Survey,
     talks: &[u32],
-    fronts: &mut Vec<Front>,
+    fronts: &mut Fronts,
 ) -> Result<State, ProjFault>
     requires well_formed { IsWellFormed protocol.now }
     requires few { length protocol.now.nodes < 2 ^ 32 }
     requires survey { IsSurvey protocol.now survey.now.role survey.now }
-    requires found { AreFound protocol.now survey.now.role fronts.old.items }
+    requires found { AreFound protocol.now survey.now.role fronts.old }
     requires involved { (t : ℕ) → Among talks.now t → Involves protocol.now survey.now.role t }
     requires agree { (one other : ℕ) → Contains talks.now one → Contains talks.now other → Agree protocol.now survey.now.role one other }
-    ensures ok { IfOk result (λ s. Discovers protocol.now survey.now.role fronts.old.items talks.now (merged_choices protocol.now talks.now) fronts.new.items (nexts_behind s)) }
+    ensures ok { IfOk result (λ s. Discovers protocol.now survey.now.role fronts.old talks.now (merged_choices protocol.now talks.now) fronts.new (nexts_behind s)) }
     ensures shape { IfOk result (λ s. HasShape protocol.now survey.now.role talks.now s) }
-    ensures err { IfErr result (λ e. ArmsFault protocol.now survey.now.role fronts.old.items talks.now (merged_choices protocol.now talks.now) e) }
+    ensures err { IfErr result (λ e. ArmsFault protocol.now survey.now.role fronts.old talks.now (merged_choices protocol.now talks.now) e) }
 {
     let choices = merged_arms(alloc, protocol, talks)?;
     let arms = match arms_of(alloc, protocol, survey, talks, &choices, fronts) {

@@ -1,10 +1,11 @@
 ghost use Rattle.std.specs.Prelude.{◌≡◌, ◌<◌, ◌≤◌, ◌^◌, ◌&&◌, ℕ, true, false, length, replicate, slice_index_or, IfOk, MatchOption};
 ghost use Rattle.rs_project.specs.Graph.{IsReached, IsUnreached};
-ghost use Rattle.rs_project.specs.Marks.{IsLive, IsOn, IsSurvey, nexts_of_node};
+ghost use Rattle.rs_project.specs.Marks.{IsLeft, IsLive, IsOn, IsSurvey, nexts_of_node};
 ghost use Rattle.rs_project.specs.Projected.{nexts_of};
 ghost use Rattle.rs_project.specs.Refusals.{NoneUnreached};
 ghost use Rattle.rs_wellformed.specs.WellFormed.{IsWellFormed};
 
+use crate::peeling::peel;
 use crate::spreading::spread;
 use crate::surveying::Survey;
 use rs_model::{Arm, NoMemory, Node, Protocol};
@@ -21,9 +22,9 @@ pub fn first_unreached(
     requires survey { IsSurvey protocol.now survey.now.role survey.now }
     ensures { IfOk result (λ o. MatchOption o (NoneUnreached protocol.now survey.now.role) (λ node. IsUnreached protocol.now survey.now.role node × ((n : ℕ) → IsUnreached protocol.now survey.now.role n → node ≤ n))) }
 {
-    let live = live_nodes(alloc, protocol, survey)?;
-    for number in 0..live.len() {
-        let unreached = is_unreached(alloc, protocol, survey, &live, number as u32)?;
+    let left = left_nodes(alloc, protocol, survey)?;
+    for number in 0..left.len() {
+        let unreached = is_unreached(alloc, protocol, survey, &left, number as u32)?;
         if unreached {
             return Ok(Some(number as u32));
         }
@@ -35,20 +36,32 @@ fn is_unreached(
     alloc: Global,
     protocol: &Protocol,
     survey: &Survey,
-    live: &[bool],
+    left: &[bool],
     number: u32,
 ) -> Result<bool, NoMemory>
     requires well_formed { IsWellFormed protocol.now }
     requires survey { IsSurvey protocol.now survey.now.role survey.now }
-    requires live { IsLive protocol.now survey.now.role live.now }
+    requires left { IsLeft protocol.now survey.now.role left.now }
     requires node { number < length protocol.now.nodes }
     ensures sound { IfOk result (λ b. b ≡ true → IsUnreached protocol.now survey.now.role number) }
     ensures whole { IfOk result (λ b. b ≡ false → IsUnreached protocol.now survey.now.role number → ⊥) }
 {
-    if !live[number as usize] {
+    if !left[number as usize] {
         return Ok(false);
     }
     goes_round(alloc, protocol, survey, number)
+}
+
+// Nodes that pass by the role and are reached from the root, without those from which one can't go on so for ever.
+fn left_nodes(alloc: Global, protocol: &Protocol, survey: &Survey) -> Result<Vec<bool>, NoMemory>
+    requires well_formed { IsWellFormed protocol.now }
+    requires few { length protocol.now.nodes < 2 ^ 32 }
+    requires survey { IsSurvey protocol.now survey.now.role survey.now }
+    ensures { IfOk result (λ v. IsLeft protocol.now survey.now.role v.items) }
+{
+    let mut left = live_nodes(alloc, protocol, survey)?;
+    peel(alloc, protocol, &mut left)?;
+    Ok(left)
 }
 
 // The nodes that pass by the role and are reached from the root.

@@ -129,7 +129,8 @@ fn await_one(protocol: &Protocol, awaited: &mut Vec<bool>, number: usize) -> boo
     true
 }
 
-fn leads_to_one(node: &Node, awaited: &[bool]) -> bool
+/// Whether an arm of the node leads to a marked one.
+pub fn leads_to_one(node: &Node, awaited: &[bool]) -> bool
     requires { LeadsWithin (length awaited.now) node.now }
     ensures { result ≡ leads_on awaited.now node.now }
 {

@@ -10,16 +10,16 @@ use Rattle.rs_project.proofs.finding.arms_of.Goals as goal
 
 pub loop-choice-init : goal.loop-choice-init
 loop-choice-init c =
-    let P : List Arm → Type 0 = λ z. Discovers c.args.protocol.now c.args.survey.now.role c.args.fronts.now.items c.args.talks.now [] c.args.fronts.now.items (nexts_of z) in
+    let P : List Arm → Type 0 = λ z. Discovers c.args.protocol.now c.args.survey.now.role c.args.fronts.now c.args.talks.now [] c.args.fronts.now (nexts_of z) in
     record {
-      discovers = subst P (sym c.new-arms.ensures) (discovers-none c.args.protocol.now c.args.survey.now.role c.args.fronts.now.items c.args.talks.now c.requires.found);
+      discovers = subst P (sym c.new-arms.ensures) (discovers-none c.args.protocol.now c.args.survey.now.role c.args.fronts.now c.args.talks.now c.requires.found);
       same = ap (λ (z : List Arm). map choice_of z) c.new-arms.ensures;
     }
 
 pub returns-in-Err-clause-err : goal.returns-in-Err-clause-err
 returns-in-Err-clause-err c =
     let a : Arm = get_or c.args.choices.now c.loop-choice.choice-index record { label = record { 0 = 0 }; sort = unit; next = 0 } in
-    arms-fault c.args.protocol.now c.args.survey.now.role c.args.fronts.now.items c.loop-choice.fronts.items c.args.talks.now c.args.choices.now c.loop-choice.choice-index a (nexts_of c.loop-choice.arms)
+    arms-fault c.args.protocol.now c.args.survey.now.role c.args.fronts.now c.loop-choice.fronts c.args.talks.now c.args.choices.now c.loop-choice.choice-index a (nexts_of c.loop-choice.arms)
     (slice_get-get_or c.args.choices.now c.loop-choice.choice-index _ c.loop-choice-test.true) c.loop-choice.invariant.discovers c.in-Err.fault c.in-Err.ensures.err
 
 pub loop-choice-preserved : goal.loop-choice-preserved
@@ -27,7 +27,7 @@ loop-choice-preserved c =
     let a : Arm = get_or c.args.choices.now c.loop-choice.choice-index record { label = record { 0 = 0 }; sort = unit; next = 0 } in
     let at = slice_get-get_or c.args.choices.now c.loop-choice.choice-index _ c.loop-choice-test.true in
     record {
-      discovers = arm-more c.args.protocol.now c.args.survey.now.role c.args.survey.now c.args.fronts.now.items c.loop-choice.fronts.items c.find.new.fronts.items c.args.talks.now c.args.choices.now c.loop-choice.choice-index a
+      discovers = arm-more c.args.protocol.now c.args.survey.now.role c.args.survey.now c.args.fronts.now c.loop-choice.fronts c.find.new.fronts c.args.talks.now c.args.choices.now c.loop-choice.choice-index a
           c.loop-choice.arms c.push.new.self c.in-Ok.next c.requires.survey c.requires.choices at c.in_ok-push.ensures.ok c.loop-choice.invariant.discovers c.in-Ok.ensures.ok;
       same = same-more c.args.choices.now c.loop-choice.choice-index a c.loop-choice.arms c.push.new.self c.in-Ok.next at c.in_ok-push.ensures.ok c.loop-choice.invariant.same;
     }

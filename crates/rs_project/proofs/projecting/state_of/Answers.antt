@@ -2,30 +2,30 @@ use Rattle.std.proofs.Common.{◌≡◌, ℕ, List, ap, subst, ◌∙◌}
 use Rattle.std.specs.List.{Contains}
 use Rattle.rs_project.specs.Data.{Front_data}
 use Rattle.rs_project.specs.Marks.{Among, Survey_data}
-use Rattle.rs_project.proofs.Lists.{read-self}
+use Rattle.rs_project.proofs.Lists.{read-via}
 use Rattle.rs_project.proofs.Steps.{talks-within, state-fault, works-on, merges-at}
 use Rattle.rs_project.proofs.projecting.state_of.Goals as goal
 
-pub first_clash-requires : goal.first_clash-requires
-first_clash-requires c =
-    let f = c.index-front.result.now in
-    let here = read-self c.args.fronts.now.items c.args.number f c.requires.number c.index-front.ensures in
+pub first_clash-requires-clause-talks : goal.first_clash-requires-clause-talks
+first_clash-requires-clause-talks c =
+    let f = c.index-as_slice-number.result in
+    let here = read-via c.args.fronts.now c.as_slice.result.now c.args.number f c.as_slice.ensures c.requires.number c.index-as_slice-number.is in
     talks-within c.args.protocol.now c.args.survey.now.role f.talks (λ t m. c.requires.found.right c.args.number f t here m)
 
 pub merged_state-requires-clause-involved : goal.merged_state-requires-clause-involved
 merged_state-requires-clause-involved c = λ t m.
-    let f = c.index-front.result.now in
-    let here = read-self c.args.fronts.now.items c.args.number f c.requires.number c.index-front.ensures in
+    let f = c.index-as_slice-number.result in
+    let here = read-via c.args.fronts.now c.as_slice.result.now c.args.number f c.as_slice.ensures c.requires.number c.index-as_slice-number.is in
     let talks : c.deref-2.result.now ≡ f.talks = c.deref-2.ensures.value ∙ c.in_ok-talks.ensures.items ∙ c.deref.ensures.value ∙ ap (λ (z : Front_data). z.talks) c.front.view_is in
     let P : List ℕ → Type 0 = λ z. Among z t in
     c.requires.found.right c.args.number f t here (subst P talks m)
 
 pub merged_state-requires-clause-agree : goal.merged_state-requires-clause-agree
 merged_state-requires-clause-agree c = λ one other a b.
-    let f = c.index-front.result.now in
-    let here = read-self c.args.fronts.now.items c.args.number f c.requires.number c.index-front.ensures in
+    let f = c.index-as_slice-number.result in
+    let here = read-via c.args.fronts.now c.as_slice.result.now c.args.number f c.as_slice.ensures c.requires.number c.index-as_slice-number.is in
     let talks : c.deref-2.result.now ≡ f.talks = c.deref-2.ensures.value ∙ c.in_ok-talks.ensures.items ∙ c.deref.ensures.value ∙ ap (λ (z : Front_data). z.talks) c.front.view_is in
-    let merges = merges-at c.args.protocol.now c.args.survey.now.role c.survey.inside.role c.args.fronts.now.items c.args.number f (ap (λ (z : Survey_data). z.role) c.survey.view_is)
+    let merges = merges-at c.args.protocol.now c.args.survey.now.role c.survey.inside.role c.args.fronts.now c.args.number f (ap (λ (z : Survey_data). z.role) c.survey.view_is)
     c.requires.well_formed c.requires.found here c.in_default.ensures in
     let P : List ℕ → Type 0 = λ z. Contains z one in
     let Q : List ℕ → Type 0 = λ z. Contains z other in
@@ -33,18 +33,18 @@ merged_state-requires-clause-agree c = λ one other a b.
 
 pub returns-in-Err-clause-err : goal.returns-in-Err-clause-err
 returns-in-Err-clause-err c =
-    let f = c.index-front.result.now in
-    let here = read-self c.args.fronts.now.items c.args.number f c.requires.number c.index-front.ensures in
+    let f = c.index-as_slice-number.result in
+    let here = read-via c.args.fronts.now c.as_slice.result.now c.args.number f c.as_slice.ensures c.requires.number c.index-as_slice-number.is in
     let talks : c.deref-2.result.now ≡ f.talks = c.deref-2.ensures.value ∙ c.in_ok-talks.ensures.items ∙ c.deref.ensures.value ∙ ap (λ (z : Front_data). z.talks) c.front.view_is in
-    let merges = merges-at c.args.protocol.now c.args.survey.now.role c.survey.inside.role c.args.fronts.now.items c.args.number f (ap (λ (z : Survey_data). z.role) c.survey.view_is)
+    let merges = merges-at c.args.protocol.now c.args.survey.now.role c.survey.inside.role c.args.fronts.now c.args.number f (ap (λ (z : Survey_data). z.role) c.survey.view_is)
     c.requires.well_formed c.requires.found here c.in_default.ensures in
-    state-fault c.args.protocol.now c.args.survey.now.role c.args.fronts.now.items c.args.number f c.deref-2.result.now talks here merges c.in-Err.fault c.in-Err.ensures.err
+    state-fault c.args.protocol.now c.args.survey.now.role c.args.fronts.now c.args.number f c.deref-2.result.now talks here merges c.in-Err.fault c.in-Err.ensures.err
 
 pub returns-clause-ok : goal.returns-clause-ok
 returns-clause-ok c =
-    let f = c.index-front.result.now in
-    let here = read-self c.args.fronts.now.items c.args.number f c.requires.number c.index-front.ensures in
+    let f = c.index-as_slice-number.result in
+    let here = read-via c.args.fronts.now c.as_slice.result.now c.args.number f c.as_slice.ensures c.requires.number c.index-as_slice-number.is in
     let talks : c.deref-2.result.now ≡ f.talks = c.deref-2.ensures.value ∙ c.in_ok-talks.ensures.items ∙ c.deref.ensures.value ∙ ap (λ (z : Front_data). z.talks) c.front.view_is in
-    let merges = merges-at c.args.protocol.now c.args.survey.now.role c.survey.inside.role c.args.fronts.now.items c.args.number f (ap (λ (z : Survey_data). z.role) c.survey.view_is)
+    let merges = merges-at c.args.protocol.now c.args.survey.now.role c.survey.inside.role c.args.fronts.now c.args.number f (ap (λ (z : Survey_data). z.role) c.survey.view_is)
     c.requires.well_formed c.requires.found here c.in_default.ensures in
-    works-on c.args.protocol.now c.args.survey.now.role c.args.fronts.now.items c.merged_state.new.fronts.items c.args.number f c.deref-2.result.now c.in-Ok.state talks here merges c.in-Ok.ensures.ok c.in-Ok.ensures.shape
+    works-on c.args.protocol.now c.args.survey.now.role c.args.fronts.now c.merged_state.new.fronts c.args.number f c.deref-2.result.now c.in-Ok.state talks here merges c.in-Ok.ensures.ok c.in-Ok.ensures.shape

@@ -3,7 +3,7 @@ use Rattle.rs_project.specs.Working.{Working}
 use Rattle.rs_project.proofs.projecting.work.Given as goal
 
 abbrev pub invariant-loop-states : goal.invariant-loop-states
-invariant-loop-states l = Working l.protocol l.survey.role l.fronts.items l.states.items
+invariant-loop-states l = Working l.protocol l.survey.role l.fronts l.states.items
 
 abbrev pub decreases-loop-states : goal.decreases-loop-states
 decreases-loop-states l = 1024 - length l.states.items

@@ -1,7 +1,6 @@
-use Rattle.rs_project.proofs.Cycles.{passes-unreached}
 use Rattle.rs_project.proofs.rounds.is_unreached.Goals as goal
 
-pub returns-then-not-live-number-clause-whole : goal.returns-then-not-live-number-clause-whole
-returns-then-not-live-number-clause-whole c = λ e u.
-    let on = c.requires.live.whole c.args.number u.reached (passes-unreached c.args.protocol.now c.args.survey.now.role c.args.number u) in
-    cc (on, c.if-not-live-number.true)
+pub returns-then-not-left-number-clause-whole : goal.returns-then-not-left-number-clause-whole
+returns-then-not-left-number-clause-whole c = λ e u.
+    let on = c.requires.left.whole c.args.number u in
+    cc (on, c.if-not-left-number.true)

@@ -1,0 +1,70 @@
+-- Nodes that aren't unreached, by what they lead to.
+use Rattle.std.proofs.Common.{◌≡◌, ◌≢◌, inl, inr, ℕ, zero, suc, Bool, false, List, [], ◌∷◌, ◌++◌, set, Some, slice_get, refl, ◌∙◌, subst}
+use Rattle.std.proofs.lemmas.List.{length-set, get_or-set_other}
+use Rattle.std.proofs.lemmas.Bool.Decides.{eqb_tells}
+use Rattle.rs_model.specs.Data.{Protocol_data}
+use Rattle.rs_model.specs.declared.graph.Node.{Node}
+use Rattle.rs_model.specs.declared.graph.Role.{Role}
+use Rattle.rs_project.specs.Graph.{PathStep, LeadsTo, IsPath, PassesBy, AllPassBy, IsUnreached}
+use Rattle.rs_project.specs.Marks.{IsOn, IsLeft, IsLive, leads_on}
+use Rattle.rs_project.proofs.Cycles.{passes-unreached}
+use Rattle.rs_project.proofs.Spread.{step_of, path-snoc}
+use Rattle.rs_project.proofs.Surveys.{leads-on-by}
+
+pub left-live : (pr : Protocol_data) (role : Role) (flags : List Bool) → IsLive pr role flags → IsLeft pr role flags
+left-live pr role flags live = record {
+  size = live.size;
+  reached = live.reached;
+  passing = live.passing;
+  whole = λ n u. live.whole n u.reached (passes-unreached pr role n u);
+}
+
+around-snoc : (pr : Protocol_data) (role : Role) (ss : List PathStep) (h a : ℕ) → AllPassBy pr role ss → PassesBy pr role h → AllPassBy pr role (ss ++ (step_of h a ∷ []))
+around-snoc pr role [] h a all one = (one, tt)
+around-snoc pr role (s ∷ ss) h a all one = (all.0, around-snoc pr role ss h a all.1 one)
+
+snoc-some : (ss : List PathStep) (s : PathStep) → (ss ++ (s ∷ [])) ≢ []
+snoc-some [] s e = cc (e)
+snoc-some (t ∷ ss) s e = cc (e)
+
+-- an unreached node leads to another one
+onward : (pr : Protocol_data) (role : Role) (n : ℕ) → IsUnreached pr role n → (place : ℕ) × (next : ℕ) × LeadsTo pr n place next × IsUnreached pr role next
+onward pr role n u = go u.steps u.some u.cycle u.around
+  where
+    go : (ss : List PathStep) → ss ≢ [] → IsPath pr n ss n → AllPassBy pr role ss → (place : ℕ) × (next : ℕ) × LeadsTo pr n place next × IsUnreached pr role next
+    go [] ne path around = absurd (ne refl)
+    go (s ∷ ss) ne path around =
+        let P : ℕ → Type 0 = λ z. PassesBy pr role z in (
+          s.place,
+          path.0,
+          path.2,
+          record {
+            reached = (u.reached.0 ++ (step_of n s.place ∷ []), path-snoc pr u.reached.0 pr.root n s.place path.0 u.reached.1 path.2);
+            steps = ss ++ (step_of n s.place ∷ []);
+            some = snoc-some ss (step_of n s.place);
+            cycle = path-snoc pr ss path.0 n s.place path.0 path.3 path.2;
+            around = around-snoc pr role ss n s.place around.1 (subst P path.1 around.0);
+          },
+        )
+
+off-before : (flags : List Bool) (x n : ℕ) → IsOn (set flags x false) n → IsOn flags n
+off-before [] x n h = absurd (cc (h))
+off-before (b ∷ bs) zero zero h = absurd (cc (h))
+off-before (b ∷ bs) zero (suc n) h = h
+off-before (b ∷ bs) (suc x) zero h = h
+off-before (b ∷ bs) (suc x) (suc n) h = off-before bs x n h
+
+pub left-less : (pr : Protocol_data) (role : Role) (flags : List Bool) (n : ℕ) (node : Node) → slice_get pr.nodes n ≡ Some node → leads_on flags node ≡ false → IsLeft pr role flags
+    → IsLeft pr role (set flags n false)
+left-less pr role flags n node is ends left = record {
+  size = length-set flags n false ∙ left.size;
+  reached = λ m h. left.reached m (off-before flags n m h);
+  passing = λ m h. left.passing m (off-before flags n m h);
+  whole = λ m u. elim (eqb_tells m n) [
+    | inl p ↦ (let o = onward pr role m u in
+        let P : ℕ → Type 0 = λ z. LeadsTo pr z o.0 o.1 in
+        let on = leads-on-by pr flags n o.0 o.1 node is (subst P p.1 o.2) (left.whole o.1 o.3) in
+        absurd (cc (on, ends)))
+    | inr p ↦ get_or-set_other flags n m false false p.1 ∙ left.whole m u
+  ];
+}
