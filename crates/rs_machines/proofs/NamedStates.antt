@@ -16,7 +16,7 @@ use Rattle.rs_machines.specs.Named.{ArmHasName, StateHasNames, HasNames}
 use Rattle.rs_machines.specs.Scenes.{Scene, with_label, in_act, in_braces, in_rec, behind, first_scene}
 use Rattle.rs_machines.specs.Spells.{has_room_for, body_fits, arms_fit, Fits, SpellsMachine}
 use Rattle.rs_machines.specs.Trees.{Body, ends, again, binds, acts, offers, Branches, one, more, MachineTree}
-use Rattle.rs_machines.proofs.Shapes.{and_split, or_right, known_by}
+use Rattle.rs_machines.proofs.SpeltShapes.{and_split, or_right, known_by}
 
 -- all of these names are among those
 abbrev Has : List (List ℕ) → List (List ℕ) → Type 0
