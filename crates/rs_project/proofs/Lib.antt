@@ -16,3 +16,4 @@ pub mod OneAnswer
 pub mod OneProjection
 pub mod Choices
 pub mod Machines
+pub mod Histories

@@ -3,6 +3,7 @@ pub mod Graph
 pub mod Projection
 pub mod Order
 pub mod Projected
+pub mod Reached
 pub mod Refusals
 pub mod Marks
 pub mod Clashes

@@ -1,0 +1,5 @@
+use Rattle.rs_project.proofs.Histories.{end-is-met}
+use Rattle.rs_project.proofs.laws.no_members_are_the_end.Goals as goal
+
+pub returns : goal.returns
+returns c = end-is-met
