@@ -6,7 +6,6 @@ pub mod Covers
 pub mod Grow
 pub mod Equal
 pub mod Built
-pub mod Machines
 pub mod Sessions
 pub mod Fronts
 pub mod Rounds

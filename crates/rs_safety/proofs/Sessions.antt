@@ -9,7 +9,7 @@ use Rattle.rs_core.proofs.Stands.{Peered}
 use Rattle.rs_project.specs.Data.{Projection_data}
 use Rattle.rs_project.specs.Projection.{AreProjections}
 use Rattle.rs_safety.proofs.Walks.{numbered}
-use Rattle.rs_safety.proofs.Machines.{projection-machine}
+use Rattle.rs_project.proofs.Machines.{projection-machine}
 use Rattle.rs_safety.proofs.Built.{safe-of-parts}
 use Rattle.rs_safety.proofs.Equal.{equal}
 

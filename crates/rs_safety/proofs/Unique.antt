@@ -14,7 +14,7 @@ use Rattle.rs_project.specs.Projection.{IsSet, Choice, choice_of, MeetsBehind, E
 use Rattle.rs_safety.specs.Alike.{StandAlike, LeadAlike, ActAlike, BothDone, BothPut, BothTake, AreAlike}
 use Rattle.rs_safety.proofs.Members.{Among, contained, contains}
 use Rattle.rs_safety.proofs.Covers.{stood}
-use Rattle.rs_safety.proofs.Machines.{a-member}
+use Rattle.rs_project.proofs.Machines.{a-member}
 
 -- each number is below those behind it
 abbrev Rises : List ℕ → Type 0

@@ -90,6 +90,7 @@ pub fn accept_same<'a>(
     ensures other { IfErr result (λ e. FirstOther machines.items projections.now e.role) }
     ensures back { IfErr result (λ e. e.machines ≡ machines.items) }
 {
+    // The proof takes from this that a role's number fits its type.
     let _roles = protocol.roles;
     match first_other(projections, machines.as_slice()) {
         Some(place) => Err(SameRefused {

@@ -1,9 +1,8 @@
 //! Laws over the definitions: each function does nothing, and its contract is the law.
 
-ghost use Rattle.std.specs.Prelude.{◌≡◌, ◌<◌, map, List};
+ghost use Rattle.std.specs.Prelude.{◌≡◌, map, List};
 ghost use Rattle.rs_core.specs.Safety.{IsSafe};
 ghost use Rattle.rs_model.specs.Data.{Machine_data, Protocol_data};
-ghost use Rattle.rs_model.specs.WellFormed.{IsWellFormedMachine};
 ghost use Rattle.rs_model.specs.declared.graph.Role.{Role};
 ghost use Rattle.rs_safety.specs.Alike.{AreAlike};
 ghost use Rattle.rs_project.specs.Data.{Projection_data};
@@ -14,11 +13,6 @@ ghost use Rattle.rs_wellformed.specs.WellFormed.{IsWellFormed};
 /// Machines that are the projections of a well-formed protocol, in role order, are safe.
 pub fn equal_sessions_are_safe()
     ensures { (protocol : Protocol_data) (projections : List Projection_data) (machines : List Machine_data) → IsWellFormed protocol → AreProjections protocol projections → machines ≡ map (λ p. p.machine) projections → IsSafe machines }
-{}
-
-/// The machine of a projection of a well-formed protocol is well formed.
-pub fn projections_are_well_formed()
-    ensures { (protocol : Protocol_data) (role : Role) (projection : Projection_data) → IsWellFormed protocol → role.0 < protocol.roles → IsProjection protocol role projection → IsWellFormedMachine projection.machine protocol.roles }
 {}
 
 /// A well-formed protocol has one projection onto a role, but for the numbers of its states.

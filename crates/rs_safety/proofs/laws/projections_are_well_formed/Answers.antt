@@ -1,5 +1,0 @@
-use Rattle.rs_safety.proofs.Machines.{projection-machine}
-use Rattle.rs_safety.proofs.laws.projections_are_well_formed.Goals as goal
-
-pub returns : goal.returns
-returns c = projection-machine
