@@ -12,7 +12,7 @@ use Rattle.rs_project.specs.Data.{Front_data}
 use Rattle.rs_project.specs.Graph.{Involves, MeetsFirst, MeetsTheEnd}
 use Rattle.rs_project.specs.Marks.{Among}
 use Rattle.rs_project.specs.Order.{IsOnce, Numbered, Worked}
-use Rattle.rs_project.specs.Projected.{nexts_behind}
+use Rattle.rs_project.specs.Numbered.{nexts_behind}
 use Rattle.rs_project.specs.Projection.{Choice, choice_of, merged_choices, MeetsBehind, EndsBehind}
 use Rattle.rs_project.specs.Refusals.{IsFront, IsFrontAt, Merges, AreBehind, FirstClash}
 use Rattle.rs_project.specs.declared.projecting.ProjFault.{ProjFault}

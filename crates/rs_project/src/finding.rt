@@ -2,7 +2,7 @@ ghost use Rattle.std.specs.Prelude.{◌≡◌, ◌<◌, ◌≤◌, ◌^◌, ◌�
 ghost use Rattle.std.specs.List.{All};
 ghost use Rattle.rs_project.specs.Marks.{IsSurvey};
 ghost use Rattle.rs_project.specs.Order.{IsOnce};
-ghost use Rattle.rs_project.specs.Projected.{nexts_of};
+ghost use Rattle.rs_project.specs.Numbered.{nexts_of};
 ghost use Rattle.rs_project.specs.Projection.{choice_of, merged_choices};
 ghost use Rattle.rs_project.specs.Working.{Adds, AreFound, ArmsFault, Discovers, FindFault, Finds, IsFrontBehind, IsNew, NumberFault};
 ghost use Rattle.rs_wellformed.specs.WellFormed.{IsWellFormed};
