@@ -1,5 +1,6 @@
 -- The whole meaning of the projection of a protocol onto a role: also its numbers are fixed.
 use Rattle.std.specs.Prelude.{◌≤◌, ℕ, List, [], map, length}
+use Rattle.rs_model.specs.declared.limits.TheConstants.{MOST_STATES}
 use Rattle.rs_model.specs.Data.{Protocol_data}
 use Rattle.rs_model.specs.declared.graph.Arm.{Arm}
 use Rattle.rs_model.specs.declared.graph.Role.{Role}
@@ -25,4 +26,4 @@ pub record Projected (protocol : Protocol_data) (role : Role) (projection : Proj
   pub is : IsProjection protocol role projection
   pub order : Worked 0 1 (map nexts_behind projection.machine.states) (length projection.sets)
   pub once : IsOnce projection.sets
-  pub few : length projection.sets ≤ 1024
+  pub few : length projection.sets ≤ MOST_STATES
