@@ -1,5 +1,6 @@
 -- The whole meaning of the projection of a protocol onto a role: also its numbers are fixed.
 use Rattle.std.specs.Prelude.{◌≡◌, ◌≤◌, ℕ, List, [], map, length, Some, slice_get}
+use Rattle.rs_model.specs.declared.limits.TheConstants.{MOST_STATES}
 use Rattle.rs_model.specs.Data.{Protocol_data}
 use Rattle.rs_model.specs.declared.graph.Arm.{Arm}
 use Rattle.rs_model.specs.declared.graph.Role.{Role}
@@ -25,7 +26,7 @@ pub record IsNumberedProjection (protocol : Protocol_data) (role : Role) (projec
   pub is : IsProjection protocol role projection
   pub order : Worked 0 1 (map nexts_behind projection.machine.states) (length projection.sets)
   pub once : IsOnce projection.sets
-  pub few : length projection.sets ≤ 1024
+  pub few : length projection.sets ≤ MOST_STATES
 
 -- those onto the first so many roles, in role order
 pub record AreFirstProjections (protocol : Protocol_data) (count : ℕ) (projections : List Projection_data) : Type 0 where

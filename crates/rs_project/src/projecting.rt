@@ -1,5 +1,6 @@
 ghost use Rattle.std.specs.Prelude.{◌≡◌, ◌⊎◌, ◌<◌, ◌≤◌, ◌^◌, ℕ, map, length, IfOk, IfErr};
 ghost use Rattle.std.specs.List.{Contains};
+ghost use Rattle.rs_model.specs.declared.limits.TheConstants.{MOST_STATES};
 ghost use Rattle.rs_model.specs.WellFormed.{IsWellFormedMachine};
 ghost use Rattle.rs_project.specs.Graph.{Involves, MeetsFirst, MeetsTheEnd};
 ghost use Rattle.rs_project.specs.Marks.{Among, IsSurvey};
@@ -95,7 +96,7 @@ pub fn project(alloc: Global, protocol: &Protocol, role: Role) -> Result<Project
     requires few { length protocol.now.nodes < 2 ^ 32 }
     ensures ok { IfOk result (λ p. IsNumberedProjection protocol.now role p) }
     ensures machine { IfOk result (λ p. IsWellFormedMachine p.machine protocol.now.roles) }
-    ensures few { IfOk result (λ p. length p.machine.states ≤ 1024) }
+    ensures few { IfOk result (λ p. length p.machine.states ≤ MOST_STATES) }
     ensures err { IfErr result (λ e. (e ≡ ProjFault.NoMemory) ⊎ FirstRefusal protocol.now role e) }
 {
     let survey = survey_of(alloc, protocol, role)?;
