@@ -21,7 +21,7 @@ use Rattle.rs_safety.specs.Room.{longest, top_rank, lag}
 use Rattle.rs_derive.specs.Figures.{IsGreatest, greatest}
 use Rattle.rs_safety.proofs.Limits.{is-greatest}
 use Rattle.rs_safety.proofs.Sessions.{no-machine, no-projection}
-use Rattle.rs_safety.specs.Sessions.{AreDerivations, IsSession}
+use Rattle.rs_safety.specs.Sessions.{AreDerivations, AreOneEach, IsSession}
 use Rattle.rs_safety.proofs.Walks.{numbered}
 use Rattle.rs_safety.proofs.Reordered.{safe}
 
@@ -35,13 +35,13 @@ AreDerivedBefore machines projections derivations place =
 pub are-projections : (pr : Protocol_data) (pjs : List Projection_data) → AreNumberedProjections pr pjs → AreProjections pr pjs
 are-projections pr pjs are = record { many = are.many; each = λ p j h. (are.each p j h).is }
 
-pub machine-proper : (pr : Protocol_data) (pjs : List Projection_data) (ms : List Machine_data) (ds : List Derivation_data) → IsSession pr pjs ms ds
+pub machine-proper : (pr : Protocol_data) (pjs : List Projection_data) (ms : List Machine_data) → IsSession pr pjs ms
     → (p : ℕ) (m : Machine_data) → slice_get ms p ≡ Some m → IsProper m
-machine-proper pr pjs ms ds s p m h = (length ms, s.machines_fit.fits p m h)
+machine-proper pr pjs ms s p m h = (length ms, s.machines_fit.fits p m h)
 
-pub projection-proper : (pr : Protocol_data) (pjs : List Projection_data) (ms : List Machine_data) (ds : List Derivation_data) → IsSession pr pjs ms ds
+pub projection-proper : (pr : Protocol_data) (pjs : List Projection_data) (ms : List Machine_data) → IsSession pr pjs ms
     → (p : ℕ) (j : Projection_data) → slice_get pjs p ≡ Some j → IsProper j.machine
-projection-proper pr pjs ms ds s p j h =
+projection-proper pr pjs ms s p j h =
     let w = slice_get_within pjs p j h in
     let many = s.projected.many in
     (pr.roles, projection-machine pr (numbered p) j s.well_formed (omega arith) (s.projected.each p j h).is)
@@ -56,13 +56,13 @@ pub record Places (ms : List Machine_data) (pjs : List Projection_data) (ds : Li
   pub projects : slice_get pjs place ≡ Some j
   pub derives : slice_get ds place ≡ Some d
 
-pub places : (pr : Protocol_data) (pjs : List Projection_data) (ms : List Machine_data) (ds : List Derivation_data) → IsSession pr pjs ms ds
+pub places : (pr : Protocol_data) (pjs : List Projection_data) (ms : List Machine_data) (ds : List Derivation_data) → IsSession pr pjs ms → AreOneEach (length ms) ds
     → (place : ℕ) (m : Machine_data) (j : Projection_data) (d : Derivation_data) → place < length ms → m ≡ get_or ms place m → j ≡ get_or pjs place j → d ≡ get_or ds place d
     → Places ms pjs ds place m j d
-places pr pjs ms ds s place m j d h em ej ed = record {
+places pr pjs ms ds s o place m j d h em ej ed = record {
   runs = gets ms place m h em;
   projects = gets pjs place j (omega (arith, s.projected.many, s.a_machine_each)) ej;
-  derives = gets ds place d (omega (arith, s.a_derivation_each, s.a_machine_each)) ed;
+  derives = gets ds place d (omega (arith, o.many)) ed;
 }
 
 -- one more place
@@ -107,7 +107,7 @@ all-derived ms pjs ds place before all many = record {
 }
 
 -- a session with derivations is safe
-pub accepted-safe : (pr : Protocol_data) (pjs : List Projection_data) (ms : List Machine_data) (ds : List Derivation_data) → IsSession pr pjs ms ds
+pub accepted-safe : (pr : Protocol_data) (pjs : List Projection_data) (ms : List Machine_data) (ds : List Derivation_data) → IsSession pr pjs ms
     → AreDerivations ms pjs ds → IsSafe ms
 accepted-safe pr pjs ms ds s of =
     safe pr pjs ms ds record { fits = s.well_formed; projected = are-projections pr pjs s.projected; many = s.a_machine_each; order = s.machines_fit; derived' = of }
@@ -124,11 +124,11 @@ pub owes-few : (session : Accepted_data) → IsAcceptedSession session → (plac
     → d ≡ get_or session.derivations place d → (i : ℕ) (n : DNode_data) → slice_get d.nodes i ≡ Some n → length n.pending ≤ 64
 owes-few session a place d h e i n at =
     let hd = gets session.derivations place d h e in
-    let hm = slice_get-get_or session.machines place no-machine (omega (arith, a.is.a_machine_each, a.is.a_derivation_each)) in
-    let hj = slice_get-get_or session.projections place no-projection (omega (arith, a.is.projected.many, a.is.a_derivation_each)) in
+    let hm = slice_get-get_or session.machines place no-machine (omega (arith, a.is.a_machine_each, a.one_each.many)) in
+    let hj = slice_get-get_or session.projections place no-projection (omega (arith, a.is.projected.many, a.one_each.many)) in
     let is = (a.derived.is place (get_or session.machines place no-machine) (get_or session.projections place no-projection) d hm hj hd).0 in
     let short = (is.each i n at).short in
-    let bound = (a.is.derivations_fit.bound place d hd).1 in
+    let bound = (a.one_each.bound place d hd).1 in
     omega (arith, short, bound)
 
 owes-at-most : (session : Accepted_data) → IsAcceptedSession session → (place : ℕ) (d : Derivation_data) → place < length session.derivations

@@ -8,7 +8,7 @@ use Rattle.rs_derive.specs.declared.faults.DeriveFault.{DeriveFault}
 use Rattle.rs_model.specs.Data.{Machine_data, Protocol_data}
 use Rattle.rs_model.specs.declared.graph.Role.{Role}
 use Rattle.rs_project.specs.Data.{Projection_data}
-use Rattle.rs_safety.specs.Sessions.{AreDerivations, IsSession}
+use Rattle.rs_safety.specs.Sessions.{AreDerivations, AreOneEach, IsSession}
 
 -- the protocol, its projections, a derivation and a machine for each role, in role order
 pub record Accepted_data : Type 0 where
@@ -20,7 +20,8 @@ pub record Accepted_data : Type 0 where
 -- all that is known of an accepted session: each role's derivation shows that its machine may stand for its projection,
 -- and so the machines are safe
 pub record IsAcceptedSession (session : Accepted_data) : Type 0 where
-  pub is : IsSession session.protocol session.projections session.machines session.derivations
+  pub is : IsSession session.protocol session.projections session.machines
+  pub one_each : AreOneEach session.protocol.roles session.derivations
   pub derived : AreDerivations session.machines session.projections session.derivations
   pub safe : IsSafe session.machines
 

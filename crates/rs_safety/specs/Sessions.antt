@@ -15,19 +15,18 @@ pub record AreDerivations (machines : List Machine_data) (projections : List Pro
   pub is : (p : ℕ) (m : Machine_data) (j : Projection_data) (d : Derivation_data) → slice_get machines p ≡ Some m
       → slice_get projections p ≡ Some j → slice_get derivations p ≡ Some d → IsDerivation d m j.machine × Remembers d m j.machine
 
--- each stands in its role's place, and has a bound from 1 to 64 and fewer than 2^32 nodes
-pub record AreOfRoles (derivations : List Derivation_data) : Type 0 where
-  pub role : (p : ℕ) (d : Derivation_data) → slice_get derivations p ≡ Some d → d.role ≡ record { 0 = p }
-  pub bound : (p : ℕ) (d : Derivation_data) → slice_get derivations p ≡ Some d → (1 ≤ d.bound) × (d.bound ≤ MOST_BOUND)
-  pub few : (p : ℕ) (d : Derivation_data) → slice_get derivations p ≡ Some d → length d.nodes < 2 ^ 32
-
 -- a well-formed protocol of 2 to 16 roles with its projections, and for each role, in role order, a well-formed machine
--- and what is to be a derivation of it
-pub record IsSession (protocol : Protocol_data) (projections : List Projection_data) (machines : List Machine_data) (derivations : List Derivation_data) : Type 0 where
+pub record IsSession (protocol : Protocol_data) (projections : List Projection_data) (machines : List Machine_data) : Type 0 where
   pub well_formed : IsWellFormed protocol
   pub roles : (2 ≤ protocol.roles) × (protocol.roles ≤ MOST_ROLES)
   pub projected : AreNumberedProjections protocol projections
   pub a_machine_each : length machines ≡ protocol.roles
   pub machines_fit : AreWellFormed machines
-  pub a_derivation_each : length derivations ≡ protocol.roles
-  pub derivations_fit : AreOfRoles derivations
+
+-- what is to be a derivation for each of so many roles, in role order: each has a bound from 1 to 64 and fewer than 2^32
+-- nodes
+pub record AreOneEach (roles : ℕ) (derivations : List Derivation_data) : Type 0 where
+  pub many : length derivations ≡ roles
+  pub role : (p : ℕ) (d : Derivation_data) → slice_get derivations p ≡ Some d → d.role.0 ≡ p
+  pub bound : (p : ℕ) (d : Derivation_data) → slice_get derivations p ≡ Some d → (1 ≤ d.bound) × (d.bound ≤ MOST_BOUND)
+  pub few : (p : ℕ) (d : Derivation_data) → slice_get derivations p ≡ Some d → length d.nodes < 2 ^ 32

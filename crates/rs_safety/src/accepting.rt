@@ -5,7 +5,7 @@ ghost use Rattle.rs_core.specs.Safety.{IsSafe};
 ghost use Rattle.rs_model.specs.Data.{Protocol_data};
 ghost use Rattle.rs_safety.specs.Accepting.{FirstRefused, IsAcceptedSession};
 ghost use Rattle.rs_safety.specs.Room.{room_of};
-ghost use Rattle.rs_safety.specs.Sessions.{AreDerivations, IsSession};
+ghost use Rattle.rs_safety.specs.Sessions.{AreDerivations, AreOneEach, IsSession};
 
 use rs_derive::{Derivation, DeriveFault, check, longest, top_rank};
 use rs_model::{Machine, Protocol, Role};
@@ -81,7 +81,8 @@ fn first_refused(
     machines: &[Machine],
     derivations: &[Derivation],
 ) -> Option<(usize, DeriveFault)>
-    requires session { (protocol : Protocol_data) × IsSession protocol projections.now machines.now derivations.now }
+    requires session { (protocol : Protocol_data) × IsSession protocol projections.now machines.now }
+    requires derivations { AreOneEach (length machines.now) derivations.now }
     ensures some { IfSome result (λ r. FirstRefused machines.now projections.now derivations.now r.0 r.1) }
     ensures within { IfSome result (λ r. r.0 < length machines.now) }
     ensures none { IfNone result (AreDerivations machines.now projections.now derivations.now) }
@@ -106,7 +107,8 @@ pub fn accept<'a>(
     machines: Vec<Machine>,
     derivations: &'a [Derivation],
 ) -> Result<Accepted<'a>, AcceptRefused>
-    requires session { IsSession protocol.now projections.now machines.items derivations.now }
+    requires session { IsSession protocol.now projections.now machines.items }
+    requires derivations { AreOneEach protocol.now.roles derivations.now }
     ensures derived { OnOk result (AreDerivations machines.items projections.now derivations.now) }
     ensures accepted { IfOk result (λ a. a ≡ record { protocol = protocol.now; projections = projections.now; derivations = derivations.now; machines = machines.items }) }
     ensures safe { OnOk result (IsSafe machines.items) }

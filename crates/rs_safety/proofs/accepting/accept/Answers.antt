@@ -5,6 +5,7 @@ use Rattle.rs_safety.proofs.accepting.accept.Goals as goal
 pub invariant_of-result : goal.invariant_of-result
 invariant_of-result c = record {
   is = c.requires.session;
+  one_each = c.requires.derivations;
   derived = (search rules);
   safe = accepted-safe c.args.protocol.now c.args.projections.now c.args.machines.items c.args.derivations.now c.requires.session (search rules);
 }
