@@ -43,6 +43,14 @@ impl<'a> Accepted<'a> {
         self.machines.as_slice()
     }
 
+    /// The derivations, in role order.
+    pub fn derivations(&self) -> &[Derivation]
+        ensures derivations { result.now ≡ self.now.derivations }
+        ensures session { IsAcceptedSession self.now }
+    {
+        self.derivations
+    }
+
     /// How many messages each ring must hold, so that no role can be held up by full rings: one more than the greatest
     /// number of acts that are owed and the greatest lag of a derivation.
     pub fn room(&self) -> u64
@@ -111,6 +119,7 @@ pub fn accept<'a>(
     requires derivations { AreOneEach protocol.now.roles derivations.now }
     ensures derived { OnOk result (AreDerivations machines.items projections.now derivations.now) }
     ensures accepted { IfOk result (λ a. a ≡ record { protocol = protocol.now; projections = projections.now; derivations = derivations.now; machines = machines.items }) }
+    ensures session { IfOk result IsAcceptedSession }
     ensures safe { OnOk result (IsSafe machines.items) }
     ensures refused { IfErr result (λ e. FirstRefused machines.items projections.now derivations.now e.role.0 e.cause) }
     ensures back { IfErr result (λ e. e.machines ≡ machines.items) }
