@@ -1,7 +1,7 @@
 use Rattle.std.proofs.Common.{rules, ◌≡◌, ◌↔◌, IsTrue}
 use Rattle.std.proofs.lemmas.Slice.Eq.{slice_eq-Decides}
 use Rattle.rs_derive.proofs.Acts.{tested}
-use Rattle.rs_derive.proofs.targets.same.Goals as goal
+use Rattle.rs_derive.proofs.targets.same_acts.Goals as goal
 
 pub returns : goal.returns
 returns c =
