@@ -1,0 +1,6 @@
+pub mod Buckets
+pub mod Candidates
+pub mod Canonical
+pub mod Nodes
+pub mod Survives
+pub mod Turns

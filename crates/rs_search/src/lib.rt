@@ -1,0 +1,12 @@
+//! The bounded search for a derivation.
+#![tactic(auto)]
+
+mod faults;
+mod found;
+mod nodes;
+mod searches;
+mod survey;
+mod turns;
+
+pub use faults::SearchFault;
+pub use searches::{search, search_counted};
