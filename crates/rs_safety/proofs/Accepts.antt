@@ -195,3 +195,8 @@ counts-on session a count owed late d most rank h e long top low to =
       few = at-most-both owed most 64 to.few few;
       soon = at-most-both late (most * (rank + 1)) (64 * 2 ^ 32) to.soon (product most rank few low);
     }
+
+-- .. and accepted
+pub accepted-session : (pr : Protocol_data) (pjs : List Projection_data) (ms : List Machine_data) (ds : List Derivation_data) → IsSession pr pjs ms → AreOneEach pr.roles ds
+    → AreDerivations ms pjs ds → IsAcceptedSession (record { protocol = pr; projections = pjs; derivations = ds; machines = ms })
+accepted-session pr pjs ms ds s each of = record { is = s; one_each = each; derived = of; safe = accepted-safe pr pjs ms ds s of }

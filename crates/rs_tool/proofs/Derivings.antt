@@ -9,11 +9,17 @@ use Rattle.rs_model.specs.declared.graph.Role.{Role}
 use Rattle.rs_model.specs.declared.limits.TheConstants.{MOST_CANDIDATES}
 use Rattle.rs_model.proofs.Faults as of_machines
 use Rattle.rs_core.specs.Choices.{AreWellFormed}
+use Rattle.rs_core.specs.Safety.{IsSafe}
 use Rattle.rs_derive.specs.Data.{Derivation_data}
 use Rattle.rs_derive.specs.Derivations.{IsDerivation, IsProper, Remembers}
+use Rattle.rs_derive.specs.declared.faults.DeriveFault.{DeriveFault}
+use Rattle.rs_derive.proofs.Whole.{no_fault_back}
 use Rattle.rs_project.specs.Data.{Projection_data}
 use Rattle.rs_project.specs.Numbered.{AreNumberedProjections}
-use Rattle.rs_safety.specs.Sessions.{AreOneEach, IsSession}
+use Rattle.rs_safety.specs.Accepting.{FirstRefused}
+use Rattle.rs_safety.specs.Sessions.{AreDerivations, AreOneEach, IsSession}
+use Rattle.rs_safety.proofs.Accepts.{accepted-safe}
+use Rattle.rs_safety.proofs.Sessions.{no-machine, no-projection}
 use Rattle.rs_search.specs.Canonical.{IsFound, Refuses}
 use Rattle.rs_search.specs.declared.faults.SearchFault.{SearchFault}
 use Rattle.rs_search.specs.declared.faults.SearchFault.TheVariants as search
@@ -89,6 +95,12 @@ session_of d ps ms spelt none h e fine =
 -- what is ready gives the same
 pub ready_session : (d : Document_data) → IsReady d → length d.names.roles ≡ d.protocol.roles → IsSpeltSession d
 ready_session d ready roles = record { two = ready.two; few = ready.roles; roles = roles; one_each = ready.one_each; in_place = ready.in_place }
+
+found_is_derivation : (sub above : Machine_data) (bound : ℕ) (d : Derivation_data) → IsFound sub above bound d → IsDerivation d sub above × Remembers d sub above
+found_is_derivation sub above bound d h = ?
+
+found_is_small : (sub above : Machine_data) (bound : ℕ) (d : Derivation_data) → IsFound sub above bound d → length d.nodes ≤ MOST_CANDIDATES
+found_is_small sub above bound d h = ?
 
 -- no role is there yet
 pub none_canonical : (ms : List Machine_data) (ps : List Projection_data) → AreFirstCanonical ms ps 0 []
@@ -167,4 +179,6 @@ canonical_safe pr ps ms ds s h = accepted-safe pr ps ms ds s (derivations_are ms
 pub never_refused : (ms : List Machine_data) (ps : List Projection_data) (ds : List Derivation_data) (place : ℕ) (cause : DeriveFault) → AreCanonical ms ps ds → FirstRefused ms ps ds place cause → ⊥
 never_refused ms ps ds place cause h r =
     let is = found_is_derivation r.machine r.projection.machine DEFAULT_BOUND r.derivation (h.each place r.machine r.projection r.derivation r.runs r.projects r.derives) in
-    let none = (of_derivations.no_fault_is ?) in ?
+    let none = no_fault_back r.derivation r.machine r.projection.machine is in
+    let fault = r.fault in
+    cc (none, fault)

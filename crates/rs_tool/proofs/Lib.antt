@@ -2,7 +2,8 @@ pub mod Parts
 pub mod OneContent
 pub mod CanShow
 pub mod EachRole
-pub mod Sameness
+pub mod SpeltSessions
+pub mod Derivings
 pub mod Answering
 pub mod Headline
 pub mod Unique

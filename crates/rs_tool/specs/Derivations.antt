@@ -1,6 +1,7 @@
 -- The derivations of a session: those that the search finds for its machines.
-use Rattle.std.specs.Prelude.{◌≡◌, ◌≢◌, ℕ, List, Some, length, slice_get}
+use Rattle.std.specs.Prelude.{◌≡◌, ◌≢◌, ◌⊎◌, ℕ, List, Some, length, slice_get}
 use Rattle.rs_derive.specs.Data.{Derivation_data}
+use Rattle.rs_derive.specs.Derivations.{IsProper}
 use Rattle.rs_model.specs.Data.{Machine_data}
 use Rattle.rs_model.specs.declared.graph.Role.{Role}
 use Rattle.rs_project.specs.Data.{Projection_data}
@@ -29,3 +30,8 @@ pub record IsUnderivable (machines : List Machine_data) (projections : List Proj
   pub derived : AreFirstCanonical machines projections role.0 earlier
   pub refused : Refuses machine projection.machine DEFAULT_BOUND fault
   pub cause : fault ≢ search.NoMemory
+
+-- well-formed machines have a canonical derivation, or there is a reason why they have none
+abbrev pub AreSearchable : Type 0
+AreSearchable = (sub above : Machine_data) → IsProper sub → IsProper above
+    → ((d : Derivation_data) × IsFound sub above DEFAULT_BOUND d) ⊎ ((fault : SearchFault) × (fault ≢ search.NoMemory) × Refuses sub above DEFAULT_BOUND fault)
