@@ -7,6 +7,7 @@ use Rattle.rs_project.specs.declared.projecting.ProjFault.{ProjFault}
 use Rattle.rs_project.specs.declared.projecting.ProjFault.TheVariants as proj
 use Rattle.rs_safety.proofs.Sessions.{equal-safe}
 use Rattle.rs_tool.proofs.EachRole.{projections-are}
+use Rattle.rs_tool.proofs.Spelt.{one_place_each}
 use Rattle.rs_text.specs.declared.faults.TextKind.{TextKind}
 use Rattle.rs_text.specs.declared.faults.TextKind.TheVariants as kind
 use Rattle.rs_wellformed.specs.declared.checks.WfFault.{WfFault}
@@ -74,7 +75,9 @@ checked-is-safe bytes d a doc (IsAccepted projections machines h same few is) fi
       document = d;
       projections = projections;
       spells = doc;
+      well_formed = no_fault d.protocol h.projections_are.well_formed;
       projected = h.projections_are.projected;
+      one_each = one_place_each bytes d doc;
       safe =
           subst IsSafe h.machines_are (equal-safe d.protocol projections machines (no_fault d.protocol h.projections_are.well_formed) (projections-are d.protocol projections h.projections_are.projected) same);
     }

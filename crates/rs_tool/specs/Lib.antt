@@ -4,11 +4,13 @@ pub mod Checks
 pub mod Data
 pub mod Documents
 pub mod Headline
+pub mod Machines
 pub mod Reading
 pub mod RefusalTexts
 pub mod Report
 pub mod Sessions
 pub mod Shown
+pub mod Spells
 pub mod Statuses
 pub mod Tables
 pub mod Texts
