@@ -2,4 +2,5 @@ pub mod Checks
 pub mod Data
 pub mod Faults
 pub mod Sorts
+pub mod Talks
 pub mod WellFormed

@@ -3,7 +3,7 @@ use Rattle.std.proofs.Common.{◌≡◌, inl, inr, ℕ, suc, ◌+◌, ◌*◌, �
 use Rattle.std.proofs.lemmas.Bool.Decides.{eqb_tells}
 use Rattle.std.proofs.lemmas.Option.{slice_get-get_or, slice_get-map, slice_get_within, same_Some}
 use Rattle.std.proofs.lemmas.Bool.{cases_order}
-use Rattle.std.proofs.lemmas.List.{length-map}
+use Rattle.std.proofs.lemmas.List.{get_or_default, length-map}
 use Rattle.std.proofs.Math.Nat.{max-eq_left, max-eq_right, mul-le-mul_right}
 use Rattle.rs_derive.proofs.Loops.{drop_here}
 use Rattle.rs_model.specs.Data.{Machine_data, Protocol_data}
@@ -200,3 +200,7 @@ counts-on session a count owed late d most rank h e long top low to =
 pub accepted-session : (pr : Protocol_data) (pjs : List Projection_data) (ms : List Machine_data) (ds : List Derivation_data) → IsSession pr pjs ms → AreOneEach pr.roles ds
     → AreDerivations ms pjs ds → IsAcceptedSession (record { protocol = pr; projections = pjs; derivations = ds; machines = ms })
 accepted-session pr pjs ms ds s each of = record { is = s; one_each = each; derived = of; safe = accepted-safe pr pjs ms ds s of }
+
+-- .. of no derivation
+pub all-owe-below : (session : Accepted_data) → IsAcceptedSession session → All (λ (d : Derivation_data). All (λ (n : DNode_data). length n.pending < 2 ^ 32) d.nodes) session.derivations
+all-owe-below session a k d h = owes-below session a k (get_or session.derivations k d) h (get_or_default session.derivations k d (get_or session.derivations k d) h)

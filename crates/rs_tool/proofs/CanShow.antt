@@ -10,7 +10,8 @@ use Rattle.rs_machines.specs.Canonical.{IsMachineTextShaped}
 use Rattle.rs_machines.specs.Machines.{labels_of}
 use Rattle.rs_machines.specs.Spells.{SpellsMachine}
 use Rattle.rs_tool.specs.Data.{Document_data}
-use Rattle.rs_tool.specs.Documents.{GoesOn, Ends, Derives, Breaks, Repeats, Fails, Adds, with_machine, no_machines, IsBehindProtocol}
+use Rattle.rs_tool.specs.Documents.{GoesOn, Ends, Derives, Breaks, Repeats, Fails, Adds, with_machine, no_machines, SpellsDocument}
+use Rattle.rs_tool.proofs.Spelt.{document_found}
 use Rattle.rs_tool.specs.Shown.{AreShown, CanBeShown}
 use Rattle.rs_tool.specs.declared.documents.Content.{Content}
 use Rattle.rs_tool.specs.declared.documents.Content.TheVariants as content
@@ -82,8 +83,9 @@ enough_more old new p q g e h =
     subst (λ (x : Protocol_data). AreEnough new x) (sym e)
     (record { roles = ap length g.roles ∙ h.roles; labels = λ n place s r arms arm a b. let c = h.labels n place s r arms arm a b in omega arith })
 
-pub can_show : (bytes : List ℕ) (d : Document_data) → IsBehindProtocol bytes (content.Document d) → IsSound d.names → CanBeShown d
-can_show bytes d h sound =
+pub can_show : (bytes : List ℕ) (d : Document_data) → SpellsDocument bytes d → IsSound d.names → CanBeShown d
+can_show bytes d spelt sound =
+    let h = document_found bytes d spelt in
     let k = keeps bytes h.protocol h.until h.names (no_machines h.names.roles) (content.Document d) h.goes_on (none_shown h.names h.names.roles) d refl in
     record {
       sound = sound;
@@ -93,8 +95,9 @@ can_show bytes d h sound =
     }
 
 -- .. and has as many names of roles as its protocol has roles
-pub role_names : (bytes : List ℕ) (d : Document_data) → IsBehindProtocol bytes (content.Document d) → (length d.names.roles ≡ d.protocol.roles) × AreEnough d.names d.protocol × AreShown d.names d.machines × IsTextShaped d.protocol
-role_names bytes d h =
+pub role_names : (bytes : List ℕ) (d : Document_data) → SpellsDocument bytes d → (length d.names.roles ≡ d.protocol.roles) × AreEnough d.names d.protocol × AreShown d.names d.machines × IsTextShaped d.protocol
+role_names bytes d spelt =
+    let h = document_found bytes d spelt in
     let k = keeps bytes h.protocol h.until h.names (no_machines h.names.roles) (content.Document d) h.goes_on (none_shown h.names h.names.roles) d refl in
     let e = enough_more h.names d.names h.protocol d.protocol k.1 k.0 (spelt_enough bytes 0 h.names h.protocol h.until h.spells) in
     (e.roles, e, k.2, subst IsTextShaped (sym k.0) (spelt_shaped bytes 0 h.names h.protocol h.until h.spells))

@@ -18,7 +18,7 @@ use Rattle.rs_project.specs.Data.{Projection_data}
 use Rattle.rs_project.specs.Numbered.{AreNumberedProjections}
 use Rattle.rs_safety.specs.Accepting.{FirstRefused}
 use Rattle.rs_safety.specs.Sessions.{AreDerivations, AreOneEach, IsSession}
-use Rattle.rs_safety.proofs.Accepts.{accepted-safe}
+use Rattle.rs_safety.proofs.Accepts.{accepted-safe, gets, machine-proper, projection-proper}
 use Rattle.rs_safety.proofs.Sessions.{no-machine, no-projection}
 use Rattle.rs_search.specs.Canonical.{IsFound, Refuses}
 use Rattle.rs_search.specs.declared.faults.SearchFault.{SearchFault}
@@ -28,24 +28,23 @@ use Rattle.rs_wellformed.proofs.Faults as well_formed_protocols
 use Rattle.rs_tool.specs.Data.{Document_data}
 use Rattle.rs_tool.specs.Derivations.{AreCanonical, AreFirstCanonical, IsUnderivable}
 use Rattle.rs_tool.specs.Reading.{AreInPlace, IsReady}
-use Rattle.rs_tool.specs.Sessions.{MachineRefusal, first_refusal, machine_or, machines_of, refusal_or}
+use Rattle.rs_tool.specs.Sessions.{MachineRefusal, first_refusal, refusal_or}
+use Rattle.rs_tool.specs.Machines.{machine_or, machines_of}
 use Rattle.rs_tool.specs.declared.derivations.TheConstants.{DEFAULT_BOUND}
 use Rattle.rs_tool.proofs.SpeltSessions.{IsSpeltSession}
 
 -- where no machine is refused each is well formed
+later_fit : (o : Option MachineFault) (role : Role) (later : Option MachineRefusal) → refusal_or o role later ≡ None → (o ≡ None) × (later ≡ None)
+later_fit None role later k = (refl, k)
+later_fit (Some f) role later k = absurd (cc (k))
+
 each_fits : (roles : ℕ) (ms : List Machine_data) → first_refusal roles ms ≡ None → (p : ℕ) (m : Machine_data) → slice_get ms p ≡ Some m → IsWellFormedMachine m roles
 each_fits roles [] e p m h = absurd (cc (h))
-each_fits roles (x ∷ ms) e p m h = go (first_fault x roles) refl p h
-  where
-    later : (o : Option MachineFault) → refusal_or o x.role (first_refusal roles ms) ≡ None → (o ≡ None) × (first_refusal roles ms ≡ None)
-    later None k = (refl, k)
-    later (Some f) k = absurd (cc (k))
-    go : (o : Option MachineFault) → first_fault x roles ≡ o → (p : ℕ) → slice_get (x ∷ ms) p ≡ Some m → IsWellFormedMachine m roles
-    go o is zero h =
-        let same : x ≡ m = same_Some x m h in
-        let P : Machine_data → Type 0 = λ z. IsWellFormedMachine z roles in
-        subst P same (of_machines.no_fault x roles (later (first_fault x roles) e).0)
-    go o is (suc p) h = each_fits roles ms (later (first_fault x roles) e).1 p m h
+each_fits roles (x ∷ ms) e zero m h =
+    let same : x ≡ m = same_Some x m h in
+    let P : Machine_data → Type 0 = λ z. IsWellFormedMachine z roles in
+    subst P same (of_machines.no_fault x roles (later_fit (first_fault x roles) x.role (first_refusal roles ms) e).0)
+each_fits roles (x ∷ ms) e (suc p) m h = each_fits roles ms (later_fit (first_fault x roles) x.role (first_refusal roles ms) e).1 p m h
 
 -- the machine of a role is its own, or that of its projection
 record IsChosen (own : List (Option Machine_data)) (ps : List Projection_data) (p : ℕ) (m : Machine_data) : Type 0 where
@@ -182,3 +181,11 @@ never_refused ms ps ds place cause h r =
     let none = no_fault_back r.derivation r.machine r.projection.machine is in
     let fault = r.fault in
     cc (none, fault)
+
+-- the machines are as the search asks
+pub ours_proper : (pr : Protocol_data) (ps : List Projection_data) (ms : List Machine_data) → IsSession pr ps ms → (place : ℕ) (m : Machine_data) → place < length ms → m ≡ get_or ms place m → IsProper m
+ours_proper pr ps ms s place m h e = machine-proper pr ps ms s place m (gets ms place m h e)
+
+-- a projection stands at each place of a machine
+pub projects_at : (pr : Protocol_data) (ps : List Projection_data) (ms : List Machine_data) → IsSession pr ps ms → (place : ℕ) (j : Projection_data) → place < length ms → j ≡ get_or ps place j → slice_get ps place ≡ Some j
+projects_at pr ps ms s place j h e = gets ps place j (omega (arith, h, s.a_machine_each, s.projected.many)) e

@@ -10,6 +10,7 @@ use Rattle.rs_search.specs.declared.faults.SearchFault.{SearchFault}
 use Rattle.rs_search.specs.declared.faults.SearchFault.TheVariants as search
 use Rattle.rs_tool.proofs.Derivings.{canonical_safe, session_of}
 use Rattle.rs_tool.proofs.SpeltSessions.{spelt_session}
+use Rattle.rs_tool.proofs.Spelt.{one_place_each}
 use Rattle.rs_text.specs.declared.faults.TextKind.{TextKind}
 use Rattle.rs_text.specs.declared.faults.TextKind.TheVariants as kind
 use Rattle.rs_wellformed.specs.declared.checks.WfFault.{WfFault}
@@ -83,7 +84,9 @@ checked-is-safe bytes d a doc (IsAccepted projections machines derivations h fou
       document = d;
       projections = projections;
       spells = doc;
+      well_formed = no_fault d.protocol h.projections_are.well_formed;
       projected = h.projections_are.projected;
+      one_each = one_place_each bytes d doc;
       safe = subst IsSafe h.machines_are (canonical_safe d.protocol projections machines derivations session found);
     }
 

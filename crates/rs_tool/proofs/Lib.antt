@@ -1,4 +1,5 @@
 pub mod Parts
+pub mod Spelt
 pub mod OneContent
 pub mod CanShow
 pub mod EachRole
@@ -9,3 +10,4 @@ pub mod Headline
 pub mod Unique
 pub mod SomeAnswer
 pub mod Lines
+pub mod OneSession

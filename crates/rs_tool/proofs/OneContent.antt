@@ -21,6 +21,7 @@ use Rattle.rs_tool.specs.Documents.{StandsAt, machine_word, derivation_word, is_
 use Rattle.rs_tool.specs.Reading.{twice_of, free_in, IsContent}
 use Rattle.rs_tool.specs.declared.documents.Content.{Content}
 use Rattle.rs_tool.specs.declared.documents.Content.TheVariants as content
+use Rattle.rs_tool.proofs.Spelt.{content_is, document_found}
 use Rattle.rs_tool.proofs.Parts.{word_is, twice_is, twice_found, none_twice, slot_free, free_less, set_size}
 
 no_fault : (s t : Sign) (k : TextKind) → s ≡ t → fault_behind t ≡ None → fault_behind s ≡ Some k → ⊥
@@ -123,13 +124,13 @@ one_has_fault bytes k j at place (BehindProtocol a) g = no_first bytes (fault_of
 
 -- a text is one thing
 pub one_found : (bytes : List ℕ) (x y : Content) → IsContent bytes x → IsContent bytes y → x ≡ y
-one_found bytes (content.Document d) (content.Document e) a b = one_behind bytes (content.Document d) (content.Document e) a b
-one_found bytes (content.Document d) content.Derivations a b = one_behind bytes (content.Document d) content.Derivations a b
-one_found bytes (content.Document d) (content.Fault f) a b = no_first bytes (content.Document d) f.kind f.at a b
-one_found bytes content.Derivations (content.Document e) a b = one_behind bytes content.Derivations (content.Document e) a b
+one_found bytes (content.Document d) (content.Document e) a b = one_behind bytes (content.Document d) (content.Document e) (document_found bytes d a) (document_found bytes e b)
+one_found bytes (content.Document d) content.Derivations a b = one_behind bytes (content.Document d) content.Derivations (document_found bytes d a) b
+one_found bytes (content.Document d) (content.Fault f) a b = no_first bytes (content.Document d) f.kind f.at (document_found bytes d a) b
+one_found bytes content.Derivations (content.Document e) a b = one_behind bytes content.Derivations (content.Document e) a (document_found bytes e b)
 one_found bytes content.Derivations content.Derivations a b = refl
 one_found bytes content.Derivations (content.Fault f) a b = no_first bytes content.Derivations f.kind f.at a b
-one_found bytes (content.Fault f) (content.Document e) a b = sym (no_first bytes (content.Document e) f.kind f.at b a)
+one_found bytes (content.Fault f) (content.Document e) a b = sym (no_first bytes (content.Document e) f.kind f.at (document_found bytes e b) a)
 one_found bytes (content.Fault f) content.Derivations a b = sym (no_first bytes content.Derivations f.kind f.at b a)
 one_found bytes (content.Fault f) (content.Fault g) a b = one_has_fault bytes f.kind g.kind f.at g.at a b
 
@@ -239,15 +240,10 @@ pub record SomeFound (bytes : List ℕ) : Type 0 where
   pub what : Content
   pub is : IsContent bytes what
 
-behind_found : (bytes : List ℕ) (what : Content) → IsBehindProtocol bytes what → IsContent bytes what
-behind_found bytes (content.Document d) h = h
-behind_found bytes content.Derivations h = h
-behind_found bytes (content.Fault f) h = BehindProtocol h
-
 pub some_found : (bytes : List ℕ) → SomeFound bytes
 some_found bytes = elim (spelt_global.spelt_or_faulty bytes 0 (omega arith)) [
   | inl h ↦
       let rest = some_rest (suc (free_in (no_machines h.0.roles))) bytes h.1 h.2 h.0 (no_machines h.0.roles) (omega arith) (protocol_within bytes h.0 h.1 h.2 h.3) (map_size h.0.roles) in
-      record { what = rest.what; is = behind_found bytes rest.what (record { names = h.0; protocol = h.1; until = h.2; spells = h.3; goes_on = rest.is }) }
+      record { what = rest.what; is = content_is bytes rest.what (record { names = h.0; protocol = h.1; until = h.2; spells = h.3; goes_on = rest.is }) }
   | inr f ↦ record { what = fault_of f.0 f.1; is = InProtocol f.2 }
 ]

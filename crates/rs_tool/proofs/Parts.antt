@@ -1,9 +1,8 @@
 -- What stands behind a protocol is one thing, and how it is found.
-use Rattle.std.proofs.Common.{◌≡◌, ◌⊎◌, ℕ, zero, suc, ◌+◌, ◌<◌, ◌≤◌, List, [], ◌∷◌, ◌++◌, length, Bool, true, false, if◌then◌else◌, Option, Some, None, refl, sym, ap, subst, ◌∙◌, inl, inr, arith, slice_get, slice_set, Result, Ok, Err}
-use Rattle.std.specs.Prelude.{◌||◌, IfOk}
+use Rattle.std.proofs.Common.{◌≡◌, ◌⊎◌, ℕ, zero, suc, ◌+◌, ◌<◌, ◌≤◌, List, [], ◌∷◌, ◌++◌, length, Bool, true, false, if◌then◌else◌, Option, Some, None, refl, sym, ap, subst, ◌∙◌, inl, inr, arith, slice_get, slice_set}
+use Rattle.std.specs.Prelude.{◌||◌}
 use Rattle.rs_global.specs.Spells.{SpellsProtocol}
 use Rattle.rs_global.specs.Trees.{roles_of}
-use Rattle.rs_model.specs.declared.memory.NoMemory.{NoMemory}
 use Rattle.std.specs.Str.{bytes_eq}
 use Rattle.std.proofs.lemmas.Slice.Eq.{bytes_eq-Decides}
 use Rattle.rs_model.specs.Data.{Names_data, Protocol_data, Machine_data}
@@ -19,9 +18,8 @@ use Rattle.rs_machines.specs.Faults.{FirstFault}
 use Rattle.rs_machines.specs.Spells.{SpellsMachine}
 use Rattle.rs_machines.specs.Trees.{body_signs}
 use Rattle.rs_tool.specs.Data.{Document_data}
-use Rattle.rs_tool.specs.Documents.{StandsAt, machine_word, derivation_word, is_word, IsTwice, with_machine, GoesOn, Ends, Derives, Breaks, Repeats, Fails, Adds, fault_behind, no_machines, IsBehindProtocol, BehindProtocol}
-use Rattle.rs_tool.specs.Reading.{is_held, twice_by, twice_named, twice_of, AreInPlace, AreShort, IsReady, free_in, GoesOnWith, IsAdded, IsContent}
-use Rattle.rs_tool.specs.declared.documents.Content.{Content}
+use Rattle.rs_tool.specs.Documents.{StandsAt, machine_word, derivation_word, is_word, IsTwice, with_machine, Ends, Derives, Breaks, Repeats, Fails, Adds, fault_behind, no_machines}
+use Rattle.rs_tool.specs.Reading.{is_held, twice_by, twice_named, twice_of, AreInPlace, AreShort, IsReady, free_in, GoesOnWith, IsAdded}
 use Rattle.rs_tool.specs.declared.documents.Content.TheVariants as content
 
 -- the word of a test
@@ -66,7 +64,7 @@ plain_is finish w e = cc
 plain_is (broken k) w e = cc
 
 -- the second token of what begins at the offset
-abbrev second_of : List ℕ → ℕ → Lexeme
+abbrev pub second_of : List ℕ → ℕ → Lexeme
 second_of bytes at = next_lexeme bytes (next_lexeme bytes at).until
 
 held_is : (bytes : List ℕ) (names : Names_data) (machines : List (Option Machine_data)) (at second place : ℕ) (name : List ℕ) (q : Option (Option Machine_data))
@@ -133,15 +131,43 @@ free_by bytes old machines at k name (Some None) w p lt e never = refl
 free_by bytes old machines at k name (Some (Some m)) w p lt e never =
     absurd (never (second_of bytes at).from (record { name = name; word = w; place = k; role = p; machine = m; has = e; stands = refl }))
 
+-- a machine begins with its word ..
+first_sign : (bytes : List ℕ) (at : ℕ) (ls rest : List Lexeme) (a : Sign) (more : List Sign) → signs_of ls ≡ a ∷ more → Lexed bytes at (ls ++ rest) → StandsAt bytes at a
+first_sign bytes at [] rest a more e h = absurd cc
+first_sign bytes at (x ∷ xs) rest a more e h = let first : x.sign ≡ a = cc in sym (ap (λ z. z.sign) h.0) ∙ first
+
+pub word_stands : (bytes : List ℕ) (at : ℕ) (old new : Names_data) (machine : Machine_data) (next : ℕ) → SpellsMachine bytes at old new machine next → StandsAt bytes at machine_word
+word_stands bytes at old new machine next s = first_sign bytes at s.lexemes (s.behind ∷ s.others) machine_word (plain s.tree.role ∷ colon ∷ body_signs s.tree.body) s.spelt s.lexed
+
+-- .. and goes on with its role
+pub record RoleStands (bytes : List ℕ) (at : ℕ) (names : Names_data) (machine : Machine_data) : Type 0 where
+  pub name : List ℕ
+  pub place : ℕ
+  pub word : StandsAt bytes (next_lexeme bytes at).until (plain name)
+  pub known : place_of name names.roles ≡ Some place
+  pub few : place < length names.roles
+  pub is : machine.role.0 ≡ place
+
+pub role_stands : (bytes : List ℕ) (at : ℕ) (old new : Names_data) (machine : Machine_data) (next : ℕ) → SpellsMachine bytes at old new machine next → RoleStands bytes at old machine
+role_stands bytes at old new machine next s =
+    let p = among_place old.roles s.tree.role 0 s.fits.role in
+    let lt : p.0 < 0 + length old.roles = p.2 in
+    record {
+      name = s.tree.role;
+      place = p.0;
+      word = second_sign bytes at s.lexemes (s.behind ∷ s.others) machine_word (plain s.tree.role) (colon ∷ body_signs s.tree.body) refl s.spelt s.lexed;
+      known = p.1;
+      few = omega arith;
+      is = ap (λ (m : Machine_data). m.role.0) s.machine_is ∙ ap number_or p.1;
+    }
+
 -- the role of a machine that was read, where it isn't the second one, has none
 pub slot_free : (bytes : List ℕ) (at : ℕ) (old new : Names_data) (machine : Machine_data) (next : ℕ) (machines : List (Option Machine_data)) → SpellsMachine bytes at old new machine next → length machines ≡ length old.roles
     → ((second : ℕ) → IsTwice bytes old machines at second → ⊥) → slice_get machines machine.role.0 ≡ Some None
 slot_free bytes at old new machine next machines s size never =
-    let p = among_place old.roles s.tree.role 0 s.fits.role in
-    let lt : p.0 < 0 + length old.roles = p.2 in
-    let w : (second_of bytes at).sign ≡ plain s.tree.role = second_sign bytes at s.lexemes (s.behind ∷ s.others) machine_word (plain s.tree.role) (colon ∷ body_signs s.tree.body) refl s.spelt s.lexed in
-    let role : machine.role.0 ≡ p.0 = ap (λ (m : Machine_data). m.role.0) s.machine_is ∙ ap number_or p.1 in
-    ap (slice_get machines) role ∙ free_by bytes old machines at p.0 s.tree.role (slice_get machines p.0) w p.1 (omega (arith, size, lt)) refl never
+    let r = role_stands bytes at old new machine next s in
+    let lt : r.place < length old.roles = r.few in
+    ap (slice_get machines) r.is ∙ free_by bytes old machines at r.place r.name (slice_get machines r.place) r.word r.known (omega (arith, size, lt)) refl never
 
 pub free_less : (machines : List (Option Machine_data)) (k : ℕ) (m : Machine_data) → slice_get machines k ≡ Some None → free_in (slice_set machines k (Some m)) < free_in machines
 free_less [] k m e = absurd cc
@@ -274,14 +300,3 @@ pub begin_ready : (names : Names_data) (protocol : Protocol_data) (machines : Li
 begin_ready names protocol machines e s t r l n =
     subst (λ (z : List (Option Machine_data)). IsReady (record { names = names; protocol = protocol; machines = z })) (sym e)
     (record { sound = s; two = t; roles = r; labels = l; one_each = size_of_none names.roles; short = none_short names.roles; in_place = λ k m h. absurd (none_there names.roles k m h); nodes = n })
-
-behind_is : (bytes : List ℕ) (what : Content) → IsBehindProtocol bytes what → IsContent bytes what
-behind_is bytes (content.Document d) h = h
-behind_is bytes content.Derivations h = h
-behind_is bytes (content.Fault f) h = BehindProtocol h
-
-pub found_behind : (bytes : List ℕ) (names : Names_data) (protocol : Protocol_data) (until : ℕ) (machines : List (Option Machine_data)) (r : Result Content NoMemory) → SpellsProtocol bytes 0 names protocol until → machines ≡ no_machines names.roles
-    → IfOk r (GoesOnWith bytes (record { names = names; protocol = protocol; machines = machines }) until) → IfOk r (IsContent bytes)
-found_behind bytes names protocol until machines (Err e) s m h = tt
-found_behind bytes names protocol until machines (Ok what) s m h =
-    behind_is bytes what (record { names = names; protocol = protocol; until = until; spells = s; goes_on = subst (λ (z : List (Option Machine_data)). GoesOn bytes protocol until names z what) m h })

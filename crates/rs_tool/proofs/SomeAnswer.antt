@@ -75,28 +75,26 @@ data Searched (ms : List Machine_data) (ps : List Projection_data) (count : ℕ)
   AllFound : (derivations : List Derivation_data) → AreFirstCanonical ms ps count derivations → Searched ms ps count
   OneIsnt : (role : Role) (fault : SearchFault) → IsUnderivable ms ps role fault → Searched ms ps count
 
+found_next : (ms : List Machine_data) (ps : List Projection_data) (count : ℕ) (m : Machine_data) (j : Projection_data) (ds : List Derivation_data) → slice_get ms count ≡ Some m → slice_get ps count ≡ Some j → AreFirstCanonical ms ps count ds
+    → ((d : Derivation_data) × IsFound m j.machine DEFAULT_BOUND d) ⊎ ((f : SearchFault) × (f ≢ search.NoMemory) × Refuses m j.machine DEFAULT_BOUND f) → Searched ms ps (suc count)
+found_next ms ps count m j ds hm hj h (inl d) =
+    let one : count + 1 ≡ suc count = omega arith in
+    AllFound (ds ++ d.0 ∷ []) (subst (λ (n : ℕ). AreFirstCanonical ms ps n (ds ++ d.0 ∷ [])) one (next_canonical ms ps count ds m j d.0 h hm hj d.1))
+found_next ms ps count m j ds hm hj h (inr f) =
+    OneIsnt (record { 0 = count }) f.0 record { machine = m; projection = j; runs = hm; projects = hj; earlier = ds; derived = h; refused = f.2; cause = f.1 }
+
 found_first : (pr : Protocol_data) (ps : List Projection_data) (ms : List Machine_data) → IsSession pr ps ms → AreSearchable → (count : ℕ) → count ≤ length ms → Searched ms ps count
 found_first pr ps ms s any zero le = AllFound [] (none_canonical ms ps)
-found_first pr ps ms s any (suc count) le = go (found_first pr ps ms s any count (omega (arith, le)))
+found_first pr ps ms s any (suc count) le =
+    let m = get_or ms count no-machine in
+    let j = get_or ps count no-projection in
+    let hm : slice_get ms count ≡ Some m = slice_get-get_or ms count no-machine (omega (arith, le)) in
+    let hj : slice_get ps count ≡ Some j = slice_get-get_or ps count no-projection (omega (arith, le, s.a_machine_each, s.projected.many)) in
+    go m j hm hj (found_first pr ps ms s any count (omega (arith, le)))
   where
-    m : Machine_data
-    m = get_or ms count no-machine
-    j : Projection_data
-    j = get_or ps count no-projection
-    hm : slice_get ms count ≡ Some m
-    unfolding m
-    hm = slice_get-get_or ms count no-machine (omega (arith, le))
-    hj : slice_get ps count ≡ Some j
-    unfolding j
-    hj = slice_get-get_or ps count no-projection (omega (arith, le, s.a_machine_each, s.projected.many))
-    one : count + 1 ≡ suc count
-    one = omega arith
-    found : (ds : List Derivation_data) → AreFirstCanonical ms ps count ds → ((d : Derivation_data) × IsFound m j.machine DEFAULT_BOUND d) ⊎ ((f : SearchFault) × (f ≢ search.NoMemory) × Refuses m j.machine DEFAULT_BOUND f) → Searched ms ps (suc count)
-    found ds h (inl d) = AllFound (ds ++ d.0 ∷ []) (subst (λ (n : ℕ). AreFirstCanonical ms ps n (ds ++ d.0 ∷ [])) one (next_canonical ms ps count ds m j d.0 h hm hj d.1))
-    found ds h (inr f) = OneIsnt (record { 0 = count }) f.0 record { machine = m; projection = j; runs = hm; projects = hj; earlier = ds; derived = h; refused = f.2; cause = f.1 }
-    go : Searched ms ps count → Searched ms ps (suc count)
-    go (OneIsnt role fault u) = OneIsnt role fault u
-    go (AllFound ds h) = found ds h (any m j.machine (machine-proper pr ps ms s count m hm) (projection-proper pr ps ms s count j hj))
+    go : (m : Machine_data) (j : Projection_data) → slice_get ms count ≡ Some m → slice_get ps count ≡ Some j → Searched ms ps count → Searched ms ps (suc count)
+    go m j hm hj (OneIsnt role fault u) = OneIsnt role fault u
+    go m j hm hj (AllFound ds h) = found_next ms ps count m j ds hm hj h (any m j.machine (machine-proper pr ps ms s count m hm) (projection-proper pr ps ms s count j hj))
 
 searched : (d : Document_data) (projections : List Projection_data) (machines : List Machine_data) → HasMachines d projections machines → Searched machines projections (length machines) → Some_for task.Check d
 searched d projections machines h (AllFound derivations found) = record { answer = report d.names.roles derivations; answers = checks.IsAccepted projections machines derivations h found refl }

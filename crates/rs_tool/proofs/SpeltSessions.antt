@@ -4,11 +4,10 @@ use Rattle.rs_model.specs.Data.{Names_data, Protocol_data, Machine_data}
 use Rattle.rs_global.specs.Spells.{SpellsProtocol}
 use Rattle.rs_global.specs.Trees.{roles_of}
 use Rattle.rs_tool.specs.Data.{Document_data}
-use Rattle.rs_tool.specs.Documents.{GoesOn, Ends, Derives, Breaks, Repeats, Fails, Adds, with_machine, no_machines, SpellsDocument}
+use Rattle.rs_tool.specs.Spells.{MachinesBehind, NoMore, OneMore, SpellsDocument, no_machines, with_machine}
 use Rattle.rs_tool.specs.Reading.{AreInPlace}
-use Rattle.rs_tool.specs.declared.documents.Content.{Content}
-use Rattle.rs_tool.specs.declared.documents.Content.TheVariants as content
 use Rattle.rs_tool.proofs.CanShow.{role_names, spelt_grows}
+use Rattle.rs_tool.proofs.Spelt.{document_found}
 use Rattle.rs_tool.proofs.Parts.{none_there, set_in_place, set_size, size_of_none, two_roles}
 
 -- the roles are two to sixteen, as many as the protocol has, and each has a place for its machine, which is its own
@@ -24,32 +23,26 @@ record AreSeated (roles : List (List ℕ)) (machines : List (Option Machine_data
   pub one_each : length machines ≡ length roles
   pub in_place : AreInPlace machines
 
-seated : (bytes : List ℕ) (p : Protocol_data) (at : ℕ) (names : Names_data) (machines : List (Option Machine_data)) (what : Content) → GoesOn bytes p at names machines what → AreSeated names.roles machines
-    → (d : Document_data) → what ≡ content.Document d → (d.names.roles ≡ names.roles) × AreSeated d.names.roles d.machines
-seated bytes p at names machines what (Ends a n m e) h d is =
-    let same : record { names = names; protocol = p; machines = machines } ≡ d = cc in
-    (ap (λ (x : Document_data). x.names.roles) (sym same), subst (λ (x : Document_data). AreSeated x.names.roles x.machines) same h)
-seated bytes p at names machines what (Derives a n m e) h d is = absurd cc
-seated bytes p at names machines what (Breaks a n m s k e f) h d is = absurd cc
-seated bytes p at names machines what (Repeats a u n m e f) h d is = absurd cc
-seated bytes p at names machines what (Fails a u n m k e f g) h d is = absurd cc
-seated bytes p at names machines what (Adds a next n new m machine w e f s g) h d is =
-    let same = (spelt_grows bytes at names new machine next s).roles in
-    let r = seated bytes p next new (with_machine machines machine) what g
-    record { one_each = set_size machines machine.role.0 (Some machine) ∙ h.one_each ∙ ap length (sym same); in_place = set_in_place machines machine h.in_place } d is in
+seated : (bytes : List ℕ) (at : ℕ) (names : Names_data) (machines : List (Option Machine_data)) (d : Document_data) → MachinesBehind bytes at names machines d → AreSeated names.roles machines
+    → (d.names.roles ≡ names.roles) × AreSeated d.names.roles d.machines
+seated bytes at names machines d (NoMore a e f) h = (refl, h)
+seated bytes at names machines d (OneMore a next n new m machine e s free rest) h =
+    let same = (spelt_grows bytes a n new machine next s).roles in
+    let r = seated bytes next new (with_machine m machine) e rest
+    record { one_each = set_size m machine.role.0 (Some machine) ∙ h.one_each ∙ ap length (sym same); in_place = set_in_place m machine h.in_place } in
     (r.0 ∙ same, r.1)
 
 pub spelt_session : (bytes : List ℕ) (d : Document_data) → SpellsDocument bytes d → IsSpeltSession d
 spelt_session bytes d h =
-    let r = seated bytes h.protocol h.until h.names (no_machines h.names.roles) (content.Document d) h.goes_on
-    record { one_each = size_of_none h.names.roles; in_place = λ k m e. absurd (none_there h.names.roles k m e) } d refl in
-    let two = two_roles bytes 0 h.names h.protocol h.until h.spells in
-    let few = h.spells.fits.few_roles in
-    let names = ap (λ (z : Names_data). z.roles) h.spells.names_are in
+    let r = seated bytes h.until h.names (no_machines h.names.roles) d h.machines
+    record { one_each = size_of_none h.names.roles; in_place = λ k m e. absurd (none_there h.names.roles k m e) } in
+    let two = two_roles bytes 0 h.names d.protocol h.until h.protocol in
+    let few = h.protocol.fits.few_roles in
+    let names = ap (λ (z : Names_data). z.roles) h.protocol.names_are in
     record {
       two = subst (λ (z : List (List ℕ)). 2 ≤ length z) (sym r.0) two;
       few = subst (λ (z : List (List ℕ)). length z ≤ 16) (sym (r.0 ∙ names)) few;
-      roles = (role_names bytes d h).0;
+      roles = (role_names bytes d (document_found bytes d h)).0;
       one_each = r.1.one_each;
       in_place = r.1.in_place;
     }

@@ -64,7 +64,7 @@ same_list (x ∷ xs) [] size h = absurd cc
 same_list (x ∷ xs) (y ∷ ys) size h =
     ap (λ z. z ∷ xs) (h 0 x y refl refl) ∙ ap (λ z. y ∷ z) (same_list xs ys (cc) (λ p a b e f. h (suc p) a b e f))
 
-one_list : (protocol : Protocol_data) (xs ys : List Projection_data) → IsWellFormed protocol → AreNumberedProjections protocol xs → AreNumberedProjections protocol ys → xs ≡ ys
+pub one_list : (protocol : Protocol_data) (xs ys : List Projection_data) → IsWellFormed protocol → AreNumberedProjections protocol xs → AreNumberedProjections protocol ys → xs ≡ ys
 one_list protocol xs ys w h k =
     same_list xs ys (h.many ∙ sym k.many) (λ p x y e f. one-projection protocol (record { 0 = p }) x y w (h.each p x e) (k.each p y f))
 

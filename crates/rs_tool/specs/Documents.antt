@@ -1,5 +1,5 @@
--- What a text spells: a document, one with derivations, or a fault.
-use Rattle.std.specs.Prelude.{◌≡◌, ℕ, List, map, codes, Bool, false, ◌||◌, Option, Some, None, slice_get, slice_set, if◌then◌else◌}
+-- Steps: what a text is, token by token: a document, one with derivations, or a fault.
+use Rattle.std.specs.Prelude.{◌≡◌, ℕ, List, codes, Bool, false, ◌||◌, Option, Some, None, slice_get, if◌then◌else◌}
 use Rattle.std.specs.Str.{bytes_eq}
 use Rattle.rs_model.specs.Data.{Names_data, Protocol_data, Machine_data}
 use Rattle.rs_text.specs.Faults.{kind_of}
@@ -13,7 +13,7 @@ use Rattle.rs_global.specs.Faults as of_protocols
 use Rattle.rs_global.specs.Spells.{SpellsProtocol}
 use Rattle.rs_machines.specs.Faults as of_machines
 use Rattle.rs_machines.specs.Spells.{SpellsMachine}
-use Rattle.rs_tool.specs.Data.{Document_data}
+pub use Rattle.rs_tool.specs.Spells.{SpellsDocument, no_machines, with_machine}
 use Rattle.rs_tool.specs.declared.documents.Content.{Content}
 use Rattle.rs_tool.specs.declared.documents.Content.TheVariants as content
 
@@ -49,10 +49,6 @@ pub record IsTwice (bytes : List ℕ) (names : Names_data) (machines : List (Opt
   pub has : slice_get machines place ≡ Some (Some machine)
   pub stands : second ≡ (next_lexeme bytes (next_lexeme bytes at).until).from
 
--- the machines so far, with one more
-abbrev pub with_machine : List (Option Machine_data) → Machine_data → List (Option Machine_data)
-with_machine machines machine = slice_set machines machine.role.0 (Some machine)
-
 -- what the text is, where the protocol and these machines stand before the offset
 pub data GoesOn (bytes : List ℕ) (protocol : Protocol_data) : (at : ℕ) → Names_data → List (Option Machine_data) → Content → Type 0 where
   -- nothing more stands there
@@ -77,10 +73,6 @@ pub data GoesOn (bytes : List ℕ) (protocol : Protocol_data) : (at : ℕ) → N
       → GoesOn bytes protocol next new (with_machine machines machine) what
       → GoesOn bytes protocol at names machines what
 
--- no role has a machine
-abbrev pub no_machines : List (List ℕ) → List (Option Machine_data)
-no_machines roles = map (λ (name : List ℕ). None) roles
-
 -- behind a protocol the text is this
 pub record IsBehindProtocol (bytes : List ℕ) (what : Content) : Type 0 where
   pub names : Names_data
@@ -88,10 +80,6 @@ pub record IsBehindProtocol (bytes : List ℕ) (what : Content) : Type 0 where
   pub until : ℕ
   pub spells : SpellsProtocol bytes 0 names protocol until
   pub goes_on : GoesOn bytes protocol until names (no_machines names.roles) what
-
--- the bytes spell the document
-abbrev pub SpellsDocument : List ℕ → Document_data → Type 0
-SpellsDocument bytes d = IsBehindProtocol bytes (content.Document d)
 
 -- the bytes spell a protocol and machines, and go on with derivations
 abbrev pub HasDerivations : List ℕ → Type 0

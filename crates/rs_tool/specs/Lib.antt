@@ -5,11 +5,13 @@ pub mod Data
 pub mod Derivations
 pub mod Documents
 pub mod Headline
+pub mod Machines
 pub mod Reading
 pub mod RefusalTexts
 pub mod Report
 pub mod Sessions
 pub mod Shown
+pub mod Spells
 pub mod Statuses
 pub mod Tables
 pub mod Texts

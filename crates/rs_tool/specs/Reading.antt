@@ -7,7 +7,7 @@ use Rattle.rs_text.specs.Seen.{plain_text}
 use Rattle.rs_text.specs.Signs.{Sign, finish}
 use Rattle.rs_text.specs.Sound.{IsSound}
 use Rattle.rs_tool.specs.Data.{Document_data}
-use Rattle.rs_tool.specs.Documents.{StandsAt, derivation_word, is_word, fault_behind, GoesOn, IsBehindProtocol, HasFault}
+use Rattle.rs_tool.specs.Documents.{SpellsDocument, StandsAt, derivation_word, is_word, fault_behind, GoesOn, IsBehindProtocol, HasFault}
 use Rattle.rs_tool.specs.declared.documents.Begin.{Begin}
 use Rattle.rs_tool.specs.declared.documents.Begin.TheVariants as begin
 use Rattle.rs_tool.specs.declared.documents.Content.{Content}
@@ -92,6 +92,6 @@ IsInOrder bytes (content.Fault f) = f.at ≤ length bytes
 
 -- what was found is what the text is
 abbrev pub IsContent : List ℕ → Content → Type 0
-IsContent bytes (content.Document d) = IsBehindProtocol bytes (content.Document d)
+IsContent bytes (content.Document d) = SpellsDocument bytes d
 IsContent bytes content.Derivations = IsBehindProtocol bytes content.Derivations
 IsContent bytes (content.Fault f) = HasFault bytes f.kind f.at

@@ -10,6 +10,7 @@ use Rattle.rs_project.specs.Refusals.{FirstRefusal}
 use Rattle.rs_project.specs.declared.projecting.ProjFault.{ProjFault}
 use Rattle.rs_wellformed.specs.Faults as of_protocols
 use Rattle.rs_tool.specs.Data.{Document_data}
+pub use Rattle.rs_tool.specs.Machines.{machine_or, machines_of}
 
 -- the first role onto which the protocol has no projection, and the first reason
 pub record IsUnprojectable (protocol : Protocol_data) (role : Role) (fault : ProjFault) : Type 0 where
@@ -26,17 +27,6 @@ Refuses protocol fault = (role : Role) × IsUnprojectable protocol role fault
 pub record HasProjections (d : Document_data) (projections : List Projection_data) : Type 0 where
   pub well_formed : of_protocols.first_fault d.protocol ≡ None
   pub projected : AreNumberedProjections d.protocol projections
-
--- a role without a machine runs its projection
-abbrev pub machine_or : Option Machine_data → Projection_data → Machine_data
-machine_or None projection = projection.machine
-machine_or (Some machine) projection = machine
-
--- the machines of the session, in role order
-abbrev pub machines_of : List (Option Machine_data) → List Projection_data → List Machine_data
-machines_of (own ∷ machines) (projection ∷ projections) = machine_or own projection ∷ machines_of machines projections
-machines_of [] projections = []
-machines_of (own ∷ machines) [] = []
 
 -- the first machine among so many roles that isn't well formed: its role and its first fault
 pub record MachineRefusal : Type 0 where

@@ -1,7 +1,8 @@
 use Rattle.std.proofs.Common.{ap, ◌∙◌}
 use Rattle.rs_model.specs.Data.{Names_data}
 use Rattle.rs_tool.specs.Documents.{no_machines}
-use Rattle.rs_tool.proofs.Parts.{begin_ready, found_behind, two_roles}
+use Rattle.rs_tool.proofs.Parts.{begin_ready, two_roles}
+use Rattle.rs_tool.proofs.Spelt.{found_behind}
 use Rattle.rs_tool.proofs.documents.read_document.Goals as goal
 
 pub read_parts-requires-clause-ready : goal.read_parts-requires-clause-ready
