@@ -13,13 +13,13 @@ use Rattle.rs_core.specs.Safety.{IsSafe}
 use Rattle.rs_derive.specs.Data.{Derivation_data}
 use Rattle.rs_derive.specs.Derivations.{IsDerivation, IsProper, Remembers}
 use Rattle.rs_derive.specs.declared.faults.DeriveFault.{DeriveFault}
-use Rattle.rs_derive.proofs.Whole.{no_fault_back}
 use Rattle.rs_project.specs.Data.{Projection_data}
 use Rattle.rs_project.specs.Numbered.{AreNumberedProjections}
 use Rattle.rs_safety.specs.Accepting.{FirstRefused}
 use Rattle.rs_safety.specs.Sessions.{AreDerivations, AreOneEach, IsSession}
 use Rattle.rs_safety.proofs.Accepts.{accepted-safe, gets, machine-proper, projection-proper}
 use Rattle.rs_safety.proofs.Sessions.{no-machine, no-projection}
+use Rattle.rs_search.proofs.Accepted.{accepted, derives, remembers}
 use Rattle.rs_search.specs.Canonical.{IsFound, Refuses}
 use Rattle.rs_search.specs.declared.faults.SearchFault.{SearchFault}
 use Rattle.rs_search.specs.declared.faults.SearchFault.TheVariants as search
@@ -95,11 +95,10 @@ session_of d ps ms spelt none h e fine =
 pub ready_session : (d : Document_data) → IsReady d → length d.names.roles ≡ d.protocol.roles → IsSpeltSession d
 ready_session d ready roles = record { two = ready.two; few = ready.roles; roles = roles; one_each = ready.one_each; in_place = ready.in_place }
 
-found_is_derivation : (sub above : Machine_data) (bound : ℕ) (d : Derivation_data) → IsFound sub above bound d → IsDerivation d sub above × Remembers d sub above
-found_is_derivation sub above bound d h = ?
-
-found_is_small : (sub above : Machine_data) (bound : ℕ) (d : Derivation_data) → IsFound sub above bound d → length d.nodes ≤ MOST_CANDIDATES
-found_is_small sub above bound d h = ?
+-- .. as the program has it
+pub session_by : (d now : Document_data) (ps : List Projection_data) (ms : List Machine_data) → d ≡ now → IsReady now → length now.names.roles ≡ now.protocol.roles → of_protocols.first_fault d.protocol ≡ None → AreNumberedProjections d.protocol ps
+    → ms ≡ machines_of d.machines ps → first_refusal d.protocol.roles ms ≡ None → IsSession d.protocol ps ms
+session_by d now ps ms is ready roles none h e fine = session_of d ps ms (subst IsSpeltSession (sym is) (ready_session now ready roles)) none h e fine
 
 -- no role is there yet
 pub none_canonical : (ms : List Machine_data) (ps : List Projection_data) → AreFirstCanonical ms ps 0 []
@@ -158,8 +157,15 @@ found_at pr ps ms ds s h p d at =
     record { machine = get_or ms p no-machine; projection = get_or ps p no-projection; runs = hm; found = h.each p (get_or ms p no-machine) (get_or ps p no-projection) d hm hj at }
 
 -- each of them is a derivation that remembers
-pub derivations_are : (ms : List Machine_data) (ps : List Projection_data) (ds : List Derivation_data) → AreCanonical ms ps ds → AreDerivations ms ps ds
-derivations_are ms ps ds h = record { many = h.many; is = λ p m j d hm hj hd. found_is_derivation m j.machine DEFAULT_BOUND d (h.each p m j d hm hj hd) }
+pub derivations_are : (pr : Protocol_data) (ps : List Projection_data) (ms : List Machine_data) (ds : List Derivation_data) → IsSession pr ps ms → AreCanonical ms ps ds → AreDerivations ms ps ds
+derivations_are pr ps ms ds s h = record {
+  many = h.many;
+  is = λ p m j d hm hj hd. (
+      let f = h.each p m j d hm hj hd in
+      let ours = machine-proper pr ps ms s p m hm in
+      let theirs = projection-proper pr ps ms s p j hj in
+      (derives m j.machine DEFAULT_BOUND d ours theirs f, remembers m j.machine DEFAULT_BOUND d ours theirs f));
+}
 
 -- what was found for the roles can be tested
 pub one_each : (pr : Protocol_data) (ps : List Projection_data) (ms : List Machine_data) (ds : List Derivation_data) → IsSession pr ps ms → AreCanonical ms ps ds → AreOneEach pr.roles ds
@@ -167,18 +173,18 @@ one_each pr ps ms ds s h = record {
   many = h.many ∙ s.a_machine_each;
   role = λ p d at. (let f = found_at pr ps ms ds s h p d at in ap (λ (z : Role). z.0) f.found.canonical.role ∙ s.machines_fit.role p f.machine f.runs);
   bound = λ p d at. (let f = found_at pr ps ms ds s h p d at in let b = f.found.canonical.bound' in (omega (arith, b), omega (arith, b)));
-  few = λ p d at. (let f = found_at pr ps ms ds s h p d at in let k = found_is_small f.machine f.projection.machine DEFAULT_BOUND d f.found in omega (arith, k));
+  few = λ p d at. (let f = found_at pr ps ms ds s h p d at in let k = few_nodes f.machine f.projection.machine DEFAULT_BOUND d f.found in omega (arith, k));
 }
 
 -- what is accepted is safe
 pub canonical_safe : (pr : Protocol_data) (ps : List Projection_data) (ms : List Machine_data) (ds : List Derivation_data) → IsSession pr ps ms → AreCanonical ms ps ds → IsSafe ms
-canonical_safe pr ps ms ds s h = accepted-safe pr ps ms ds s (derivations_are ms ps ds h)
+canonical_safe pr ps ms ds s h = accepted-safe pr ps ms ds s (derivations_are pr ps ms ds s h)
 
 -- and is refused nowhere
-pub never_refused : (ms : List Machine_data) (ps : List Projection_data) (ds : List Derivation_data) (place : ℕ) (cause : DeriveFault) → AreCanonical ms ps ds → FirstRefused ms ps ds place cause → ⊥
-never_refused ms ps ds place cause h r =
-    let is = found_is_derivation r.machine r.projection.machine DEFAULT_BOUND r.derivation (h.each place r.machine r.projection r.derivation r.runs r.projects r.derives) in
-    let none = no_fault_back r.derivation r.machine r.projection.machine is in
+pub never_refused : (pr : Protocol_data) (ps : List Projection_data) (ms : List Machine_data) (ds : List Derivation_data) (place : ℕ) (cause : DeriveFault) → IsSession pr ps ms → AreCanonical ms ps ds → FirstRefused ms ps ds place cause → ⊥
+never_refused pr ps ms ds place cause s h r =
+    let f = h.each place r.machine r.projection r.derivation r.runs r.projects r.derives in
+    let none = accepted r.machine r.projection.machine DEFAULT_BOUND r.derivation (machine-proper pr ps ms s place r.machine r.runs) (projection-proper pr ps ms s place r.projection r.projects) f in
     let fault = r.fault in
     cc (none, fault)
 

@@ -7,7 +7,6 @@ use Rattle.rs_tool.specs.Data.{Document_data}
 use Rattle.rs_tool.specs.Spells.{MachinesBehind, NoMore, OneMore, SpellsDocument, no_machines, with_machine}
 use Rattle.rs_tool.specs.Reading.{AreInPlace}
 use Rattle.rs_tool.proofs.CanShow.{role_names, spelt_grows}
-use Rattle.rs_tool.proofs.Spelt.{document_found}
 use Rattle.rs_tool.proofs.Parts.{none_there, set_in_place, set_size, size_of_none, two_roles}
 
 -- the roles are two to sixteen, as many as the protocol has, and each has a place for its machine, which is its own
@@ -42,7 +41,7 @@ spelt_session bytes d h =
     record {
       two = subst (λ (z : List (List ℕ)). 2 ≤ length z) (sym r.0) two;
       few = subst (λ (z : List (List ℕ)). length z ≤ 16) (sym (r.0 ∙ names)) few;
-      roles = (role_names bytes d (document_found bytes d h)).0;
+      roles = (role_names bytes d h).0;
       one_each = r.1.one_each;
       in_place = r.1.in_place;
     }
