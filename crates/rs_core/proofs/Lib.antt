@@ -6,3 +6,14 @@ pub mod Parts
 pub mod Nexts
 pub mod Results
 pub mod Examples
+pub mod Stories
+pub mod Fifo
+pub mod Played
+pub mod Compared
+pub mod Greatest
+pub mod Rounds
+pub mod Idle
+pub mod Ends
+pub mod Determined
+pub mod Unique
+pub mod Full
