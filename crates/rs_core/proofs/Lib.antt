@@ -17,3 +17,4 @@ pub mod Ends
 pub mod Determined
 pub mod Unique
 pub mod Full
+pub mod Sessions

@@ -6,3 +6,4 @@ pub mod Histories
 pub mod Actors
 pub mod Plain
 pub mod Determined
+pub mod Core

@@ -2,10 +2,14 @@
 #![tactic(auto)]
 
 mod actors;
+mod cells;
 pub mod laws;
 mod messages;
+mod rows;
+mod steps;
 mod transcripts;
 
 pub use actors::Actor;
-pub use messages::{Event, Message};
+pub use messages::{Event, Message, Refused, StepFault, Stepped};
+pub use steps::Core;
 pub use transcripts::{Entry, Transcript, Transcripts};
