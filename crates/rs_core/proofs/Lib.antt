@@ -18,3 +18,5 @@ pub mod Determined
 pub mod Unique
 pub mod Full
 pub mod Sessions
+pub mod Turning
+pub mod Places

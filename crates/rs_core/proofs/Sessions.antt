@@ -75,8 +75,13 @@ way-arm peer None v w e = absurd (cc (e))
 way-arm peer (Some arm) v w e = by (fits v arm.sort) refl
   where
     by : (t : Bool) → fits v arm.sort ≡ t → (a : Arm) × (Some arm ≡ Some a) × HasSort v a.sort × (w ≡ record { peer = peer; label = a.label; next = a.next })
-    by true f = (arm, refl, f, (let way : Way = record { peer = peer; label = arm.label; next = arm.next } in
-        let e' : Ok way ≡ Ok w = sym (rw f refl) ∙ e in sym (cc (e'))))
+    by true f = (
+      arm,
+      refl,
+      f,
+      (let way : Way = record { peer = peer; label = arm.label; next = arm.next } in
+          let e' : Ok way ≡ Ok w = sym (rw f refl) ∙ e in sym (cc (e'))),
+    )
     by false f = (let e' : Err WrongSort ≡ Ok w = sym (rw f refl) ∙ e in absurd (cc (e')))
 
 send-way : (machines : List Machine_data) (c : Configuration) (p place : ℕ) (v : Value) (w : Way) (o : Option State) → state_at machines c p ≡ o → way_of o place v ≡ Ok w
@@ -224,22 +229,24 @@ got-step c p w m later s hp e q =
     let at = here-is (slice_get c.machines p) (slice_index_or c.states p 0) (Takes w.peer x.arms) x.takes in
     let place : t.0 ≡ a.0 = ((s.well_formed.fits p at.0 at.1).takes (slice_index_or c.states p 0) w.peer x.arms at.2).once t.0 a.0 t.1 x.arm t.2 a.1 (t.3.0 ∙ sym a.2) in
     let arm : t.1 ≡ x.arm = cc (t.2, a.1, place) in
-    let P : Arm → Type 0 = λ z. HasSort x.message.value z.sort in
-    (record {
-      peer = w.peer;
-      arms = x.arms;
-      place = a.0;
-      arm = x.arm;
-      message = x.message;
-      takes = x.takes;
-      removes = x.oldest ∙ ap (λ (z : List Message). x.message ∷ z) (rest ∙ sym (rows-same c.queues w.peer.0 p later hr hy));
-      follows = a.1;
-      same_label = a.2;
-      has_sort = subst P arm t.3.1;
-      goes = get_or-set_same c.states p w.next 0 (omega arith) ∙ x.next;
-      other_states = λ r ne. get_or-set_other c.states p r w.next 0 ne;
-      other_queues = rows-other c.queues w.peer.0 p later hr;
-    }, same)
+    let P : Arm → Type 0 = λ z. HasSort x.message.value z.sort in (
+      record {
+        peer = w.peer;
+        arms = x.arms;
+        place = a.0;
+        arm = x.arm;
+        message = x.message;
+        takes = x.takes;
+        removes = x.oldest ∙ ap (λ (z : List Message). x.message ∷ z) (rest ∙ sym (rows-same c.queues w.peer.0 p later hr hy));
+        follows = a.1;
+        same_label = a.2;
+        has_sort = subst P arm t.3.1;
+        goes = get_or-set_same c.states p w.next 0 (omega arith) ∙ x.next;
+        other_states = λ r ne. get_or-set_other c.states p r w.next 0 ne;
+        other_queues = rows-other c.queues w.peer.0 p later hr;
+      },
+      same,
+    )
 
 pub got-session : (c : Core_data) (p : ℕ) (w : Way) (m : Message) (later : List Message) → IsSession c → p < length c.machines → front_of (state_at c.machines (configuration_of c) p) (λ q. (configuration_of c).queue q p) ≡ Ok w
     → (configuration_of c).queue w.peer.0 p ≡ m ∷ later → IsSession (with_got c p w.peer.0 w.next later)

@@ -7,3 +7,4 @@ pub mod Actors
 pub mod Plain
 pub mod Determined
 pub mod Core
+pub mod Turns

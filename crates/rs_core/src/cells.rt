@@ -74,7 +74,13 @@ impl Cells {
     }
 
     /// Puts the message into the queue from `role` to `peer`, and the machine of `role` into the next state.
-    pub(crate) fn send(&mut self, role: Role, peer: Role, next: u32, message: Message) -> Result<(), Message>
+    pub(crate) fn send(
+        &mut self,
+        role: Role,
+        peer: Role,
+        next: u32,
+        message: Message,
+    ) -> Result<(), Message>
         requires there { role.0 < length self.old.machines }
         requires peer { peer.0 < length self.old.machines }
         requires places { HasPlaces self.old }

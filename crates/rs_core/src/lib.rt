@@ -5,9 +5,11 @@ mod actors;
 mod cells;
 pub mod laws;
 mod messages;
+mod players;
 mod rows;
 mod steps;
 mod transcripts;
+mod turns;
 
 pub use actors::Actor;
 pub use messages::{Event, Message, Refused, StepFault, Stepped};

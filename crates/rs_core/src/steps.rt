@@ -157,7 +157,9 @@ impl Core {
         ensures state { MatchOption result (state_of (slice_get self.now.machines role.0) number ≡ None) (λ s. state_of (slice_get self.now.machines role.0) number ≡ Some s.now) }
         ensures session { IsSession self.now }
     {
-        self.cells.machines[role.0 as usize].states.get(number as usize)
+        self.cells.machines[role.0 as usize]
+            .states
+            .get(number as usize)
     }
 
     /// The role at a place among the machines, whose number it is.
