@@ -4,7 +4,7 @@ use Rattle.std.proofs.lemmas.Bool.Decides.{eqb_tells}
 use Rattle.rs_model.specs.Data.{Machine_data}
 use Rattle.rs_model.specs.declared.graph.Arm.{Arm}
 use Rattle.rs_model.specs.declared.graph.Role.{Role}
-use Rattle.rs_model.specs.declared.machines.State.TheVariants.{Puts, Takes}
+use Rattle.rs_model.specs.declared.machines.State.TheVariants.{Done, Puts, Takes}
 use Rattle.rs_core.specs.Choices.{AreWellFormed}
 use Rattle.rs_core.specs.Configurations.{Configuration, state_at}
 use Rattle.rs_core.specs.Safety.{CanMove, MaySend, MayReceive, IsSafe}
@@ -119,3 +119,27 @@ module _ {A : Type 0} (b : Behaviour A) where
   unfolding FullEnding
   stuck-is-full well ms actors limit room k safe wf is =
       full-ending ms actors limit room is.first (Stuck k) record { safe = safe; wf = wf; well = well } (sound-start b ms actors limit is.first is.starts) is.run
+
+  -- a round in which no role made an act leaves the configuration
+  pub idle-at : (ms : List Machine_data) (limit : ℕ) (room : Option ℕ) (l k : Moment A) → Turns (LimitedTurn ms b limit room) (length ms) 0 l k false → k.at ≡ l.at
+  idle-at ms limit room l k ts = (search-full ms limit room (length ms) 0 l k false refl ts).0
+
+  -- .. and where all have ended it changes nothing
+  done-turn : (ms : List Machine_data) (limit : ℕ) (room : Option ℕ) (p : ℕ) (l k : Moment A) → state_at ms l.at p ≡ Some Done → Rests ms b room p l k → k ≡ l
+  done-turn ms limit room p l k done (HasEnded d e) = e
+  done-turn ms limit room p l k done (Waits peer arms takes empty e) = e
+  done-turn ms limit room p l k done (FindsFull t) = let puts = t.puts in absurd (cc (puts, done))
+
+  pub done-turns : (ms : List Machine_data) (limit : ℕ) (room : Option ℕ) (many p : ℕ) (l k : Moment A) (moved : Bool) → moved ≡ false → Turns (LimitedTurn ms b limit room) many p l k moved
+      → ((r : ℕ) → p ≤ r → r < p + many → state_at ms l.at r ≡ Some Done) → k ≡ l
+  done-turns ms limit room zero p l k moved none t done = t.0
+  done-turns ms limit room (suc many) p l k moved none t done = go t.1 t.2 t.3 (λ e all. done-turns ms limit room many (suc p) t.0 k t.2 e t.4 all) (sym t.5 ∙ none)
+    where
+      go : (acted later : Bool) → LimitedTurn ms b limit room p l t.0 acted → (later ≡ false → ((r : ℕ) → suc p ≤ r → r < suc p + many → state_at ms t.0.at r ≡ Some Done) → k ≡ t.0)
+          → (acted || later) ≡ false → k ≡ l
+      go true later u on e = absurd (cc (e))
+      go false later u on e =
+          let here = done-turn ms limit room p l t.0 (done p (omega arith) (omega arith)) u.1 in
+          let P : Moment A → Type 0 = λ z. (r : ℕ) → suc p ≤ r → r < suc p + many → state_at ms z.at r ≡ Some Done in
+          let all : (r : ℕ) → suc p ≤ r → r < suc p + many → state_at ms l.at r ≡ Some Done = λ r low high. done r (omega arith) (omega arith) in
+          on e (subst P (sym here) all) ∙ here

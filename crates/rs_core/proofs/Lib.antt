@@ -20,3 +20,7 @@ pub mod Full
 pub mod Sessions
 pub mod Turning
 pub mod Places
+pub mod Lifting
+pub mod Running
+pub mod Filled
+pub mod Shown

@@ -1,21 +1,17 @@
 -- What one turn does.
 use Rattle.std.proofs.Common.{rules, ◌≡◌, ℕ, ◌<◌, true, false, List, [], ◌∷◌, ◌++◌, Option, Some, None, slice_get, slice_index_or, length, refl, sym, ap, ◌∙◌, subst, subst₂}
 use Rattle.std.proofs.lemmas.Option.{get_or_from_slice_get, slice_get_within}
-use Rattle.rs_model.specs.Data.{Machine_data}
 use Rattle.rs_model.specs.Sorts.{HasSort}
 use Rattle.rs_model.specs.declared.graph.Arm.{Arm}
 use Rattle.rs_model.specs.declared.graph.Label.{Label}
 use Rattle.rs_model.specs.declared.graph.Role.{Role}
 use Rattle.rs_model.specs.declared.machines.State.TheVariants.{Puts, Takes}
-use Rattle.rs_model.specs.declared.machines.State.{State}
 use Rattle.rs_model.specs.declared.values.Value.{Value}
 use Rattle.rs_core.specs.Actors.{Choice, Behaviour, ChoosesWell}
-use Rattle.rs_core.specs.Configurations.{Message, Event, Send, Sends, Receives, state_at}
-use Rattle.rs_core.specs.Core.{Core_data, IsSession, HasReceived, IsRefused, IsUnsent, arm_fault, send_fault, configuration_of}
+use Rattle.rs_core.specs.Configurations.{Message, Sends, Receives, state_at}
+use Rattle.rs_core.specs.Core.{Core_data, IsSession, HasReceived, configuration_of}
 use Rattle.rs_core.specs.Plain.{HasRoom, IsFull, offered}
 use Rattle.rs_core.specs.Turns.{CanChoose, KeepsWell, Offers, HasMoved, HasSent, HasGot, is_full}
-use Rattle.rs_core.specs.declared.messages.StepFault.{StepFault}
-use Rattle.rs_core.specs.declared.messages.StepFault.TheVariants as fault
 use Rattle.rs_core.specs.declared.players.Player.{Player}
 use Rattle.rs_core.specs.declared.transcripts.Entry.{Entry}
 use Rattle.rs_core.specs.declared.transcripts.Entry.TheVariants as entry

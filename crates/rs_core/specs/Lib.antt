@@ -8,3 +8,4 @@ pub mod Plain
 pub mod Determined
 pub mod Core
 pub mod Turns
+pub mod Runs

@@ -6,12 +6,15 @@ mod cells;
 pub mod laws;
 mod messages;
 mod players;
+mod playing;
 mod rows;
+mod runs;
 mod steps;
 mod transcripts;
 mod turns;
 
 pub use actors::Actor;
 pub use messages::{Event, Message, Refused, StepFault, Stepped};
+pub use runs::{Outcome, Run, RunFault, run_bounded, run_plain};
 pub use steps::Core;
 pub use transcripts::{Entry, Transcript, Transcripts};
