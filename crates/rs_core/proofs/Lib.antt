@@ -24,3 +24,4 @@ pub mod Lifting
 pub mod Running
 pub mod Filled
 pub mod Shown
+pub mod Drawing

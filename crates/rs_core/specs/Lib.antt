@@ -9,3 +9,5 @@ pub mod Determined
 pub mod Core
 pub mod Turns
 pub mod Runs
+pub mod Draws
+pub mod Choosing

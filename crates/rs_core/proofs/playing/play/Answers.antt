@@ -27,7 +27,7 @@ returns-in-Idle g c =
     let r = subst P c.in-Idle.is c.in_ok-round.ensures.round in
     record {
       plain = run-ends g.A.Actor.behaviour c.args.machines.items c.args.limit c.args.capacity c.args.actors.items c.loop-core.core c.round.new.core c.loop-core.players.items c.round.new.players.items c.end_of-end.result
-          g.A.Actor.chooses_well c.requires.safe c.requires.well_formed c.loop-core.invariant r c.end_of-end.ensures;
+          g.met.A.Actor.chooses_well c.requires.safe c.requires.well_formed c.loop-core.invariant r c.end_of-end.ensures;
       many = r.ready.many ∙ ap length (r.machines ∙ c.loop-core.invariant.machines);
       among = run-among g.A.Actor.behaviour c.args.machines.items c.args.limit c.args.capacity c.args.actors.items c.loop-core.core c.round.new.core c.loop-core.players.items c.round.new.players.items c.end_of-end.result
           c.requires.well_formed c.loop-core.invariant r c.end_of-end.ensures;

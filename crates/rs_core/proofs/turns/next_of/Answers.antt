@@ -12,7 +12,7 @@ bounds-arms-arm g c =
     let puts : state_at c.args.core.now.machines (configuration_of c.args.core.now) c.args.role.0 ≡ Some (Puts c.in-Puts.peer c.as_slice-arms.result.now) =
     c.here.ensures.state ∙ ap (λ (z : State). Some z) (c.in-Puts.is ∙ ap (λ (z : List Arm). Puts c.in-Puts.peer z) (sym c.as_slice-arms.ensures)) in
     in-range g.A.Actor.behaviour c.args.core.now c.args.role.0 c.args.player.now c.in-Puts.peer c.as_slice-arms.result.now c.in_ok-arm-in-Puts.arm c.in_ok-arm-in-Puts.value c.offer.new.self.actor
-    g.A.Actor.chooses_well c.here.ensures.session c.requires.keeps puts c.in_ok-arm-in-Puts.ensures.offers
+    g.met.A.Actor.chooses_well c.here.ensures.session c.requires.keeps puts c.in_ok-arm-in-Puts.ensures.offers
 
 pub returns-in_ok-arm-in-Puts : goal.returns-in_ok-arm-in-Puts
 returns-in_ok-arm-in-Puts g c =
@@ -22,6 +22,6 @@ returns-in_ok-arm-in-Puts g c =
       tells = (
         search rules,
         offering g.A.Actor.behaviour c.args.core.now c.args.role.0 c.args.player.now c.offer.new.self c.in-Puts.peer c.as_slice-arms.result.now c.in_ok-arm-in-Puts.arm c.in_ok-arm-in-Puts.value _
-            g.A.Actor.chooses_well c.here.ensures.session c.requires.keeps puts c.in_ok-arm-in-Puts.ensures.offers c.in_ok-arm-in-Puts.ensures.kept c.in_ok-arm-in-Puts.ensures.transcript,
+            g.met.A.Actor.chooses_well c.here.ensures.session c.requires.keeps puts c.in_ok-arm-in-Puts.ensures.offers c.in_ok-arm-in-Puts.ensures.kept c.in_ok-arm-in-Puts.ensures.transcript,
       );
     }
