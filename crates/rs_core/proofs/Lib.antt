@@ -25,3 +25,4 @@ pub mod Running
 pub mod Filled
 pub mod Shown
 pub mod Drawing
+pub mod Guards

@@ -1,5 +1,5 @@
 -- What the steps of `Core` do to the configuration that it shows.
-use Rattle.std.proofs.Common.{◌≡◌, ◌≢◌, ◌⊎◌, inl, inr, ℕ, zero, suc, ◌<◌, ◌≤◌, Bool, true, false, List, [], ◌∷◌, ◌++◌, Option, Some, None, Ok, Err, slice_get, slice_index_or, slice_set, length, refl, sym, ap, ◌∙◌, subst, arith, map, replicate}
+use Rattle.std.proofs.Common.{Result, ◌≡◌, ◌≢◌, ◌⊎◌, inl, inr, ℕ, zero, suc, ◌<◌, ◌≤◌, Bool, true, false, List, [], ◌∷◌, ◌++◌, Option, Some, None, Ok, Err, slice_get, slice_index_or, slice_set, length, refl, sym, ap, ◌∙◌, subst, arith, map, replicate}
 use Rattle.std.proofs.lemmas.Bool.Decides.{eqb_tells}
 use Rattle.std.proofs.lemmas.Bool.{cases_lt}
 use Rattle.std.proofs.lemmas.List.{get_or-set_same, get_or-set_other, length-set, get_or-replicate, length-replicate, length-map}
@@ -170,27 +170,27 @@ arm-found (a ∷ arms) l place arm is same e = elim (eqb_tells a.label.0 l.0) [
     by zero i none other on = (let is' : a ≡ arm = cc (i) in other (ap (λ (z : Arm). z.label.0) is' ∙ ap (λ (z : Label). z.0) same))
     by (suc n) i none other on = on n i none
 
-next-way : (peer : Role) (o : Option Arm) (w : Way) → next_by peer o ≡ Ok w → (arm : Arm) × (o ≡ Some arm) × (w ≡ record { peer = peer; label = arm.label; next = arm.next })
+next-way : (peer : Role) (o : Option Arm) (w : Way) → next_by peer o ≡ Some w → (arm : Arm) × (o ≡ Some arm) × (w ≡ record { peer = peer; label = arm.label; next = arm.next })
 next-way peer None w e = absurd (cc (e))
-next-way peer (Some arm) w e = (let way : Way = record { peer = peer; label = arm.label; next = arm.next } in let e' : Ok way ≡ Ok w = e in (arm, refl, sym (cc (e'))))
+next-way peer (Some arm) w e = (let way : Way = record { peer = peer; label = arm.label; next = arm.next } in let e' : Some way ≡ Some w = e in (arm, refl, sym (cc (e'))))
 
-front-way : (machines : List Machine_data) (c : Configuration) (p : ℕ) (w : Way) (o : Option State) → state_at machines c p ≡ o → front_of o (λ q. c.queue q p) ≡ Ok w
+front-way : (machines : List Machine_data) (c : Configuration) (p : ℕ) (w : Way) (o : Option State) → state_at machines c p ≡ o → front_of o (λ q. c.queue q p) ≡ Ok (Some w)
     → FrontWay machines c p w
 front-way machines c p w None is e = absurd (cc (e))
 front-way machines c p w (Some Done) is e = absurd (cc (e))
 front-way machines c p w (Some (Puts peer arms)) is e = absurd (cc (e))
 front-way machines c p w (Some (Takes peer arms)) is e = by (c.queue peer.0 p) refl e
   where
-    by : (queue : List Message) → c.queue peer.0 p ≡ queue → front_by peer arms queue ≡ Ok w → FrontWay machines c p w
+    by : (queue : List Message) → c.queue peer.0 p ≡ queue → front_by peer arms queue ≡ Ok (Some w) → FrontWay machines c p w
     by [] q e = absurd (cc (e))
     by (message ∷ later) q e =
-        let a = next-way peer (arm_with arms message.label) w e in
+        let a = next-way peer (arm_with arms message.label) w (cc (e)) in
         let same : w.peer ≡ peer = ap (λ (z : Way). z.peer) a.2 in
         let P : Role → Type 0 = λ z. state_at machines c p ≡ Some (Takes z arms) in
         let Q : Role → Type 0 = λ z. c.queue z.0 p ≡ message ∷ later in
         record { arms = arms; arm = a.0; message = message; later = later; takes = subst P (sym same) is; oldest = subst Q (sym same) q; with = a.1; next = ap (λ (z : Way). z.next) a.2 }
 
-pub front-peer : (machines : List Machine_data) (c : Configuration) (p : ℕ) (w : Way) → AreWellFormed machines → front_of (state_at machines c p) (λ q. c.queue q p) ≡ Ok w
+pub front-peer : (machines : List Machine_data) (c : Configuration) (p : ℕ) (w : Way) → AreWellFormed machines → front_of (state_at machines c p) (λ q. c.queue q p) ≡ Ok (Some w)
     → w.peer.0 < length machines
 front-peer machines c p w wf e =
     let s = front-way machines c p w (state_at machines c p) refl e in
@@ -211,7 +211,7 @@ taken c p peer arms message later s takes oldest = elim (find arms message) [
   | inr none ↦ absurd (s.safe.fits (configuration_of c) s.reachable record { role = p; peer = peer; arms = arms; message = message; later = later; takes = takes; oldest = oldest; no_arm = none })
 ]
 
-pub got-step : (c : Core_data) (p : ℕ) (w : Way) (m : Message) (later : List Message) → IsSession c → p < length c.machines → front_of (state_at c.machines (configuration_of c) p) (λ q. (configuration_of c).queue q p) ≡ Ok w
+pub got-step : (c : Core_data) (p : ℕ) (w : Way) (m : Message) (later : List Message) → IsSession c → p < length c.machines → front_of (state_at c.machines (configuration_of c) p) (λ q. (configuration_of c).queue q p) ≡ Ok (Some w)
     → (configuration_of c).queue w.peer.0 p ≡ m ∷ later → HasReceived c.machines (configuration_of c) p (configuration_of (with_got c p w.peer.0 w.next later)) m
 got-step c p w m later s hp e q =
     let x = front-way c.machines (configuration_of c) p w (state_at c.machines (configuration_of c) p) refl e in
@@ -248,7 +248,7 @@ got-step c p w m later s hp e q =
       same,
     )
 
-pub got-session : (c : Core_data) (p : ℕ) (w : Way) (m : Message) (later : List Message) → IsSession c → p < length c.machines → front_of (state_at c.machines (configuration_of c) p) (λ q. (configuration_of c).queue q p) ≡ Ok w
+pub got-session : (c : Core_data) (p : ℕ) (w : Way) (m : Message) (later : List Message) → IsSession c → p < length c.machines → front_of (state_at c.machines (configuration_of c) p) (λ q. (configuration_of c).queue q p) ≡ Ok (Some w)
     → (configuration_of c).queue w.peer.0 p ≡ m ∷ later → IsSession (with_got c p w.peer.0 w.next later)
 got-session c p w m later s hp e q = record {
   safe = s.safe;
@@ -293,18 +293,30 @@ front-some c p f s e = by (state_at c.machines (configuration_of c) p) refl e
     queued : (peer : Role) (arms : List Arm) (queue : List Message) → state_at c.machines (configuration_of c) p ≡ Some (Takes peer arms) → (configuration_of c).queue peer.0 p ≡ queue → front_by peer arms queue ≡ Err f
         → receive_fault (Some (Takes peer arms)) (λ q. queue) ≡ Some f
     queued peer arms [] is q e = (let s : QueueEmpty ≡ f = cc (e) in ap (λ (z : StepFault). Some z) s)
-    queued peer arms (message ∷ later) is q e =
-        let t = taken c p peer arms message later s is q in
-        found (arm_with arms message.label) refl e t
-      where
-        found : (o : Option Arm) → arm_with arms message.label ≡ o → next_by peer o ≡ Err f → Taken arms message → receive_fault (Some (Takes peer arms)) (λ q. message ∷ later) ≡ Some f
-        found None n e t = absurd (arm-found arms message.label t.0 t.1 t.2 t.3.0 n)
-        found (Some arm) n e t = absurd (cc (e))
+    queued peer arms (message ∷ later) is q e = absurd (cc (e))
 
     by : (o : Option State) → state_at c.machines (configuration_of c) p ≡ o → front_of o (λ q. (configuration_of c).queue q p) ≡ Err f → receive_fault o (λ q. (configuration_of c).queue q p) ≡ Some f
     by None is e = (let s : NotReceiving ≡ f = cc (e) in ap (λ (z : StepFault). Some z) s)
     by (Some Done) is e = (let s : NotReceiving ≡ f = cc (e) in ap (λ (z : StepFault). Some z) s)
     by (Some (Puts peer arms)) is e = (let s : NotReceiving ≡ f = cc (e) in ap (λ (z : StepFault). Some z) s)
+    by (Some (Takes peer arms)) is e = queued peer arms ((configuration_of c).queue peer.0 p) is refl e
+
+-- in a session a front goes somewhere
+pub front-goes : (c : Core_data) (p : ℕ) → IsSession c → front_of (state_at c.machines (configuration_of c) p) (λ q. (configuration_of c).queue q p) ≡ Ok None → ⊥
+front-goes c p s e = by (state_at c.machines (configuration_of c) p) refl e
+  where
+    found : (peer : Role) (arms : List Arm) (message : Message) (o : Option Arm) → arm_with arms message.label ≡ o → next_by peer o ≡ None → Taken arms message → ⊥
+    found peer arms message None n e t = arm-found arms message.label t.0 t.1 t.2 t.3.0 n
+    found peer arms message (Some arm) n e t = cc (e)
+
+    queued : (peer : Role) (arms : List Arm) (queue : List Message) → state_at c.machines (configuration_of c) p ≡ Some (Takes peer arms) → (configuration_of c).queue peer.0 p ≡ queue → front_by peer arms queue ≡ Ok None → ⊥
+    queued peer arms [] is q e = cc (e)
+    queued peer arms (message ∷ later) is q e = found peer arms message (arm_with arms message.label) refl (cc (e)) (taken c p peer arms message later s is q)
+
+    by : (o : Option State) → state_at c.machines (configuration_of c) p ≡ o → front_of o (λ q. (configuration_of c).queue q p) ≡ Ok None → ⊥
+    by None is e = cc (e)
+    by (Some Done) is e = cc (e)
+    by (Some (Puts peer arms)) is e = cc (e)
     by (Some (Takes peer arms)) is e = queued peer arms ((configuration_of c).queue peer.0 p) is refl e
 
 -- the start
@@ -393,3 +405,6 @@ has-state c p s hp none =
     let st = there m.0.states (slice_index_or c.states p 0) low in
     let here : state_at c.machines (configuration_of c) p ≡ Some st.0 = rw m.1 st.1 in
     cc (here, none)
+
+pub at-ok : {X E : Type 0} (r : Result X E) (x y : X) → r ≡ Ok x → x ≡ y → r ≡ Ok y
+at-ok {X} r x y e same = let P : X → Type 0 = λ z. r ≡ Ok z in subst P same e

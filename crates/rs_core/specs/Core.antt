@@ -106,16 +106,16 @@ way_of (Some Done) place value = Err NotSending
 way_of (Some (Takes peer arms)) place value = Err NotSending
 way_of (Some (Puts peer arms)) place value = way_by peer (slice_get arms place) value
 
--- .. and a receive
-abbrev pub next_by : Role → Option Arm → Result Way StepFault
-next_by peer None = Err QueueEmpty
-next_by peer (Some arm) = Ok record { peer = peer; label = arm.label; next = arm.next }
+-- .. and a receive; it is none where no arm has the label of the oldest message, which machines that are safe don't meet
+abbrev pub next_by : Role → Option Arm → Option Way
+next_by peer None = None
+next_by peer (Some arm) = Some record { peer = peer; label = arm.label; next = arm.next }
 
-abbrev pub front_by : Role → List Arm → List Message → Result Way StepFault
+abbrev pub front_by : Role → List Arm → List Message → Result (Option Way) StepFault
 front_by peer arms [] = Err QueueEmpty
-front_by peer arms (message ∷ later) = next_by peer (arm_with arms message.label)
+front_by peer arms (message ∷ later) = Ok (next_by peer (arm_with arms message.label))
 
-abbrev pub front_of : Option State → (ℕ → List Message) → Result Way StepFault
+abbrev pub front_of : Option State → (ℕ → List Message) → Result (Option Way) StepFault
 front_of None queue = Err NotReceiving
 front_of (Some Done) queue = Err NotReceiving
 front_of (Some (Puts peer arms)) queue = Err NotReceiving

@@ -57,8 +57,8 @@ impl Cells {
         }
     }
 
-    /// Where the role's receive goes, or what is wrong with it.
-    pub(crate) fn front(&self, role: Role) -> Result<Way, StepFault>
+    /// Where the role's receive goes, or what is wrong with it. It goes nowhere where no arm has the message's label.
+    pub(crate) fn front(&self, role: Role) -> Result<Option<Way>, StepFault>
         requires there { role.0 < length self.now.machines }
         requires places { HasPlaces self.now }
         requires peers { (peer : Role) (arms : List Arm) → state_at self.now.machines (configuration_of self.now) role.0 ≡ Some (Takes peer arms) → peer.0 < length self.now.machines }
@@ -126,26 +126,26 @@ fn way_by(peer: Role, arms: &[Arm], place: u16, value: &Value) -> Result<Way, St
     }
 }
 
-fn front_by(peer: Role, arms: &[Arm], queue: &Queue) -> Result<Way, StepFault>
+fn front_by(peer: Role, arms: &[Arm], queue: &Queue) -> Result<Option<Way>, StepFault>
     ensures { result ≡ front_by peer arms.now queue.now }
 {
     match queue.oldest() {
         None => Err(StepFault::QueueEmpty),
-        Some(message) => next_by(peer, arms, message.label),
+        Some(message) => Ok(next_by(peer, arms, message.label)),
     }
 }
 
-fn next_by(peer: Role, arms: &[Arm], label: Label) -> Result<Way, StepFault>
+fn next_by(peer: Role, arms: &[Arm], label: Label) -> Option<Way>
     ensures { result ≡ next_by peer (arm_with arms.now label) }
 {
     for arm in arms {
         if arm.label.0 == label.0 {
-            return Ok(Way {
+            return Some(Way {
                 peer,
                 label: arm.label,
                 next: arm.next,
             });
         }
     }
-    Err(StepFault::QueueEmpty)
+    None
 }

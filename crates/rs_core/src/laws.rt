@@ -1,11 +1,14 @@
 //! Laws about the definitions: each function does nothing, and its contract is the law.
 
-ghost use Rattle.std.specs.Prelude.{◌≡◌, ◌≢◌, ◌<◌, ◌≤◌, ℕ, List, Option, Some, None, length};
+ghost use Rattle.std.specs.Prelude.{◌≡◌, ◌≢◌, ◌<◌, ◌≤◌, ◌∷◌, ℕ, List, Option, Some, None, slice_get, length};
+ghost use Rattle.rs_model.specs.Sorts.{HasSort};
+ghost use Rattle.rs_model.specs.declared.graph.Arm.{Arm};
+ghost use Rattle.rs_model.specs.declared.values.Value.{Value};
 ghost use Rattle.rs_model.specs.Data.{Machine_data};
 ghost use Rattle.rs_model.specs.declared.graph.Role.{Role};
-ghost use Rattle.rs_model.specs.declared.machines.State.TheVariants.{Done};
+ghost use Rattle.rs_model.specs.declared.machines.State.TheVariants.{Done, Puts, Takes};
 ghost use Rattle.rs_core.specs.Choices.{AreWellFormed, HaveArms, HaveLabelsOnce};
-ghost use Rattle.rs_core.specs.Configurations.{Configuration, Event, Step, IsReachable, IsSame, state_at};
+ghost use Rattle.rs_core.specs.Configurations.{Message, Configuration, Event, Send, Receive, StartsAt, Step, IsReachable, IsSame, state_at};
 ghost use Rattle.rs_core.specs.Determined.{IsRun, EndsWith, WasStopped, PlainIs, SameOutcome};
 ghost use Rattle.rs_core.specs.Examples.{another_arm, another_label, another_sort, both_wait, left_behind, one_talk};
 ghost use Rattle.rs_core.specs.Histories.{History};
@@ -13,6 +16,26 @@ ghost use Rattle.rs_core.specs.Plain.{Moment, Ending, Ended, Stopped, Stuck, IsP
 ghost use Rattle.rs_core.specs.Safety.{CanStep, AllEnded, IsSafe};
 
 use crate::Actor;
+
+/// Every list of machines has a start.
+pub fn machines_have_a_start()
+    ensures { (machines : List Machine_data) → (c : Configuration) × StartsAt machines c }
+{}
+
+/// What has the same states and the same messages under way as a configuration that is reached, is reached.
+pub fn same_configurations_are_reached()
+    ensures { (machines : List Machine_data) (c d : Configuration) → IsReachable machines c → IsSame c d → IsReachable machines d }
+{}
+
+/// Each arm at each place of a state that sends can be picked, with each value of its sort.
+pub fn each_arm_can_be_sent()
+    ensures { (machines : List Machine_data) (c : Configuration) (role peer : Role) (arms : List Arm) (place : ℕ) (arm : Arm) (value : Value) → state_at machines c role.0 ≡ Some (Puts peer arms) → slice_get arms place ≡ Some arm → HasSort value arm.sort → (d : Configuration) × Step machines c (Send role place value) d }
+{}
+
+/// Each oldest message can be taken, where an arm has its label and a sort that its value has.
+pub fn each_message_can_be_taken()
+    ensures { (machines : List Machine_data) (c : Configuration) (role peer : Role) (arms : List Arm) (place : ℕ) (arm : Arm) (message : Message) (later : List Message) → state_at machines c role.0 ≡ Some (Takes peer arms) → c.queue peer.0 role.0 ≡ message ∷ later → slice_get arms place ≡ Some arm → arm.label ≡ message.label → HasSort message.value arm.sort → (d : Configuration) × Step machines c (Receive role) d }
+{}
 
 /// An event leads to one configuration, where no state takes one label at two places.
 pub fn an_event_leads_to_one_configuration()

@@ -122,7 +122,8 @@ impl Core {
         ensures machines { self.new.machines ≡ self.old.machines }
     {
         let way = match self.cells.front(role) {
-            Ok(way) => way,
+            Ok(Some(way)) => way,
+            Ok(None) => unreachable!(),
             Err(fault) => return Err(fault),
         };
         match self.cells.receive(role, way.peer, way.next) {

@@ -1,5 +1,5 @@
-use Rattle.std.proofs.Common.{rules, ◌≡◌, ◌∙◌, ◌+◌, ◌-◌, ◌<◌, ◌%◌, ◌++◌, ◌∷◌, [], ap, sym, subst, arith}
-use Rattle.rs_core.specs.Draws.{after, draw, draw_whole, after_many, draw_numbers}
+use Rattle.std.proofs.Common.{rules, ◌≡◌, ◌∙◌, ◌+◌, ◌-◌, ◌<◌, ◌%◌, ◌++◌, ◌∷◌, [], ap, sym}
+use Rattle.rs_core.specs.Draws.{after, draw_whole, draw_numbers}
 use Rattle.rs_core.proofs.Drawing.{numbers_on, after_on, drawn_on}
 use Rattle.rs_core.proofs.seeded.Draws.draw_numbers.Goals as goal
 

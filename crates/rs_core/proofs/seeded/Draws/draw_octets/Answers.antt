@@ -1,5 +1,5 @@
-use Rattle.std.proofs.Common.{rules, ◌≡◌, ◌∙◌, ◌+◌, ◌-◌, ◌<◌, ◌%◌, ◌++◌, ◌∷◌, [], ap, sym, subst, arith}
-use Rattle.rs_core.specs.Draws.{after, draw, draw_whole, after_many, draw_octets}
+use Rattle.std.proofs.Common.{rules, ◌≡◌, ◌∙◌, ◌+◌, ◌-◌, ◌<◌, ◌%◌, ◌++◌, ◌∷◌, [], ap, sym}
+use Rattle.rs_core.specs.Draws.{after, draw, draw_octets}
 use Rattle.rs_core.proofs.Drawing.{octets_on, after_on, drawn_on}
 use Rattle.rs_core.proofs.seeded.Draws.draw_octets.Goals as goal
 
