@@ -1,9 +1,10 @@
 pub mod Parts
-pub mod OneFound
+pub mod OneContent
 pub mod CanShow
+pub mod EachRole
+pub mod Sameness
+pub mod Answering
 pub mod Headline
 pub mod Unique
-pub mod Founds
-pub mod Sameness
 pub mod SomeAnswer
 pub mod Lines

@@ -1,6 +1,6 @@
 -- What stands behind a protocol is one thing, and how it is found.
 use Rattle.std.proofs.Common.{◌≡◌, ◌⊎◌, ℕ, zero, suc, ◌+◌, ◌<◌, ◌≤◌, List, [], ◌∷◌, ◌++◌, length, Bool, true, false, if◌then◌else◌, Option, Some, None, refl, sym, ap, subst, ◌∙◌, inl, inr, arith, slice_get, slice_set, Result, Ok, Err}
-use Rattle.std.specs.Prelude.{◌||◌, codes, IfOk}
+use Rattle.std.specs.Prelude.{◌||◌, IfOk}
 use Rattle.rs_global.specs.Spells.{SpellsProtocol}
 use Rattle.rs_model.specs.declared.memory.NoMemory.{NoMemory}
 use Rattle.std.specs.Str.{bytes_eq}
@@ -16,12 +16,12 @@ use Rattle.rs_text.specs.declared.faults.TextKind.{TextKind}
 use Rattle.rs_text.specs.declared.faults.TextKind.TheVariants as kind
 use Rattle.rs_machines.specs.Faults.{FirstFault}
 use Rattle.rs_machines.specs.Spells.{SpellsMachine}
-use Rattle.rs_machines.specs.Trees.{MachineTree, machine_signs, body_signs}
+use Rattle.rs_machines.specs.Trees.{body_signs}
 use Rattle.rs_tool.specs.Data.{Document_data}
 use Rattle.rs_tool.specs.Documents.{StandsAt, machine_word, derivation_word, is_word, IsTwice, with_machine, GoesOn, Ends, Derives, Breaks, Repeats, Fails, Adds, fault_behind, no_machines, IsBehindProtocol, BehindProtocol}
-use Rattle.rs_tool.specs.Reading.{is_held, twice_by, twice_named, twice_of, AreShort, IsReady, free_in, GoesOnWith, IsAdded, IsFound}
-use Rattle.rs_tool.specs.declared.documents.Found.{Found}
-use Rattle.rs_tool.specs.declared.documents.Found.TheVariants as found
+use Rattle.rs_tool.specs.Reading.{is_held, twice_by, twice_named, twice_of, AreShort, IsReady, free_in, GoesOnWith, IsAdded, IsContent}
+use Rattle.rs_tool.specs.declared.documents.Content.{Content}
+use Rattle.rs_tool.specs.declared.documents.Content.TheVariants as content
 
 -- the word of a test
 pub word_is : (word : List ℕ) (s : Sign) → is_word word s ≡ true → s ≡ plain word
@@ -189,22 +189,22 @@ add_is bytes at old names machine next ready word once spells sound roles labels
     }
 
 -- a machine at fault
-pub fail_is : (bytes : List ℕ) (at : ℕ) (old : Document_data) (f : TextFault) → StandsAt bytes at machine_word → twice_of old.names old.machines (second_of bytes at) ≡ None → FirstFault old.names bytes at f.kind f.at → GoesOnWith bytes old at (found.Fault f)
+pub fail_is : (bytes : List ℕ) (at : ℕ) (old : Document_data) (f : TextFault) → StandsAt bytes at machine_word → twice_of old.names old.machines (second_of bytes at) ≡ None → FirstFault old.names bytes at f.kind f.at → GoesOnWith bytes old at (content.Fault f)
 fail_is bytes at old f word once h = Fails at f.at old.names old.machines f.kind word (none_twice bytes old.names old.machines at once) h
 
 -- a second machine of a role
 pub twice_fault : (bytes : List ℕ) (at : ℕ) (old : Document_data) (second : ℕ) → StandsAt bytes at machine_word → twice_of old.names old.machines (second_of bytes at) ≡ Some second
-    → GoesOnWith bytes old at (found.Fault (record { kind = kind.NameTwice; at = second }))
+    → GoesOnWith bytes old at (content.Fault (record { kind = kind.NameTwice; at = second }))
 twice_fault bytes at old second word e = Repeats at second old.names old.machines word (twice_is bytes old.names old.machines at second e)
 
 -- a fault of a machine that was told
 pub fail_by : (bytes : List ℕ) (at : ℕ) (old : Document_data) (f : TextFault) → StandsAt bytes at machine_word → twice_of old.names old.machines (second_of bytes at) ≡ None → (f.kind ≡ kind.NoMemory → ⊥)
-    → (f.kind ≡ kind.NoMemory) ⊎ FirstFault old.names bytes at f.kind f.at → GoesOnWith bytes old at (found.Fault f)
+    → (f.kind ≡ kind.NoMemory) ⊎ FirstFault old.names bytes at f.kind f.at → GoesOnWith bytes old at (content.Fault f)
 fail_by bytes at old f word once never (inl e) = absurd (never e)
 fail_by bytes at old f word once never (inr h) = fail_is bytes at old f word once h
 
 -- something that is no machine
-pub breaks : (bytes : List ℕ) (at : ℕ) (old : Document_data) (k : TextKind) → fault_behind (next_lexeme bytes at).sign ≡ Some k → GoesOnWith bytes old at (found.Fault (record { kind = k; at = at }))
+pub breaks : (bytes : List ℕ) (at : ℕ) (old : Document_data) (k : TextKind) → fault_behind (next_lexeme bytes at).sign ≡ Some k → GoesOnWith bytes old at (content.Fault (record { kind = k; at = at }))
 breaks bytes at old k e = Breaks at old.names old.machines (next_lexeme bytes at).sign k refl e
 
 -- the document with the machine that was read
@@ -220,13 +220,13 @@ add_by bytes at old before names protocol own machines machine next b p o m read
     (subst (λ (z : Protocol_data). IsAdded bytes at old (record { names = names; protocol = z; machines = with_machine old.machines machine }) next) (sym p) done)
 
 pub fail_before : (bytes : List ℕ) (at : ℕ) (old : Document_data) (before : Names_data) (f : TextFault) → before ≡ old.names → StandsAt bytes at machine_word → twice_of old.names old.machines (second_of bytes at) ≡ None → (f.kind ≡ kind.NoMemory → ⊥)
-    → (f.kind ≡ kind.NoMemory) ⊎ FirstFault before bytes at f.kind f.at → GoesOnWith bytes old at (found.Fault f)
+    → (f.kind ≡ kind.NoMemory) ⊎ FirstFault before bytes at f.kind f.at → GoesOnWith bytes old at (content.Fault f)
 fail_before bytes at old before f b word once never h = fail_by bytes at old f word once never (subst (λ (z : Names_data). (f.kind ≡ kind.NoMemory) ⊎ FirstFault z bytes at f.kind f.at) b h)
 
-pub end_found : (bytes : List ℕ) (at : ℕ) (old new : Document_data) → StandsAt bytes at finish × (new ≡ old) → GoesOnWith bytes old at (found.Document new)
-end_found bytes at old new h = subst (λ (z : Document_data). GoesOnWith bytes old at (found.Document z)) (sym h.1) (Ends at old.names old.machines h.0)
+pub end_found : (bytes : List ℕ) (at : ℕ) (old new : Document_data) → StandsAt bytes at finish × (new ≡ old) → GoesOnWith bytes old at (content.Document new)
+end_found bytes at old new h = subst (λ (z : Document_data). GoesOnWith bytes old at (content.Document z)) (sym h.1) (Ends at old.names old.machines h.0)
 
-pub derivations_found : (bytes : List ℕ) (at : ℕ) (old : Document_data) → StandsAt bytes at derivation_word → GoesOnWith bytes old at found.Derivations
+pub derivations_found : (bytes : List ℕ) (at : ℕ) (old : Document_data) → StandsAt bytes at derivation_word → GoesOnWith bytes old at content.Derivations
 derivations_found bytes at old h = Derives at old.names old.machines h
 
 size_of_none : (names : List (List ℕ)) → length (no_machines names) ≡ length names
@@ -245,13 +245,13 @@ begin_ready names protocol machines e s r l n =
     subst (λ (z : List (Option Machine_data)). IsReady (record { names = names; protocol = protocol; machines = z })) (sym e)
     (record { sound = s; roles = r; labels = l; one_each = size_of_none names.roles; short = none_short names.roles; nodes = n })
 
-behind_is : (bytes : List ℕ) (what : Found) → IsBehindProtocol bytes what → IsFound bytes what
-behind_is bytes (found.Document d) h = h
-behind_is bytes found.Derivations h = h
-behind_is bytes (found.Fault f) h = BehindProtocol h
+behind_is : (bytes : List ℕ) (what : Content) → IsBehindProtocol bytes what → IsContent bytes what
+behind_is bytes (content.Document d) h = h
+behind_is bytes content.Derivations h = h
+behind_is bytes (content.Fault f) h = BehindProtocol h
 
-pub found_behind : (bytes : List ℕ) (names : Names_data) (protocol : Protocol_data) (until : ℕ) (machines : List (Option Machine_data)) (r : Result Found NoMemory) → SpellsProtocol bytes 0 names protocol until → machines ≡ no_machines names.roles
-    → IfOk r (GoesOnWith bytes (record { names = names; protocol = protocol; machines = machines }) until) → IfOk r (IsFound bytes)
+pub found_behind : (bytes : List ℕ) (names : Names_data) (protocol : Protocol_data) (until : ℕ) (machines : List (Option Machine_data)) (r : Result Content NoMemory) → SpellsProtocol bytes 0 names protocol until → machines ≡ no_machines names.roles
+    → IfOk r (GoesOnWith bytes (record { names = names; protocol = protocol; machines = machines }) until) → IfOk r (IsContent bytes)
 found_behind bytes names protocol until machines (Err e) s m h = tt
 found_behind bytes names protocol until machines (Ok what) s m h =
     behind_is bytes what (record { names = names; protocol = protocol; until = until; spells = s; goes_on = subst (λ (z : List (Option Machine_data)). GoesOn bytes protocol until names z what) m h })

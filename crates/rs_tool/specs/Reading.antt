@@ -10,8 +10,8 @@ use Rattle.rs_tool.specs.Data.{Document_data}
 use Rattle.rs_tool.specs.Documents.{StandsAt, derivation_word, is_word, fault_behind, GoesOn, IsBehindProtocol, HasFault}
 use Rattle.rs_tool.specs.declared.documents.Begin.{Begin}
 use Rattle.rs_tool.specs.declared.documents.Begin.TheVariants as begin
-use Rattle.rs_tool.specs.declared.documents.Found.{Found}
-use Rattle.rs_tool.specs.declared.documents.Found.TheVariants as found
+use Rattle.rs_tool.specs.declared.documents.Content.{Content}
+use Rattle.rs_tool.specs.declared.documents.Content.TheVariants as content
 use Rattle.rs_tool.specs.declared.documents.Part.{Part}
 use Rattle.rs_tool.specs.declared.documents.Part.TheVariants as part
 
@@ -60,12 +60,12 @@ free_in (None ∷ machines) = suc (free_in machines)
 free_in (Some machine ∷ machines) = free_in machines
 
 -- what the text is from the offset on, with the document so far
-abbrev pub GoesOnWith : List ℕ → Document_data → ℕ → Found → Type 0
+abbrev pub GoesOnWith : List ℕ → Document_data → ℕ → Content → Type 0
 GoesOnWith bytes d at what = GoesOn bytes d.protocol at d.names d.machines what
 
 -- one machine more stands in the document, and the text goes on behind it
 pub record IsAdded (bytes : List ℕ) (at : ℕ) (old new : Document_data) (next : ℕ) : Type 0 where
-  pub back : (what : Found) → GoesOnWith bytes new next what → GoesOnWith bytes old at what
+  pub back : (what : Content) → GoesOnWith bytes new next what → GoesOnWith bytes old at what
   pub protocol : new.protocol ≡ old.protocol
   pub fewer : free_in new.machines < free_in old.machines
   pub within : next ≤ length bytes
@@ -75,17 +75,17 @@ pub record IsAdded (bytes : List ℕ) (at : ℕ) (old new : Document_data) (next
 abbrev pub IsPart : List ℕ → ℕ → Document_data → Document_data → Part → Type 0
 IsPart bytes at old new part.End = StandsAt bytes at finish × (new ≡ old)
 IsPart bytes at old new part.Derivations = StandsAt bytes at derivation_word
-IsPart bytes at old new (part.Fault f) = GoesOnWith bytes old at (found.Fault f) × (f.at ≤ length bytes)
+IsPart bytes at old new (part.Fault f) = GoesOnWith bytes old at (content.Fault f) × (f.at ≤ length bytes)
 IsPart bytes at old new (part.Machine next) = IsAdded bytes at old new next
 
 -- a document that was found is ready, and the offset of a fault lies in the text
-abbrev pub IsInOrder : List ℕ → Found → Type 0
-IsInOrder bytes (found.Document d) = IsReady d
-IsInOrder bytes found.Derivations = Unit {0}
-IsInOrder bytes (found.Fault f) = f.at ≤ length bytes
+abbrev pub IsInOrder : List ℕ → Content → Type 0
+IsInOrder bytes (content.Document d) = IsReady d
+IsInOrder bytes content.Derivations = Unit {0}
+IsInOrder bytes (content.Fault f) = f.at ≤ length bytes
 
 -- what was found is what the text is
-abbrev pub IsFound : List ℕ → Found → Type 0
-IsFound bytes (found.Document d) = IsBehindProtocol bytes (found.Document d)
-IsFound bytes found.Derivations = IsBehindProtocol bytes found.Derivations
-IsFound bytes (found.Fault f) = HasFault bytes f.kind f.at
+abbrev pub IsContent : List ℕ → Content → Type 0
+IsContent bytes (content.Document d) = IsBehindProtocol bytes (content.Document d)
+IsContent bytes content.Derivations = IsBehindProtocol bytes content.Derivations
+IsContent bytes (content.Fault f) = HasFault bytes f.kind f.at

@@ -3,8 +3,12 @@ use Rattle.std.specs.Prelude.{ℕ, ◌+◌, List, [], ◌∷◌, ◌++◌, codes
 use Rattle.std.specs.Fmt.{decimal}
 use Rattle.std.specs.List.{list_any}
 use Rattle.rs_model.specs.Data.{Machine_data}
+use Rattle.rs_model.specs.declared.limits.TheConstants.{MOST_CANDIDATES}
 use Rattle.rs_model.specs.declared.machines.State.{State}
 use Rattle.rs_model.specs.declared.machines.State.TheVariants.{Done, Puts, Takes}
+use Rattle.rs_tool.specs.Data.{Answer_data}
+use Rattle.rs_tool.specs.Texts.{joined}
+use Rattle.rs_tool.specs.declared.statuses.Verdict.TheVariants.{Fine}
 
 abbrev pub is_takes : State → Bool
 is_takes (Takes peer arms) = true
@@ -32,14 +36,10 @@ receives machine = list_any is_takes machine.states
 abbrev pub pending_of : Machine_data → ℕ
 pending_of machine = if receives machine then 1 else 0
 
--- the most nodes that a derivation may have
-abbrev pub most_nodes : ℕ
-most_nodes = 65536
-
 -- `P: nodes A pending B rank C`
-unfoldable pub figures_text : List ℕ → Machine_data → List ℕ
+abbrev pub figures_text : List ℕ → Machine_data → List ℕ
 figures_text name machine =
-    name ++ codes ": nodes " ++ decimal (nodes_of machine) ++ codes " pending " ++ decimal (pending_of machine) ++ codes " rank 0\n"
+    joined (name ∷ codes ": nodes " ∷ decimal (nodes_of machine) ∷ codes " pending " ∷ decimal (pending_of machine) ∷ codes " rank 0\n" ∷ [])
 
 -- a line for each role in order
 abbrev pub all_figures_text : List (List ℕ) → List Machine_data → List ℕ
@@ -49,7 +49,7 @@ all_figures_text [] machines = []
 
 -- the first role whose machine has a derivation of more nodes
 abbrev pub too_many_for : List (List ℕ) → List Machine_data → Option (List ℕ)
-too_many_for (name ∷ names) (machine ∷ machines) = if nat_lt most_nodes (nodes_of machine) then Some name else too_many_for names machines
+too_many_for (name ∷ names) (machine ∷ machines) = if nat_lt MOST_CANDIDATES (nodes_of machine) then Some name else too_many_for names machines
 too_many_for (name ∷ names) [] = None
 too_many_for [] machines = None
 
@@ -57,5 +57,9 @@ too_many_for [] machines = None
 abbrev pub room_of : List Machine_data → ℕ
 room_of machines = if list_any receives machines then 3 else 1
 
-abbrev pub report_text : List (List ℕ) → List Machine_data → List ℕ
-report_text names machines = codes "accepted\n" ++ all_figures_text names machines ++ codes "room " ++ decimal (room_of machines) ++ codes "\n"
+-- the session is accepted: a line for each role, and the room
+abbrev pub report : List (List ℕ) → List Machine_data → Answer_data
+report names machines = record {
+  text = joined (codes "accepted\n" ∷ all_figures_text names machines ∷ codes "room " ∷ decimal (room_of machines) ∷ codes "\n" ∷ []);
+  verdict = Fine;
+}

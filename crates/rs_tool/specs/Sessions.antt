@@ -1,13 +1,15 @@
 -- The session of a document: its projections and its machines.
-use Rattle.std.specs.Prelude.{◌≡◌, ◌⊎◌, ℕ, ◌<◌, List, [], ◌∷◌, length, Option, Some, None, slice_get}
+use Rattle.std.specs.Prelude.{◌≡◌, ◌⊎◌, ℕ, ◌<◌, List, [], ◌∷◌, Option, Some, None}
 use Rattle.rs_model.specs.Data.{Machine_data, Protocol_data}
 use Rattle.rs_model.specs.Faults.{first_fault}
 use Rattle.rs_model.specs.declared.checks.MachineFault.{MachineFault}
 use Rattle.rs_model.specs.declared.graph.Role.{Role}
 use Rattle.rs_project.specs.Data.{Projection_data}
-use Rattle.rs_project.specs.Numbered.{IsNumberedProjection, AreFirstProjections}
+use Rattle.rs_project.specs.Numbered.{IsNumberedProjection, AreFirstProjections, AreNumberedProjections}
 use Rattle.rs_project.specs.Refusals.{FirstRefusal}
 use Rattle.rs_project.specs.declared.projecting.ProjFault.{ProjFault}
+use Rattle.rs_wellformed.specs.Faults as of_protocols
+use Rattle.rs_tool.specs.Data.{Document_data}
 
 -- the first role onto which the protocol has no projection, and the first reason
 pub record IsUnprojectable (protocol : Protocol_data) (role : Role) (fault : ProjFault) : Type 0 where
@@ -15,6 +17,15 @@ pub record IsUnprojectable (protocol : Protocol_data) (role : Role) (fault : Pro
   pub earlier : List Projection_data
   pub projected : AreFirstProjections protocol role.0 earlier
   pub refused : FirstRefusal protocol role fault
+
+-- .. of any role
+abbrev pub Refuses : Protocol_data → ProjFault → Type 0
+Refuses protocol fault = (role : Role) × IsUnprojectable protocol role fault
+
+-- the protocol is well formed, and these are its projections
+pub record HasProjections (d : Document_data) (projections : List Projection_data) : Type 0 where
+  pub well_formed : of_protocols.first_fault d.protocol ≡ None
+  pub projected : AreNumberedProjections d.protocol projections
 
 -- a role without a machine runs its projection
 abbrev pub machine_or : Option Machine_data → Projection_data → Machine_data

@@ -4,7 +4,7 @@ ghost use Rattle.std.specs.Prelude.{◌≡◌, ◌≤◌, ◌<◌, length, IfOk,
 ghost use Rattle.rs_text.specs.Lexemes.{sign_of, text_of, next_lexeme, lexeme_of};
 ghost use Rattle.rs_tool.specs.Documents as spec;
 ghost use Rattle.rs_tool.specs.Documents.{StandsAt, is_word, machine_word, with_machine};
-ghost use Rattle.rs_tool.specs.Reading.{GoesOnWith, IsBegin, IsFound, IsInOrder, IsPart, IsReady, is_held, twice_of};
+ghost use Rattle.rs_tool.specs.Reading.{GoesOnWith, IsBegin, IsContent, IsInOrder, IsPart, IsReady, is_held, twice_of};
 
 use rs_global::read_protocol;
 use rs_machines::read_machine;
@@ -32,7 +32,7 @@ impl Model for Document {
 
 /// What a text is.
 #[derive(Drop)]
-pub enum Found {
+pub enum Content {
     Document(Document),
     /// A protocol and machines, and derivations behind them.
     Derivations,
@@ -187,7 +187,12 @@ fn read_part(
 }
 
 /// Reads the machines behind a protocol, to the end of the text or to the first derivation.
-fn read_parts(alloc: Global, bytes: &[u8], at: usize, document: Document) -> Result<Found, NoMemory>
+fn read_parts(
+    alloc: Global,
+    bytes: &[u8],
+    at: usize,
+    document: Document,
+) -> Result<Content, NoMemory>
     requires within { at ≤ length bytes.now }
     requires ready { IsReady document }
     ensures found { IfOk result (GoesOnWith bytes.now document at) }
@@ -197,10 +202,10 @@ fn read_parts(alloc: Global, bytes: &[u8], at: usize, document: Document) -> Res
     let mut at = at;
     loop {
         match read_part(alloc, bytes, at, &mut document) {
-            Ok(Part::End) => return Ok(Found::Document(document)),
+            Ok(Part::End) => return Ok(Content::Document(document)),
             Ok(Part::Machine(next)) => at = next,
-            Ok(Part::Derivations) => return Ok(Found::Derivations),
-            Ok(Part::Fault(fault)) => return Ok(Found::Fault(fault)),
+            Ok(Part::Derivations) => return Ok(Content::Derivations),
+            Ok(Part::Fault(fault)) => return Ok(Content::Fault(fault)),
             Err(refused) => return Err(refused),
         }
     }
@@ -218,8 +223,8 @@ fn no_machines(alloc: Global, roles: &[Name]) -> Result<Vec<Option<Machine>>, No
 }
 
 /// Reads a document, to the end of the text.
-pub fn read_document(alloc: Global, bytes: &[u8]) -> Result<Found, NoMemory>
-    ensures found { IfOk result (IsFound bytes.now) }
+pub fn read_document(alloc: Global, bytes: &[u8]) -> Result<Content, NoMemory>
+    ensures found { IfOk result (IsContent bytes.now) }
     ensures order { IfOk result (IsInOrder bytes.now) }
 {
     match read_protocol(alloc, bytes, 0) {
@@ -237,6 +242,6 @@ pub fn read_document(alloc: Global, bytes: &[u8]) -> Result<Found, NoMemory>
             )
         }
         Err(fault) if fault.kind == TextKind::NoMemory => Err(NoMemory),
-        Err(fault) => Ok(Found::Fault(fault)),
+        Err(fault) => Ok(Content::Fault(fault)),
     }
 }

@@ -4,11 +4,13 @@ ghost use Rattle.std.specs.Prelude.{◌≡◌, ◌≤◌, ◌<◌, ◌+◌, ◌^
 ghost use Rattle.std.specs.List.{list_any};
 ghost use Rattle.rs_tool.specs.Report as spec;
 
-use rs_model::{Machine, Name, NoMemory, State};
+use crate::answers::Answer;
+use crate::statuses::Verdict;
+use crate::texts::Piece::{Number, Words};
+use crate::texts::push_pieces;
+use rs_model::{MOST_CANDIDATES, Machine, Name, NoMemory, State};
 use rs_text::Text;
 use std::alloc::Global;
-
-const MOST_NODES: usize = 65_536;
 
 fn is_takes(state: &State) -> bool
     ensures { result ≡ spec.is_takes state.now }
@@ -35,23 +37,23 @@ fn nodes_at(state: &State) -> usize
     }
 }
 
-/// How many nodes the derivation of a machine has that is its projection; none where they are more than 65,536.
+/// How many nodes the derivation of a machine has that is its projection; none where they are more than the limit.
 fn nodes_of(machine: &Machine) -> Option<usize>
     ensures some { IfSome result (λ nodes. nodes ≡ spec.nodes_of machine.now) }
-    ensures few { IfSome result (λ nodes. nodes ≤ spec.most_nodes) }
-    ensures none { IfNone result (spec.most_nodes < spec.nodes_of machine.now) }
+    ensures few { IfSome result (λ nodes. nodes ≤ MOST_CANDIDATES) }
+    ensures none { IfNone result (MOST_CANDIDATES < spec.nodes_of machine.now) }
 {
     let mut nodes = 0;
     for state in machine.states.as_slice() {
         nodes += nodes_at(state);
-        if nodes > MOST_NODES {
+        if nodes > MOST_CANDIDATES {
             return None;
         }
     }
     Some(nodes)
 }
 
-/// The name of the first role whose machine has a derivation of more than 65,536 nodes.
+/// The name of the first role whose machine has a derivation of more nodes than that.
 pub fn too_many_for<'a>(names: &'a [Name], machines: &[Machine]) -> Option<&'a Name>
     ensures some { IfSome result (λ name. spec.too_many_for names.now machines.now ≡ Some name.now) }
     ensures none { IfNone result (spec.too_many_for names.now machines.now ≡ None) }
@@ -76,7 +78,6 @@ fn pending_of(machine: &Machine) -> u64
     if receives(machine) { 1 } else { 0 }
 }
 
-#[tactic(auto, unfolding(crate::specs::Report::figures_text))]
 fn push_figures(
     text: &mut Text,
     name: &Name,
@@ -86,12 +87,17 @@ fn push_figures(
     requires { nodes ≡ spec.nodes_of machine.now }
     ensures { OnOk result (text.new ≡ text.old ++ spec.figures_text name.now machine.now) }
 {
-    text.push(name.as_slice())?;
-    text.push(b": nodes ")?;
-    text.push_number(nodes as u64)?;
-    text.push(b" pending ")?;
-    text.push_number(pending_of(machine))?;
-    text.push(b" rank 0\n")
+    push_pieces(
+        text,
+        &[
+            Words(name.as_slice()),
+            Words(b": nodes "),
+            Number(nodes as u64),
+            Words(b" pending "),
+            Number(pending_of(machine)),
+            Words(b" rank 0\n"),
+        ],
+    )
 }
 
 fn push_all_figures(text: &mut Text, names: &[Name], machines: &[Machine]) -> Result<(), NoMemory>
@@ -124,15 +130,19 @@ fn room_of(machines: &[Machine]) -> u64
 }
 
 /// The report of an accepted session of machines that are their projections.
-pub fn report_text(alloc: Global, names: &[Name], machines: &[Machine]) -> Result<Text, NoMemory>
+pub fn report(alloc: Global, names: &[Name], machines: &[Machine]) -> Result<Answer, NoMemory>
     requires { spec.too_many_for names.now machines.now ≡ None }
-    ensures { IfOk result (λ text. text ≡ spec.report_text names.now machines.now) }
+    ensures { IfOk result (λ a. a ≡ spec.report names.now machines.now) }
 {
     let mut text = Text::new(alloc);
     text.push(b"accepted\n")?;
     push_all_figures(&mut text, names, machines)?;
-    text.push(b"room ")?;
-    text.push_number(room_of(machines))?;
-    text.push(b"\n")?;
-    Ok(text)
+    push_pieces(
+        &mut text,
+        &[Words(b"room "), Number(room_of(machines)), Words(b"\n")],
+    )?;
+    Ok(Answer {
+        text,
+        verdict: Verdict::Fine,
+    })
 }
