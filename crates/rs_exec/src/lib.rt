@@ -1,0 +1,6 @@
+//! Runs of accepted sessions.
+#![tactic(auto)]
+
+mod inline;
+
+pub use inline::{ExecFault, run_inline};
