@@ -11,6 +11,8 @@ mod rows;
 mod runs;
 mod seeded;
 mod steps;
+#[cfg(test)]
+mod tests;
 mod transcripts;
 mod turns;
 

@@ -2,5 +2,7 @@
 #![tactic(auto)]
 
 mod inline;
+#[cfg(test)]
+mod tests;
 
 pub use inline::{ExecFault, run_inline};
