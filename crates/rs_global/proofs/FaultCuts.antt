@@ -15,6 +15,7 @@ use Rattle.rs_global.specs.Trees.{Body, ends, again, binds, talks, offers, Branc
 use Rattle.rs_global.specs.Cuts.{Cut, at_body, behind_end, behind_name, behind_rec, behind_rec_name, in_binds, behind_arrow, behind_receiver, in_arm, in_talks, in_offers, behind_brace, BranchCut, in_head, in_branch, later, ProtocolCut, at_begin, at_first, behind_first, at_further, behind_further, in_body, cut_signs, branch_cut_signs, line_signs, protocol_cut_signs, wanted_at, wanted_in, wanted_of}
 use Rattle.rs_global.specs.Faults.{Begins}
 use Rattle.rs_global.proofs.FaultPlaces.{is_named, is_named_in, is_named_of}
+use Rattle.rs_text.proofs.Judging.{IsProper}
 
 -- the tokens that are taken where this is wanted
 abbrev pub takes : Wanted → Sign → Bool
@@ -40,20 +41,6 @@ takes wanted.CloseParen close_paren = true
 takes wanted.CommaOrCloseBrace comma = true
 takes wanted.CommaOrCloseBrace close_brace = true
 takes _ t = false
-
--- a word has its own sign: rec and end are never plain
-abbrev pub IsProper : Sign → Type 0
-IsProper (plain text) = word_sign text ≡ plain text
-IsProper _ = Unit {0}
-
-proper_if : (a b c : Bool) (text : List ℕ) → (a && (not b && not c)) ≡ true → (if b then rec_word else if c then end_word else plain text) ≡ plain text
-proper_if true true c text h = cc
-proper_if true false true text h = cc
-proper_if true false false text h = refl
-proper_if false b c text h = cc
-
-pub proper_word : (text : List ℕ) → is_role_word text ≡ true → word_sign text ≡ plain text
-proper_word text h = proper_if (is_word text) (bytes_eq text (codes "rec")) (bytes_eq text (codes "end")) text h
 
 -- ---- sorts
 
