@@ -1,7 +1,6 @@
 use Rattle.std.proofs.Common.{◌≡◌, ◌≤◌, ℕ, List, Result, length, sym, ap, ◌∙◌}
 use Rattle.rs_text.specs.declared.faults.TextFault.{TextFault}
-use Rattle.rs_text.specs.Lexemes.{Lexeme, Lexed}
-use Rattle.rs_text.proofs.Nexts.{exists, are_lexed, one_list}
+use Rattle.rs_text.proofs.Nexts.{one_list}
 use Rattle.rs_global.specs.Feeding.{Answer, ReadsAs, answered, begin, feeding}
 use Rattle.std.specs.Prelude.{Ok}
 use Rattle.rs_text.specs.Readings.{read_all}

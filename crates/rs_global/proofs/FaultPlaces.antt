@@ -1,5 +1,5 @@
 -- At every place of the grammar that stands behind the tokens read so far, the reader wants what the place wants and sees its faults.
-use Rattle.std.proofs.Common.{◌≡◌, ℕ, suc, ◌+◌, List, [], ◌∷◌, ◌++◌, length, codes, Bool, true, false, if◌then◌else◌, nat_le, Option, Some, None, Ok, Err, refl, sym, ap, ◌∙◌, subst, append_assoc, append-nil}
+use Rattle.std.proofs.Common.{◌≡◌, ℕ, suc, ◌+◌, List, [], ◌∷◌, ◌++◌, length, codes, Bool, true, false, if◌then◌else◌, nat_le, Option, Some, None, Ok, refl, sym, ap, ◌∙◌, subst, append_assoc, append-nil}
 use Rattle.rs_model.specs.declared.graph.Role.{Role}
 use Rattle.rs_model.specs.declared.graph.Label.{Label}
 use Rattle.rs_model.specs.declared.values.Sort.{Sort}
@@ -27,8 +27,8 @@ use Rattle.rs_global.specs.Cuts.{Cut, at_body, behind_end, behind_name, behind_r
 use Rattle.rs_global.specs.Scenes.{Scene, with_label, in_talk, behind, scene_at, scene_in, fault_by, fault_in_line, fault_of}
 use Rattle.rs_global.specs.Feeding.{begin, sorted_by, new_role}
 use Rattle.rs_global.proofs.FaultRuns.{sent_lands, met_lands, Follower, an_arrow, a_broken, a_name, follower, by_name, named_lands, placed_length, label_lands, arm_passes, frame_at, restored_bound, passes, branches_pass}
-use Rattle.rs_text.specs.Readings.{fault, feed_sign}
-use Rattle.rs_text.proofs.Leading.{Lands, sign_behind, lexeme, Leads, lands_if, faulty_calm}
+use Rattle.rs_text.specs.Readings.{fault}
+use Rattle.rs_text.proofs.Leading.{Lands, Leads, lands_if, faulty_calm}
 
 -- what a mode wants
 abbrev pub wanted_behind : List Frame → Wanted

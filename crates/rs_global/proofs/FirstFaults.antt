@@ -1,18 +1,14 @@
 -- The fault that the reader tells is the first fault of the text.
-use Rattle.std.proofs.Common.{codes, ◌≡◌, ℕ, ◌≤◌, List, [], ◌∷◌, ◌++◌, length, Bool, true, false, if◌then◌else◌, Option, Some, None, Result, Ok, Err, refl, sym, ap, ◌∙◌, subst, ◌⊎◌, inl, inr, append_assoc, append-nil, arith}
+use Rattle.std.proofs.Common.{codes, ◌≡◌, ℕ, List, [], ◌∷◌, ◌++◌, Bool, true, false, if◌then◌else◌, Option, Some, None, Ok, Err, refl, sym, ap, ◌∙◌, subst, ◌⊎◌, inl, inr, append_assoc}
 use Rattle.rs_text.specs.declared.tokens.FaultKind.{FaultKind}
 use Rattle.rs_text.specs.declared.faults.TextFault.{TextFault}
 use Rattle.rs_text.specs.declared.faults.TextKind.{TextKind}
 use Rattle.rs_text.specs.declared.faults.TextKind.TheVariants as kind
 use Rattle.rs_text.specs.declared.faults.Wanted.{Wanted}
 use Rattle.rs_text.specs.declared.faults.Wanted.TheVariants as wanted
-use Rattle.rs_text.specs.Faults.{kind_of, kind_number}
-use Rattle.rs_text.specs.Lexemes.{Lexeme, Lexed, signs_of, is_last, next_lexeme}
+use Rattle.rs_text.specs.Faults.{kind_of}
+use Rattle.rs_text.specs.Lexemes.{Lexeme}
 use Rattle.rs_text.specs.Signs.{Sign, rec_word, plain, arrow, colon, dot, comma, open_brace, broken, finish}
-use Rattle.rs_text.specs.Tokens.{IsNext}
-use Rattle.rs_text.specs.Words.{is_role_word}
-use Rattle.rs_text.proofs.Gaps.{true_or_false}
-use Rattle.rs_text.proofs.Nexts.{next_is_next, plain_law, exists, are_lexed}
 use Rattle.rs_text.specs.Arms.{arm_signs, wanted_in_arm, ArmCut, at_label, behind_label, behind_paren, behind_sort, behind_head}
 use Rattle.rs_global.specs.declared.reading.Frame.{Frame}
 use Rattle.rs_global.specs.declared.reading.Mode.{Mode}
@@ -21,16 +17,16 @@ use Rattle.rs_global.specs.Data.{Reader_data}
 use Rattle.rs_global.specs.Trees.{protocol_signs, body_signs}
 use Rattle.rs_global.specs.Cuts.{Cut, at_body, behind_end, behind_name, behind_rec, behind_rec_name, in_binds, behind_arrow, behind_receiver, in_arm, in_talks, in_offers, behind_brace, BranchCut, in_head, in_branch, later, ProtocolCut, at_begin, at_first, behind_first, at_further, behind_further, in_body, cut_signs, branch_cut_signs, line_signs, protocol_cut_signs, wanted_at, wanted_in, wanted_of, IsBehind}
 use Rattle.rs_global.specs.Scenes.{Scene, fault_by, fault_of}
-use Rattle.rs_global.specs.Faults.{Begins, IsWithin, EndsByName, IsInReach, FaultAt, FirstFault}
-use Rattle.rs_global.specs.Feeding.{Fed, begin, feed_at, feed_next, is_read, no_frames, behind_body, answered, ReadsAs, feeding}
+use Rattle.rs_global.specs.Faults.{Begins, IsWithin, EndsByName, IsInReach, FaultAt}
+use Rattle.rs_global.specs.Feeding.{Fed, begin, feed_at, feed_next, is_read, no_frames, behind_body, feeding}
 use Rattle.rs_global.proofs.FaultPlaces.{wanted_by, fault_seen, is_named, is_named_in, is_named_of, NamedBy, PlaceAgrees, place_passes, tree_passes}
 use Rattle.rs_global.proofs.FaultCuts.{takes, Grows, place_grows, word_grows, place_begins}
 use Rattle.rs_global.proofs.FaultSteps.{ToldUnexpected, Steps, IsArrowMode, steps, whole_fed}
 use Rattle.rs_text.proofs.Standing.{StopsAtEnd}
-use Rattle.rs_text.proofs.Judging.{Here, Wholeness, a_faulty, a_whole, wholeness, IsProper, proper_word}
+use Rattle.rs_text.proofs.Judging.{Here, Wholeness, a_faulty, a_whole, wholeness, IsProper}
 use Rattle.rs_text.proofs.Leading.{Reached, NotExpected, Lands, sign_behind, lexeme, Leads, leads_split}
-use Rattle.rs_text.specs.FirstFaults.{IsClear, IsWhole, next_of, AllClear}
-use Rattle.rs_text.specs.Readings.{Reading, feed_sign, read_all}
+use Rattle.rs_text.specs.FirstFaults.{IsClear, IsWhole}
+use Rattle.rs_text.specs.Readings.{feed_sign}
 
 -- a place stands behind these tokens
 abbrev pub There : List Sign → Type 0

@@ -1,14 +1,12 @@
 -- A text that is read to the end of its protocol has no first fault, and any text has one at most.
-use Rattle.std.proofs.Common.{codes, ◌≡◌, ℕ, List, [], ◌∷◌, ◌++◌, length, Bool, true, false, if◌then◌else◌, Option, Some, None, Result, Ok, Err, refl, sym, ap, ◌∙◌, subst, inl, inr, append_assoc, append-nil, ◌≤◌, ◌⊎◌}
+use Rattle.std.proofs.Common.{codes, ◌≡◌, ℕ, List, [], ◌∷◌, ◌++◌, length, true, false, if◌then◌else◌, Option, Some, None, Result, Ok, Err, refl, sym, ap, ◌∙◌, subst, inl, inr, ◌≤◌}
 use Rattle.rs_text.specs.declared.faults.TextFault.{TextFault}
 use Rattle.rs_text.specs.declared.faults.TextKind.{TextKind}
 use Rattle.rs_text.specs.declared.faults.TextKind.TheVariants as kind
 use Rattle.rs_text.specs.declared.faults.Wanted.{Wanted}
 use Rattle.rs_text.specs.declared.faults.Wanted.TheVariants as wanted
-use Rattle.rs_text.specs.Lexemes.{Lexeme, Lexed, signs_of, is_last}
-use Rattle.rs_text.specs.Signs.{Sign, rec_word, end_word, plain, open_brace, broken, finish}
-use Rattle.rs_text.proofs.Gaps.{true_or_false}
-use Rattle.rs_text.proofs.Nexts.{one_list}
+use Rattle.rs_text.specs.Lexemes.{Lexeme, Lexed, signs_of}
+use Rattle.rs_text.specs.Signs.{Sign, rec_word, end_word, plain, open_brace, finish}
 use Rattle.rs_text.specs.Arms.{wanted_in_arm, ArmCut, at_label, behind_label, behind_paren, behind_sort, behind_head}
 use Rattle.rs_global.specs.declared.reading.Frame.{Frame}
 use Rattle.rs_global.specs.declared.reading.Mode.{Mode}
@@ -30,7 +28,7 @@ use Rattle.rs_text.proofs.Judging.{Ahead, Judges, found, first_of, proper_sign, 
 use Rattle.rs_text.proofs.Leading.{Reached, reach_on, calm_if, calm_not, calm_none, NotExpected, Lands, sign_behind, lexeme, Leads, faulty_calm, leads_split}
 use Rattle.rs_text.proofs.Keeping.{tokens}
 use Rattle.rs_text.specs.Readings.{Reading, feed_sign, read_all, last_of}
-use Rattle.rs_text.specs.FirstFaults.{IsWhole, next_of, AllClear}
+use Rattle.rs_text.specs.FirstFaults.{IsWhole, next_of}
 
 -- ---- places behind the protocol
 

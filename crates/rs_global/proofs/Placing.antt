@@ -1,4 +1,4 @@
-use Rattle.std.proofs.Common.{◌≡◌, ℕ, ◌≤◌, List, [], ◌∷◌, ◌++◌, length, Bool, true, false, Option, Some, None, Result, Ok, Err, IfErr, inl, inr, sym, ap, subst, arith, cond, nat_le, nat_lt}
+use Rattle.std.proofs.Common.{ℕ, ◌≤◌, List, [], ◌∷◌, ◌++◌, length, Bool, true, false, Option, Some, None, Ok, Err, IfErr, cond, nat_le, nat_lt}
 use Rattle.std.specs.Prelude.{codes}
 use Rattle.rs_model.specs.declared.graph.Role.{Role}
 use Rattle.rs_model.specs.declared.graph.Label.{Label}
@@ -6,24 +6,19 @@ use Rattle.rs_model.specs.declared.values.Sort.{Sort}
 use Rattle.rs_text.specs.declared.faults.TextFault.{TextFault}
 use Rattle.rs_text.specs.declared.faults.TextKind.TheVariants as kind
 use Rattle.rs_text.specs.declared.faults.Wanted.TheVariants as wanted
-use Rattle.rs_text.specs.Lexemes.{Lexeme, Lexed, is_last}
+use Rattle.rs_text.specs.Lexemes.{Lexeme}
 use Rattle.rs_text.specs.Names.{place_of, is_among, bound_to}
 use Rattle.rs_text.specs.Signs.{Sign, rec_word, end_word, plain, arrow, colon, dot, comma, open_brace, close_brace, open_paren, close_paren, broken}
-use Rattle.rs_text.specs.Tokens.{IsWithin}
-use Rattle.rs_text.proofs.Gaps.{true_or_false}
-use Rattle.rs_text.proofs.Nexts.{next_is_next, within}
 use Rattle.rs_text.specs.Seen.{sort_named, plain_text, word_text, is_text}
 use Rattle.rs_global.specs.declared.reading.Frame.{Frame}
 use Rattle.rs_global.specs.declared.reading.Link.{Link}
 use Rattle.rs_global.specs.declared.reading.Link.TheVariants as link
 use Rattle.rs_global.specs.declared.reading.Mode.{Mode}
 use Rattle.rs_global.specs.declared.reading.Mode.TheVariants as mode
-use Rattle.rs_text.specs.declared.reading.Stop.{Stop}
-use Rattle.rs_text.specs.declared.reading.Stop.TheVariants as stops
 use Rattle.rs_global.specs.Data.{Reader_data}
-use Rattle.rs_global.specs.Feeding.{Fed, Reads, begin, in_mode, linked, placed, opened, feed_at, new_role, feed_line, feed_word, feed_body, sent_by, named, feed_next, feed_receiver, met_by, feed_label, labelled_by, sorted_by, is_read, feeding}
-use Rattle.rs_text.specs.Readings.{Reading, told, feed_sign, next_lexeme_of, read_all}
-use Rattle.rs_text.proofs.Keeping.{tokens, Below, StaysBelow}
+use Rattle.rs_global.specs.Feeding.{Fed, in_mode, linked, placed, opened, feed_at, new_role, feed_line, feed_word, feed_body, sent_by, named, feed_next, feed_receiver, met_by, feed_label, labelled_by, sorted_by, feeding}
+use Rattle.rs_text.specs.Readings.{feed_sign}
+use Rattle.rs_text.proofs.Keeping.{Below, StaysBelow}
 
 below_if : (n : ℕ) (c : Bool) (e : TextFault) (x : Fed) → e.at ≤ n → IfErr x (Below n) → IfErr (cond c (Err e) x) (Below n)
 below_if n true e x h k = h

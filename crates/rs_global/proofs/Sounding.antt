@@ -1,4 +1,4 @@
-use Rattle.std.proofs.Common.{◌≡◌, ℕ, ◌+◌, ◌<◌, ◌≤◌, List, [], ◌∷◌, ◌++◌, length, Bool, true, false, ◌&&◌, Option, Some, None, Result, Ok, Err, IfOk, inl, inr, refl, sym, ap, subst, arith, cond, nat_le, nat_lt, length-append}
+use Rattle.std.proofs.Common.{◌≡◌, ℕ, ◌+◌, ◌<◌, ◌≤◌, List, [], ◌∷◌, ◌++◌, length, Bool, true, false, ◌&&◌, Option, Some, None, Result, Ok, Err, IfOk, refl, sym, ap, subst, arith, cond, nat_le, nat_lt, length-append}
 use Rattle.std.specs.List.{list_all}
 use Rattle.std.proofs.lemmas.Bool.{leb-false}
 use Rattle.std.specs.Prelude.{codes}
@@ -7,14 +7,12 @@ use Rattle.rs_model.specs.declared.graph.Label.{Label}
 use Rattle.rs_model.specs.declared.values.Sort.{Sort}
 use Rattle.rs_text.specs.declared.faults.TextFault.{TextFault}
 use Rattle.rs_text.specs.declared.faults.TextKind.TheVariants as kind
-use Rattle.rs_text.specs.Lexemes.{Lexeme, Lexed, is_last}
+use Rattle.rs_text.specs.Lexemes.{Lexeme}
 use Rattle.rs_text.specs.Names.{place_of, is_among, bound_to}
 use Rattle.rs_text.specs.Signs.{Sign, rec_word, end_word, plain, arrow, colon, dot, comma, open_brace, close_brace, open_paren, close_paren, broken}
 use Rattle.rs_text.specs.Sound.{differ, IsSound}
 use Rattle.rs_text.specs.Words.{is_word, is_role_word}
-use Rattle.rs_text.proofs.Gaps.{true_or_false}
 use Rattle.rs_text.proofs.Naming.{grown_differ, grown_all, not_among, decides_sound}
-use Rattle.rs_text.proofs.Nexts.{next_is_next, plain_law}
 use Rattle.rs_text.specs.Seen.{sort_named, plain_text, word_text, is_text}
 use Rattle.rs_global.specs.declared.reading.Frame.{Frame}
 use Rattle.rs_global.specs.declared.reading.Link.{Link}
@@ -23,8 +21,8 @@ use Rattle.rs_global.specs.declared.reading.Mode.TheVariants as mode
 use Rattle.rs_model.specs.Data.{Names_data}
 use Rattle.rs_global.specs.Drafts.{names_read, protocol_of}
 use Rattle.rs_global.specs.Data.{Reader_data}
-use Rattle.rs_global.specs.Feeding.{Fed, Answer, Reads, ReadsAs, answered, begin, in_mode, linked, feed_at, new_role, feed_line, feed_word, feed_body, sent_by, named, feed_next, feed_receiver, met_by, feed_label, labelled_by, sorted_by, is_read, feeding}
-use Rattle.rs_text.specs.Readings.{Reading, feed_sign, next_lexeme_of, read_all}
+use Rattle.rs_global.specs.Feeding.{Fed, Answer, Reads, ReadsAs, answered, begin, in_mode, linked, feed_at, new_role, feed_line, feed_word, feed_body, sent_by, named, feed_next, feed_receiver, met_by, feed_label, labelled_by, sorted_by, feeding}
+use Rattle.rs_text.specs.Readings.{Reading, feed_sign, read_all}
 use Rattle.rs_text.proofs.Keeping.{tokens, kept, KeptIn}
 use Rattle.rs_text.proofs.Judging.{IsNamed}
 

@@ -1,11 +1,10 @@
 -- A text is read as a protocol exactly where it spells it.
-use Rattle.std.proofs.Common.{◌≡◌, ℕ, ◌≤◌, List, [], ◌∷◌, ◌++◌, length, Bool, true, false, if◌then◌else◌, Result, Ok, Err, inl, inr, refl, sym, ap, ◌∙◌, subst, append_assoc, append-nil}
+use Rattle.std.proofs.Common.{◌≡◌, ℕ, ◌≤◌, List, [], ◌∷◌, ◌++◌, length, Bool, true, false, if◌then◌else◌, Result, Ok, Err, refl, sym, ap, ◌∙◌, subst}
 use Rattle.rs_model.specs.Data.{Protocol_data, Names_data}
 use Rattle.rs_text.specs.declared.faults.TextFault.{TextFault}
 use Rattle.rs_text.specs.declared.faults.Wanted.TheVariants as wanted
-use Rattle.rs_text.specs.Lexemes.{Lexeme, Lexed, signs_of, is_last}
+use Rattle.rs_text.specs.Lexemes.{Lexeme, Lexed, signs_of}
 use Rattle.rs_text.specs.Signs.{Sign, broken}
-use Rattle.rs_text.proofs.Gaps.{true_or_false}
 use Rattle.rs_text.proofs.Nexts.{exists, are_lexed, one_list}
 use Rattle.rs_global.specs.declared.reading.Frame.{Frame}
 use Rattle.rs_global.specs.declared.reading.Mode.{Mode}
@@ -13,17 +12,17 @@ use Rattle.rs_global.specs.declared.reading.Mode.TheVariants as mode
 use Rattle.rs_global.specs.Data.{Reader_data}
 use Rattle.rs_global.specs.Drafts.{protocol_of, names_read}
 use Rattle.rs_global.specs.Trees.{ProtocolTree, protocol_signs, ends_by_name, ends_a_name}
-use Rattle.rs_global.specs.Cuts.{ProtocolCut, at_begin}
+use Rattle.rs_global.specs.Cuts.{ProtocolCut}
 use Rattle.rs_global.specs.Spells.{SpellsProtocol, Fits}
 use Rattle.rs_global.specs.Feeding.{Fed, Answer, begin, feed_at, feed_next, is_read, no_frames, behind_body, answered, ReadsAs, feeding}
 use Rattle.rs_global.proofs.FaultPlaces.{wanted_by, is_named_of, NamedBy, PlaceAgrees}
-use Rattle.rs_global.proofs.FirstFaults.{There, agree, Verdict, verdict}
+use Rattle.rs_global.proofs.FirstFaults.{agree}
 use Rattle.rs_global.proofs.SpeltTrees.{IsRead, tree_exact}
 use Rattle.rs_global.proofs.SpeltCuts.{whole_tree}
 use Rattle.rs_text.proofs.Judging.{Runs, runs, Halt, halt}
 use Rattle.rs_global.proofs.OneFault.{At, judges, begins}
-use Rattle.rs_text.specs.Readings.{Reading, expected, feed_sign, next_lexeme_of, read_all}
-use Rattle.rs_text.proofs.Leading.{sign_behind, lexeme, Reached, reach_on, Tells, Exact}
+use Rattle.rs_text.specs.Readings.{Reading, expected, feed_sign, read_all}
+use Rattle.rs_text.proofs.Leading.{Tells, Exact}
 
 abbrev ok_answer : Answer → Result Answer TextFault
 ok_answer x = Ok x

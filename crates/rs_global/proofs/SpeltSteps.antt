@@ -1,14 +1,12 @@
 -- What the tokens of a body lead the reader to: where the body fits to this state and no other, else to a fault.
-use Rattle.std.proofs.Common.{◌≡◌, ℕ, suc, ◌+◌, List, [], ◌∷◌, ◌++◌, length, Bool, true, false, ◌&&◌, ◌||◌, if◌then◌else◌, nat_le, nat_lt, Option, Some, None, Ok, Err, refl, sym, ap, ◌∙◌, subst, arith, length-append, slice_get}
+use Rattle.std.proofs.Common.{◌≡◌, ℕ, suc, ◌+◌, List, [], ◌∷◌, ◌++◌, length, true, ◌||◌, if◌then◌else◌, nat_le, nat_lt, Option, Some, None, Ok, refl, sym, ap, ◌∙◌, subst, arith, length-append, slice_get}
 use Rattle.std.proofs.lemmas.List.{length-set}
 use Rattle.std.proofs.lemmas.Option.{slice_get_read}
-use Rattle.std.proofs.lemmas.Bool.{le-ltb, lt-ltb, leb-true, leb-false}
 use Rattle.std.proofs.Math.Seq.{get_or-append_seam, set-append_seam}
 use Rattle.rs_model.specs.declared.graph.Role.{Role}
 use Rattle.rs_model.specs.declared.graph.Label.{Label}
 use Rattle.rs_model.specs.declared.values.Sort.{Sort}
 use Rattle.rs_model.specs.declared.values.Sort.TheVariants as sort
-use Rattle.rs_text.specs.declared.faults.TextKind.{TextKind}
 use Rattle.rs_text.specs.declared.faults.TextKind.TheVariants as kind
 use Rattle.rs_text.specs.Names.{place_of, grown, Bound, bound_to, number_or}
 use Rattle.rs_text.specs.Signs.{Sign, dot, open_paren, close_paren}
@@ -26,8 +24,7 @@ use Rattle.rs_global.specs.Spells.{has_room_for}
 use Rattle.rs_global.specs.Feeding.{Fed, linked_drafts, label_of_number, labelled_by, feeding}
 use Rattle.rs_global.proofs.FaultRuns.{label_fed}
 use Rattle.rs_global.proofs.FaultPlaces.{scene_of}
-use Rattle.rs_text.specs.Readings.{fault, feed_sign}
-use Rattle.rs_text.proofs.Leading.{sign_behind, lexeme, Tells, Exact, tells_if, Hangs, full, fits_in}
+use Rattle.rs_text.proofs.Leading.{Tells, Exact, tells_if, Hangs, full, fits_in}
 
 -- ---- talks that are still read, by the tree
 

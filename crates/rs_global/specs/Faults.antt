@@ -1,12 +1,11 @@
 -- The first fault of a text.
-use Rattle.std.specs.Prelude.{◌≡◌, ℕ, ◌≤◌, ◌⊎◌, List, [], ◌∷◌, ◌++◌, Some}
+use Rattle.std.specs.Prelude.{◌≡◌, ℕ, ◌⊎◌, List, [], ◌∷◌, ◌++◌, Some}
 use Rattle.rs_text.specs.declared.tokens.FaultKind.{FaultKind}
 use Rattle.rs_text.specs.declared.faults.Wanted.{Wanted}
 use Rattle.rs_text.specs.declared.faults.TextKind.{TextKind}
 use Rattle.rs_text.specs.declared.faults.TextKind.TheVariants as kind
-use Rattle.rs_text.specs.Faults.{kind_of, kind_number}
-use Rattle.rs_text.specs.Lexemes.{Lexeme, Lexed, signs_of}
-use Rattle.rs_text.specs.Signs.{Sign, broken, finish}
+use Rattle.rs_text.specs.Faults.{kind_of}
+use Rattle.rs_text.specs.Signs.{Sign, broken}
 use Rattle.rs_global.specs.Trees.{ProtocolTree, protocol_signs}
 use Rattle.rs_global.specs.Cuts.{Cut, behind_end, behind_name, in_binds, in_talks, behind_brace, ProtocolCut, in_body, IsBehind, protocol_cut_signs, wanted_of}
 use Rattle.rs_global.specs.Scenes.{fault_of}

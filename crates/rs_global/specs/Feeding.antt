@@ -6,9 +6,7 @@ use Rattle.rs_model.specs.declared.graph.Label.{Label}
 use Rattle.rs_model.specs.declared.values.Sort.{Sort}
 use Rattle.rs_model.specs.declared.values.Sort.TheVariants as sort
 use Rattle.rs_text.specs.declared.faults.TextFault.{TextFault}
-use Rattle.rs_text.specs.declared.faults.TextKind.{TextKind}
 use Rattle.rs_text.specs.declared.faults.TextKind.TheVariants as kind
-use Rattle.rs_text.specs.declared.faults.Wanted.{Wanted}
 use Rattle.rs_text.specs.declared.faults.Wanted.TheVariants as wanted
 use Rattle.rs_text.specs.Faults.{kind_of}
 use Rattle.rs_model.specs.Data.{Names_data, Protocol_data}
@@ -21,8 +19,6 @@ use Rattle.rs_global.specs.declared.reading.Link.{Link}
 use Rattle.rs_global.specs.declared.reading.Link.TheVariants as link
 use Rattle.rs_global.specs.declared.reading.Mode.{Mode}
 use Rattle.rs_global.specs.declared.reading.Mode.TheVariants as mode
-use Rattle.rs_text.specs.declared.reading.Stop.{Stop}
-use Rattle.rs_text.specs.declared.reading.Stop.TheVariants as stops
 use Rattle.rs_global.specs.Data.{Reader_data, Draft_data}
 use Rattle.rs_global.specs.Drafts.{with_arm, protocol_of, names_read}
 use Rattle.rs_text.specs.Readings.{Automaton, Reading, fault, expected, read_all, ReadsBy}

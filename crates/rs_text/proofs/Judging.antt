@@ -1,7 +1,7 @@
 -- The fault that a reader tells is the first one of the text, and a text that is read has none: for any kind of reader of
 -- which it is known what it says of one token.
 use Rattle.std.proofs.Common.{◌≡◌, ℕ, ◌≤◌, List, [], ◌∷◌, ◌++◌, Bool, true, false, if◌then◌else◌, Result, Ok, Err, refl, sym, ap, ◌∙◌, subst, ◌⊎◌, inl, inr, append_assoc, append-nil, arith}
-use Rattle.std.proofs.Common.{length, codes, ◌&&◌, not}
+use Rattle.std.proofs.Common.{codes, ◌&&◌, not}
 use Rattle.std.specs.Str.{bytes_eq}
 use Rattle.rs_text.specs.declared.tokens.FaultKind.{FaultKind}
 use Rattle.rs_text.specs.declared.faults.TextFault.{TextFault}
@@ -266,7 +266,7 @@ no_fault j o bytes at y k offset f begins e = clear_of_read j f.before f.token f
 
 -- ---- one fault at most
 
-same_place : (rule : FaultRule) (b c : List Lexeme) (t s : Lexeme) (os ps : List Lexeme) (xs : List Sign) (j k : TextKind) → b ++ t ∷ os ≡ c ++ s ∷ ps → rule (xs ++ signs_of b) t.sign (next_of (signs_of os)) j → AllClear rule xs (signs_of b) (signs_of (t ∷ os))
+pub same_place : (rule : FaultRule) (b c : List Lexeme) (t s : Lexeme) (os ps : List Lexeme) (xs : List Sign) (j k : TextKind) → b ++ t ∷ os ≡ c ++ s ∷ ps → rule (xs ++ signs_of b) t.sign (next_of (signs_of os)) j → AllClear rule xs (signs_of b) (signs_of (t ∷ os))
     → rule (xs ++ signs_of c) s.sign (next_of (signs_of ps)) k → AllClear rule xs (signs_of c) (signs_of (s ∷ ps)) → (b ≡ c) × ((t ≡ s) × (os ≡ ps))
 same_place rule [] [] t s os ps xs j k h f cf g cg = (refl, (cc, cc))
 same_place rule [] (x ∷ c) t s os ps xs j k h f cf g cg =

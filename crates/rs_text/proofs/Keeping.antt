@@ -1,5 +1,5 @@
 -- What holds of each reader and of each fault holds of a whole reading.
-use Rattle.std.proofs.Common.{◌≡◌, ℕ, ◌≤◌, List, [], ◌∷◌, length, Bool, true, false, if◌then◌else◌, Result, Ok, Err, IfOk, ◌⊎◌, inl, inr, refl, sym, ap, subst, arith}
+use Rattle.std.proofs.Common.{◌≡◌, ℕ, ◌≤◌, List, [], ◌∷◌, length, Bool, true, false, if◌then◌else◌, Result, Ok, Err, IfOk, ◌⊎◌, inl, inr, sym, ap, subst, arith}
 use Rattle.std.specs.Prelude.{IfErr}
 use Rattle.rs_text.specs.declared.faults.TextFault.{TextFault}
 use Rattle.rs_text.specs.declared.reading.Stop.{Stop}
@@ -12,7 +12,7 @@ use Rattle.rs_text.specs.Signs.{Sign}
 use Rattle.rs_text.specs.Tokens.{IsWithin}
 use Rattle.rs_text.proofs.Gaps.{true_or_false}
 use Rattle.rs_text.proofs.Judging.{IsNamed, named, Judges, found, first_of}
-use Rattle.rs_text.proofs.Nexts.{next_is_next, within, exists, are_lexed, one_list}
+use Rattle.rs_text.proofs.Nexts.{next_is_next, within, exists, are_lexed}
 
 -- the bytes have tokens
 pub tokens : (bytes : List ℕ) (at : ℕ) → at ≤ length bytes → (ls : List Lexeme) × Lexed bytes at ls
