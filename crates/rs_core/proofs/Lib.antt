@@ -3,7 +3,6 @@ pub mod Moves
 pub mod Stands
 pub mod Going
 pub mod Parts
-pub mod Straights
 pub mod Nexts
 pub mod Results
 pub mod Examples

@@ -18,7 +18,7 @@ use Rattle.rs_core.proofs.Moves.{after_send, after_receive, send-step, receive-s
 use Rattle.rs_core.proofs.Stands.{here-is}
 
 -- a value of the sort
-abbrev value_of : Sort → Value
+abbrev pub value_of : Sort → Value
 value_of sort.Unit = value.Unit
 value_of sort.Flag = value.Flag false
 value_of sort.Natural = value.Natural 0
@@ -26,7 +26,7 @@ value_of sort.Whole = value.Whole (pos 0)
 value_of sort.Octets = value.Octets []
 value_of sort.Numbers = value.Numbers []
 
-value_of-has : (so : Sort) → HasSort (value_of so) so
+pub value_of-has : (so : Sort) → HasSort (value_of so) so
 value_of-has sort.Unit = refl
 value_of-has sort.Flag = refl
 value_of-has sort.Natural = refl
@@ -35,15 +35,15 @@ value_of-has sort.Octets = refl
 value_of-has sort.Numbers = refl
 
 -- an arm takes the message
-abbrev Fitting : Arm → Message → Type 0
+abbrev pub Fitting : Arm → Message → Type 0
 Fitting arm m = (arm.label ≡ m.label) × HasSort m.value arm.sort
 
 -- one of the arms takes it
-abbrev Taken : List Arm → Message → Type 0
+abbrev pub Taken : List Arm → Message → Type 0
 Taken arms m = (place : ℕ) × (arm : Arm) × (slice_get arms place ≡ Some arm) × Fitting arm m
 
 -- none of them does
-abbrev Untaken : List Arm → Message → Type 0
+abbrev pub Untaken : List Arm → Message → Type 0
 Untaken arms m = (place : ℕ) (arm : Arm) → slice_get arms place ≡ Some arm → arm.label ≡ m.label → HasSort m.value arm.sort → ⊥
 
 same_label : (l k : Label) → l.0 ≡ k.0 → l ≡ k
@@ -65,7 +65,7 @@ one arm m = elim (eqb_tells arm.label.0 m.label.0) [
   | inr t ↦ inr (λ f. t.1 (ap (λ (z : Label). z.0) f.0))
 ]
 
-find : (arms : List Arm) (m : Message) → Taken arms m ⊎ Untaken arms m
+pub find : (arms : List Arm) (m : Message) → Taken arms m ⊎ Untaken arms m
 find [] m = inr (λ place arm is same has. absurd (cc (is)))
 find (x ∷ xs) m = elim (one x m) [
   | inl f ↦ inl (0, x, refl, f)
@@ -86,9 +86,9 @@ next machines safe arms' c reachable p (MaySend peer [] puts) =
     absurd (arms' p (c.at p) at.0 peer at.1 at.2)
 next machines safe arms' c reachable p (MaySend peer (x ∷ xs) puts) =
     let v = value_of x.sort in
-    (Send p 0 v, after_send c p peer x v, send-step machines c p 0 v peer (x ∷ xs) x puts refl (value_of-has x.sort))
+    (Send (record { 0 = p }) 0 v, after_send c p peer x v, send-step machines c p 0 v peer (x ∷ xs) x puts refl (value_of-has x.sort))
 next machines safe arms' c reachable p (MayReceive peer arms message later takes oldest) = elim (find arms message) [
-  | inl t ↦ (Receive p, after_receive c p peer t.1 later, receive-step machines c p peer arms t.0 t.1 message later takes oldest t.2 t.3.0 t.3.1)
+  | inl t ↦ (Receive (record { 0 = p }), after_receive c p peer t.1 later, receive-step machines c p peer arms t.0 t.1 message later takes oldest t.2 t.3.0 t.3.1)
   | inr none ↦ absurd (safe.fits c reachable record { role = p; peer = peer; arms = arms; message = message; later = later; takes = takes; oldest = oldest; no_arm = none })
 ]
 

@@ -1,6 +1,7 @@
--- What two of the laws ask of machines.
-use Rattle.std.specs.Prelude.{◌≡◌, ℕ, List, [], Some, slice_get}
+-- What the laws ask of machines.
+use Rattle.std.specs.Prelude.{◌≡◌, ℕ, List, [], Some, slice_get, length}
 use Rattle.rs_model.specs.Data.{Machine_data}
+use Rattle.rs_model.specs.WellFormed.{IsWellFormedMachine}
 use Rattle.rs_model.specs.declared.graph.Arm.{Arm}
 use Rattle.rs_model.specs.declared.graph.Role.{Role}
 use Rattle.rs_model.specs.declared.machines.State.TheVariants.{Puts, Takes}
@@ -16,3 +17,8 @@ HaveLabelsOnce machines = (p s : ℕ) (m : Machine_data) (peer : Role) (arms : L
     → slice_get m.states s ≡ Some (Takes peer arms)
     → (i j : ℕ) (one other : Arm) → slice_get arms i ≡ Some one → slice_get arms j ≡ Some other
     → one.label ≡ other.label → i ≡ j
+
+-- the machines are those of the roles in order, and each is well formed among so many roles
+pub record AreWellFormed (machines : List Machine_data) : Type 0 where
+  pub role : (p : ℕ) (m : Machine_data) → slice_get machines p ≡ Some m → m.role.0 ≡ p
+  pub fits : (p : ℕ) (m : Machine_data) → slice_get machines p ≡ Some m → IsWellFormedMachine m (length machines)

@@ -5,16 +5,13 @@ use Rattle.std.specs.Prelude.{◌≡◌, ◌≢◌, ◌⊎◌, ℕ, List, [], �
 use Rattle.rs_model.specs.Data.{Machine_data}
 use Rattle.rs_model.specs.Sorts.{HasSort}
 use Rattle.rs_model.specs.declared.graph.Arm.{Arm}
-use Rattle.rs_model.specs.declared.graph.Label.{Label}
 use Rattle.rs_model.specs.declared.graph.Role.{Role}
 use Rattle.rs_model.specs.declared.machines.State.{State}
 use Rattle.rs_model.specs.declared.machines.State.TheVariants.{Puts, Takes}
 use Rattle.rs_model.specs.declared.values.Value.{Value}
-
--- what a sender puts into a queue: a label, and the value that it carries
-pub record Message : Type 0 where
-  pub label : Label
-  pub value : Value
+pub use Rattle.rs_core.specs.declared.messages.Event.{Event}
+pub use Rattle.rs_core.specs.declared.messages.Event.TheVariants.{Send, Receive}
+pub use Rattle.rs_core.specs.declared.messages.Message.{Message}
 
 -- one moment of a session: for each role the number of the state in which its machine stands, and for each ordered pair
 -- of roles what is under way from the first to the second, the oldest message first
@@ -69,15 +66,15 @@ pub record Receives (machines : List Machine_data) (c : Configuration) (p : ℕ)
   pub other_states : (r : ℕ) → r ≢ p → d.at r ≡ c.at r
   pub other_queues : (x y : ℕ) → (x ≢ peer.0) ⊎ (y ≢ p) → d.queue x y ≡ c.queue x y
 
--- what can happen: a role sends, by the arm at some place, a value; or a role receives
-pub data Event : Type 0 where
-  Send : (role place : ℕ) (value : Value) → Event
-  Receive : (role : ℕ) → Event
+-- the number of the role whose step the event is
+abbrev pub role_of : Event → ℕ
+role_of (Send role arm value) = role.0
+role_of (Receive role) = role.0
 
 -- the event leads from configuration c to configuration d
 abbrev pub Step : List Machine_data → Configuration → Event → Configuration → Type 0
-Step machines c (Send p place value) d = Sends machines c p place value d
-Step machines c (Receive p) d = Receives machines c p d
+Step machines c (Send role arm value) d = Sends machines c role.0 arm value d
+Step machines c (Receive role) d = Receives machines c role.0 d
 
 -- the events, one after the other, lead from c to d
 abbrev pub Steps : List Machine_data → Configuration → List Event → Configuration → Type 0

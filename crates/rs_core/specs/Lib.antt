@@ -1,5 +1,4 @@
 pub mod Configurations
 pub mod Safety
 pub mod Choices
-pub mod Straight
 pub mod Examples

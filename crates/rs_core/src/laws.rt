@@ -6,12 +6,6 @@ ghost use Rattle.rs_core.specs.Choices.{HaveArms, HaveLabelsOnce};
 ghost use Rattle.rs_core.specs.Configurations.{Configuration, Event, Step, IsReachable, IsSame};
 ghost use Rattle.rs_core.specs.Examples.{another_arm, another_label, another_sort, both_wait, left_behind, one_talk};
 ghost use Rattle.rs_core.specs.Safety.{CanStep, AllEnded, IsSafe};
-ghost use Rattle.rs_core.specs.Straight.{StraightTalk, AllTalks, machines_of_straight};
-
-/// Where each talk of a straight protocol is between two different roles of so many, its projections are safe.
-pub fn straight_sessions_are_safe()
-    ensures { (roles : ℕ) (talks : List StraightTalk) → AllTalks roles talks → IsSafe (machines_of_straight roles talks) }
-{}
 
 /// An event leads to one configuration, where no state takes one label at two places.
 pub fn an_event_leads_to_one_configuration()
@@ -48,7 +42,7 @@ pub fn a_message_left_behind_is_not_safe()
     ensures { IsSafe left_behind → ⊥ }
 {}
 
-/// Two roles with one talk, which are safe by the first law, come to their end.
+/// Two roles with one talk come to their end.
 pub fn one_talk_comes_to_its_end()
-    ensures { (c : Configuration) × IsReachable (machines_of_straight 2 one_talk) c × AllEnded (machines_of_straight 2 one_talk) c }
+    ensures { (c : Configuration) × IsReachable one_talk c × AllEnded one_talk c }
 {}

@@ -2,3 +2,6 @@
 #![tactic(auto)]
 
 pub mod laws;
+mod messages;
+
+pub use messages::{Event, Message};

@@ -11,7 +11,7 @@ use Rattle.rs_model.specs.declared.machines.State.TheVariants.{Done, Puts, Takes
 use Rattle.rs_project.specs.Data.{Projection_data}
 use Rattle.rs_project.specs.Graph.{MeetsFirst, MeetsTheEnd}
 use Rattle.rs_project.specs.Order.{Numbered, NoMore, Known, New, Worked, AllDone, Next}
-use Rattle.rs_project.specs.Projected.{Projected, nexts_of, nexts_behind}
+use Rattle.rs_project.specs.Numbered.{IsNumberedProjection, nexts_of, nexts_behind}
 use Rattle.rs_project.specs.Projection.{IsSet, IsStateOf, IsDone, IsPuts, IsTakes, IsProjection, MeetsBehind, EndsBehind}
 use Rattle.rs_project.specs.Reached.{arms_behind, StateLeads, LeadToState, MeetsAfter, EndsAfter}
 
@@ -64,7 +64,7 @@ nexts-are Done = refl
 nexts-are (Puts peer arms) = refl
 nexts-are (Takes peer arms) = refl
 
-reached-below : (protocol : Protocol_data) (role : Role) (p : Projection_data) → Projected protocol role p → (bound n : ℕ) → n < bound → n < length p.sets → (labels : List Label) × LeadToState p labels n
+reached-below : (protocol : Protocol_data) (role : Role) (p : Projection_data) → IsNumberedProjection protocol role p → (bound n : ℕ) → n < bound → n < length p.sets → (labels : List Label) × LeadToState p labels n
 reached-below protocol role p h zero n low lt = absurd (omega arith)
 reached-below protocol role p h (suc bound) n low lt = elim (in-rows 0 1 (length p.sets) n (map nexts_behind p.machine.states) h.order lt) [
   | inl first ↦ ([], omega arith)
@@ -80,7 +80,7 @@ reached-below protocol role p h (suc bound) n low lt = elim (in-rows 0 1 (length
       let all : LeadToState p (arm.0.label ∷ way.0) n = (i, way.1, leads) in (arm.0.label ∷ way.0, all)
 ]
 
-pub is-reached : (protocol : Protocol_data) (role : Role) (p : Projection_data) (n : ℕ) → Projected protocol role p → n < length p.machine.states → (labels : List Label) × LeadToState p labels n
+pub is-reached : (protocol : Protocol_data) (role : Role) (p : Projection_data) (n : ℕ) → IsNumberedProjection protocol role p → n < length p.machine.states → (labels : List Label) × LeadToState p labels n
 is-reached protocol role p n h lt =
     let all = h.is.all in
     reached-below protocol role p h (suc n) n (omega arith) (omega arith)

@@ -11,7 +11,7 @@ use Rattle.rs_project.specs.Data.{Front_data}
 use Rattle.rs_project.specs.Graph.{Involves}
 use Rattle.rs_project.specs.Marks.{Among, IsSurvey, Survey_data}
 use Rattle.rs_project.specs.Order.{IsOnce, Numbered, NoMore, Known, New, Worked, AllDone, Next}
-use Rattle.rs_project.specs.Projected.{nexts_of}
+use Rattle.rs_project.specs.Numbered.{nexts_of}
 use Rattle.rs_project.specs.Projection.{Choice, choice_of, choices_of, first_choices, merged_choices, LeadsOn, MeetsBehind, EndsBehind}
 use Rattle.rs_project.specs.Refusals.{IsFront, IsFrontAt, AreBehind}
 use Rattle.rs_project.specs.Working.{IsFrontBehind, IsNew, Keeps, Adds, AreFound, Finds, FindsNone, FindFault, ArmsFault, Discovers, TooManyAt}

@@ -2,6 +2,7 @@
 use Rattle.std.proofs.Common.{◌≡◌, inl, inr, ℕ, zero, suc, ◌+◌, ◌<◌, ◌≤◌, List, [], ◌∷◌, ◌++◌, length, Option, Some, slice_get, refl, sym, ap, ap₂, ◌∙◌, subst, subst₂, arith, length-append}
 use Rattle.std.proofs.lemmas.Bool.{cases_lt}
 use Rattle.rs_model.specs.Data.{Protocol_data}
+use Rattle.rs_model.specs.declared.limits.TheConstants.{MOST_STATES}
 use Rattle.rs_model.specs.declared.graph.Role.{Role}
 use Rattle.rs_project.specs.Data.{Front_data}
 use Rattle.rs_project.specs.Graph.{MeetsFirst, MeetsTheEnd}
@@ -17,7 +18,7 @@ use Rattle.rs_project.proofs.Lockstep.{Same, same-numbers, Rows, rows-from, Alik
 pub record Work (pr : Protocol_data) (role : Role) (fs : List Front_data) (rows tail : List (List ℕ)) : Type 0 where
   pub first : IsFrontAt fs 0 (MeetsFirst pr role pr.root) (MeetsTheEnd pr role pr.root)
   pub once : IsOnce fs
-  pub few : length fs ≤ 1024
+  pub few : length fs ≤ MOST_STATES
   pub order : Worked 0 1 (rows ++ tail) (length fs)
   pub behind : Rows pr role fs 0 rows
   pub each : (k : ℕ) (f : Front_data) (r : List ℕ) → slice_get fs k ≡ Some f → slice_get rows k ≡ Some r
@@ -127,20 +128,20 @@ split-row pr role gs talks (b ∷ before) c after (m ∷ row) h =
     record { ns = m ∷ r.ns; n = r.n; ms = r.ms; is = ap (λ z. m ∷ z) r.is; behind = (h.0, r.behind); at = r.at }
 
 -- no work goes beyond where there are too many
-pub no-overflow : (pr : Protocol_data) (role : Role) (t : ComesToTooMany pr role) (gs : List Front_data) → IsOnce gs → length gs ≤ 1024 → Beyond pr role t.fronts gs (length t.rows) t.row t.front → ⊥
+pub no-overflow : (pr : Protocol_data) (role : Role) (t : ComesToTooMany pr role) (gs : List Front_data) → IsOnce gs → length gs ≤ MOST_STATES → Beyond pr role t.fronts gs (length t.rows) t.row t.front → ⊥
 no-overflow pr role t gs once few b = go b.alike.known b.alike.one b.alike.other b.alike.same
   where
     s : SplitRow pr role gs t.front.talks t.before t.choice b.r
     s = let P : List Choice → Type 0 = λ z. AreBehind pr role gs t.front.talks z b.r in split-row pr role gs t.front.talks t.before t.choice t.after b.r (subst P t.choices b.behind)
 
-    last : (mid m1 mid' : ℕ) → mid ≡ m1 → mid ≡ 1024 → Same t.fronts gs mid → Numbered m1 (s.n ∷ s.ms) mid' → mid' ≤ 1024 → ⊥
+    last : (mid m1 mid' : ℕ) → mid ≡ m1 → mid ≡ MOST_STATES → Same t.fronts gs mid → Numbered m1 (s.n ∷ s.ms) mid' → mid' ≤ MOST_STATES → ⊥
     last mid m1 mid' e f same (Known _ _ _ _ lt k) le =
         let a = same s.n (omega (arith, e, lt)) in
         let x : a.0 ≡ s.at.front = (let y = a.2 in let z = s.at.stands in cc (y, z)) in
         t.another s.n record { front = s.at.front; stands = a.1 ∙ ap Some x; is = s.at.is }
     last mid m1 mid' e f same (New _ _ _ k) le = (let g = numbered-grows (suc m1) mid' s.ms k in absurd (omega (arith, e, f, g, le)))
 
-    mids : (k mid : ℕ) → Worked k mid [] (length t.fronts) → mid ≡ 1024
+    mids : (k mid : ℕ) → Worked k mid [] (length t.fronts) → mid ≡ MOST_STATES
     mids k mid (AllDone _ _) = t.many
 
     go : (known : ℕ) → Worked (length t.rows) known (t.row ∷ []) (length t.fronts) → Worked (length t.rows) known (b.r ∷ b.rest) (length gs) → Same t.fronts gs known → ⊥

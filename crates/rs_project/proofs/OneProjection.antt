@@ -11,7 +11,7 @@ use Rattle.rs_wellformed.specs.WellFormed.{IsWellFormed}
 use Rattle.rs_project.specs.Data.{Front_data, Projection_data}
 use Rattle.rs_project.specs.Graph.{MeetsFirst, MeetsTheEnd}
 use Rattle.rs_project.specs.Order.{Worked, AllDone, Next}
-use Rattle.rs_project.specs.Projected.{Projected, nexts_of, nexts_behind}
+use Rattle.rs_project.specs.Numbered.{IsNumberedProjection, nexts_of, nexts_behind}
 use Rattle.rs_project.specs.Projection.{IsSet, Choice, choice_of, merged_choices, MeetsBehind, EndsBehind, IsStateOf, IsDone, IsPuts, IsTakes}
 use Rattle.rs_project.specs.Refusals.{IsFrontAt, Merges, AreBehind, FirstRefusal}
 use Rattle.rs_project.specs.declared.projecting.ProjFault.{ProjFault}
@@ -94,7 +94,7 @@ append-none : (rows : List (List ℕ)) → rows ++ [] ≡ rows
 append-none [] = refl
 append-none (x ∷ rows) = ap (λ z. x ∷ z) (append-none rows)
 
-each-of : (pr : Protocol_data) (role : Role) (p : Projection_data) → Projected pr role p → (k : ℕ) (f : Front_data) (r : List ℕ) → slice_get (fronts-of p.sets) k ≡ Some f → slice_get (map nexts_behind p.machine.states) k ≡ Some r
+each-of : (pr : Protocol_data) (role : Role) (p : Projection_data) → IsNumberedProjection pr role p → (k : ℕ) (f : Front_data) (r : List ℕ) → slice_get (fronts-of p.sets) k ≡ Some f → slice_get (map nexts_behind p.machine.states) k ≡ Some r
     → Merges pr role f × AreBehind pr role (fronts-of p.sets) f.talks (merged_choices pr f.talks) r
 each-of pr role p h k f r hf hr =
     let x = fronts-at p.sets k f hf in
@@ -105,7 +105,7 @@ each-of pr role p h k f r hf hr =
       state-behind pr role p.sets x.0 s.0 (h.is.states k x.0 s.0 x.1 s.1),
     )
 
-work-whole : (pr : Protocol_data) (role : Role) (p : Projection_data) → Projected pr role p → Work pr role (fronts-of p.sets) (map nexts_behind p.machine.states) []
+work-whole : (pr : Protocol_data) (role : Role) (p : Projection_data) → IsNumberedProjection pr role p → Work pr role (fronts-of p.sets) (map nexts_behind p.machine.states) []
 work-whole pr role p h = record {
   first = set-front p.sets 0 (MeetsFirst pr role pr.root) (MeetsTheEnd pr role pr.root) h.is.first;
   once = λ i j f a b. (let x = fronts-at p.sets i f a in let y = fronts-at p.sets j f b in
@@ -118,7 +118,7 @@ work-whole pr role p h = record {
   each = each-of pr role p h;
 }
 
-whole-length : (pr : Protocol_data) (role : Role) (p : Projection_data) → Projected pr role p → length (fronts-of p.sets) ≡ length (map nexts_behind p.machine.states)
+whole-length : (pr : Protocol_data) (role : Role) (p : Projection_data) → IsNumberedProjection pr role p → length (fronts-of p.sets) ≡ length (map nexts_behind p.machine.states)
 whole-length pr role p h = fronts-length p.sets ∙ sym h.is.all ∙ sym (rows-length p.machine.states)
 
 -- nothing goes on where the one work is done
@@ -160,7 +160,7 @@ no-longer pr role fs gs rows rows' tail w v e le other =
     go k [] a l (inr t) = let S : List (List ℕ) → Type 0 = λ z. Alike fs gs k z [] (length fs) (length gs) in no-more fs gs k t.0 t.1 l (subst S t.2 a)
     go k (r ∷ rest) a l x = no-more fs gs k r (rest ++ tail) l a
 
-pub not-both : (pr : Protocol_data) (role : Role) (p : Projection_data) (e : ProjFault) → Projected pr role p → FirstRefusal pr role e → ⊥
+pub not-both : (pr : Protocol_data) (role : Role) (p : Projection_data) (e : ProjFault) → IsNumberedProjection pr role p → FirstRefusal pr role e → ⊥
 not-both pr role p (Unreached r n) h f = h.is.none_unreached n f.1
 not-both pr role p NoMemory h f = f
 not-both pr role p (Unmergeable r a b) h f =
@@ -232,7 +232,7 @@ same-state pr role sets sets' members st st' wf e (IsTakes q arms n each d ar) (
     let eq : q ≡ role = (let x = t.1 in let y = t'.1 in cc (x, y)) in
     absurd ((wf.talks m.0 q role t.0 t.1).others eq)
 
-pub one-projection : (pr : Protocol_data) (role : Role) (p q : Projection_data) → IsWellFormed pr → Projected pr role p → Projected pr role q → p ≡ q
+pub one-projection : (pr : Protocol_data) (role : Role) (p q : Projection_data) → IsWellFormed pr → IsNumberedProjection pr role p → IsNumberedProjection pr role q → p ≡ q
 one-projection pr role p q wf h k =
     let v = work-whole pr role p h in
     let w = work-whole pr role q k in

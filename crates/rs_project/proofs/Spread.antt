@@ -8,7 +8,7 @@ use Rattle.rs_model.specs.declared.graph.Node.TheVariants.{Finished, Talk}
 use Rattle.rs_project.specs.Graph.{PathStep, LeadsTo, IsPath}
 use Rattle.rs_wellformed.specs.WellFormed.{IsWellFormed}
 use Rattle.rs_project.specs.Marks.{Among, LeadsWithin, IsOn, AllOn, Spreads, Spreading, IsSpread, nexts_of_node}
-use Rattle.rs_project.specs.Projected.{nexts_of}
+use Rattle.rs_project.specs.Numbered.{nexts_of}
 use Rattle.rs_project.proofs.Lists.{among-split, among-left, among-right, at-among, at-map}
 use Rattle.rs_project.proofs.Flags.{on-within, none-on, set-on, set-itself, set-only}
 

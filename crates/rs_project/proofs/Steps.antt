@@ -10,7 +10,7 @@ use Rattle.rs_project.specs.Data.{Front_data}
 use Rattle.rs_project.specs.Graph.{Involves, MeetsFirst, MeetsTheEnd}
 use Rattle.rs_project.specs.Marks.{Among, IsSurvey, Survey_data, StartMeets, StartEnds}
 use Rattle.rs_project.specs.Order.{Numbered, NoMore, Worked, AllDone}
-use Rattle.rs_project.specs.Projected.{Projected, nexts_of, nexts_behind}
+use Rattle.rs_project.specs.Numbered.{IsNumberedProjection, nexts_of, nexts_behind}
 use Rattle.rs_project.specs.Projection.{IsSet, Choice, choice_of, merged_choices, MeetsBehind, EndsBehind, IsStateOf, IsDone, IsPuts, IsTakes}
 use Rattle.rs_project.specs.Refusals.{IsFront, IsFrontAt, Merges, AreBehind, ComesTo, FirstRefusal, NoneUnreached}
 use Rattle.rs_project.specs.Working.{Keeps, AreFound, Discovers, TooManyAt, HasShape, WorksOn, ArmsFault, StateFault, IsDoneWith, Working}
@@ -239,9 +239,9 @@ same-ends f g e af tf ag tg = go f.ends g.ends refl refl
     go false true ex ey = (let h = tf (e ∙ ag ey) in absurd (cc (h, ex)))
 
 pub working-done : (pr : Protocol_data) (role : Role) (fronts : List Front_data) (states : List State) (sets : List (List ℕ)) → NoneUnreached pr role → Working pr role fronts states → length fronts ≤ length states
-    → sets ≡ map (λ (f : Front_data). f.talks) fronts → Projected pr role record { machine = record { role = role; states = states; start = 0 }; sets = sets }
+    → sets ≡ map (λ (f : Front_data). f.talks) fronts → IsNumberedProjection pr role record { machine = record { role = role; states = states; start = 0 }; sets = sets }
 working-done pr role fronts states sets none w le e =
-    let P : List (List ℕ) → Type 0 = λ z. Projected pr role record { machine = record { role = role; states = states; start = 0 }; sets = z } in
+    let P : List (List ℕ) → Type 0 = λ z. IsNumberedProjection pr role record { machine = record { role = role; states = states; start = 0 }; sets = z } in
     let Q : ℕ → Type 0 = λ z. Worked 0 1 (map nexts_behind states) z in
     subst P (sym e) record {
       is = record {

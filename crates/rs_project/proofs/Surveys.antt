@@ -8,7 +8,7 @@ use Rattle.rs_model.specs.declared.graph.Node.TheVariants.{Finished, Talk}
 use Rattle.rs_model.specs.declared.graph.Role.{Role}
 use Rattle.rs_project.specs.Graph.{PathStep, LeadsTo, IsPath, Involves, IsIdle}
 use Rattle.rs_project.specs.Marks.{Among, IsOn, IsAwaited, AllAwaited, HasFlags, IsSettled, IsSurvey, any_on, leads_on, involves_role}
-use Rattle.rs_project.specs.Projected.{nexts_of}
+use Rattle.rs_project.specs.Numbered.{nexts_of}
 use Rattle.rs_project.proofs.Flags.{on-within, on-decide, set-only}
 use Rattle.rs_project.proofs.Spread.{step_of, among-leads, leads-among}
 

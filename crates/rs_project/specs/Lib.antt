@@ -2,7 +2,7 @@ pub mod Data
 pub mod Graph
 pub mod Projection
 pub mod Order
-pub mod Projected
+pub mod Numbered
 pub mod Reached
 pub mod Refusals
 pub mod Marks

@@ -1,6 +1,7 @@
 -- Why a protocol has no projection onto a role: the first reason in the order of the work.
 use Rattle.std.specs.Prelude.{◌≡◌, ◌⊎◌, ◌↔◌, ℕ, ◌<◌, ◌≤◌, true, List, [], ◌∷◌, ◌++◌, length, Option, Some, None, slice_get}
 use Rattle.std.specs.List.{AllPairs, Contains}
+use Rattle.rs_model.specs.declared.limits.TheConstants.{MOST_STATES}
 use Rattle.rs_model.specs.Data.{Protocol_data}
 use Rattle.rs_model.specs.declared.graph.Role.{Role}
 use Rattle.rs_project.specs.Data.{Front_data}
@@ -42,7 +43,7 @@ AreBehind protocol role fronts talks (c ∷ cs) (n ∷ ns) =
 pub record ComesTo (protocol : Protocol_data) (role : Role) (fronts : List Front_data) (rows : List (List ℕ)) (row : List ℕ) (front : Front_data) : Type 0 where
   pub first : IsFrontAt fronts 0 (MeetsFirst protocol role protocol.root) (MeetsTheEnd protocol role protocol.root)
   pub once : IsOnce fronts
-  pub few : length fronts ≤ 1024
+  pub few : length fronts ≤ MOST_STATES
   pub order : Worked 0 1 (rows ++ (row ∷ [])) (length fronts)
   pub merged : (k : ℕ) (f : Front_data) (r : List ℕ) → slice_get fronts k ≡ Some f → slice_get rows k ≡ Some r → Merges protocol role f
   pub behind : (k : ℕ) (f : Front_data) (r : List ℕ) → slice_get fronts k ≡ Some f → slice_get rows k ≡ Some r
@@ -76,7 +77,7 @@ pub record ComesToTooMany (protocol : Protocol_data) (role : Role) : Type 0 wher
   pub row : List ℕ
   pub front : Front_data
   pub comes : ComesTo protocol role fronts rows row front
-  pub many : length fronts ≡ 1024
+  pub many : length fronts ≡ MOST_STATES
   pub merges : Merges protocol role front
   pub before : List Choice
   pub choice : Choice

@@ -1,6 +1,7 @@
 -- What the work on the states keeps, and what it comes to.
 use Rattle.std.specs.Prelude.{◌≡◌, ◌≢◌, ◌⊎◌, ℕ, ◌<◌, ◌≤◌, true, List, [], ◌∷◌, ◌++◌, map, length, Option, Some, slice_get}
 use Rattle.std.specs.List.{Contains}
+use Rattle.rs_model.specs.declared.limits.TheConstants.{MOST_STATES}
 use Rattle.rs_model.specs.Data.{Protocol_data}
 use Rattle.rs_model.specs.declared.graph.Arm.{Arm}
 use Rattle.rs_model.specs.declared.graph.Label.{Label}
@@ -12,7 +13,7 @@ use Rattle.rs_project.specs.Data.{Front_data}
 use Rattle.rs_project.specs.Graph.{Involves, MeetsFirst, MeetsTheEnd}
 use Rattle.rs_project.specs.Marks.{Among}
 use Rattle.rs_project.specs.Order.{IsOnce, Numbered, Worked}
-use Rattle.rs_project.specs.Projected.{nexts_behind}
+use Rattle.rs_project.specs.Numbered.{nexts_behind}
 use Rattle.rs_project.specs.Projection.{Choice, choice_of, merged_choices, MeetsBehind, EndsBehind}
 use Rattle.rs_project.specs.Refusals.{IsFront, IsFrontAt, Merges, AreBehind, FirstClash}
 use Rattle.rs_project.specs.declared.projecting.ProjFault.{ProjFault}
@@ -34,11 +35,11 @@ Keeps old new = (n : ℕ) (f : Front_data) → slice_get old n ≡ Some f → sl
 abbrev pub Adds : List Front_data → Front_data → List Front_data → ℕ → Type 0
 Adds old front new n =
     ((slice_get old n ≡ Some front) × (new ≡ old))
-    ⊎ ((n ≡ length old) × (new ≡ old ++ (front ∷ [])) × (length old < 1024) × IsNew old front)
+    ⊎ ((n ≡ length old) × (new ≡ old ++ (front ∷ [])) × (length old < MOST_STATES) × IsNew old front)
 
 -- .. and where there is no room
 abbrev pub NumberFault : Role → List Front_data → Front_data → ProjFault → Type 0
-NumberFault role old front (TooManyStates r) = (r ≡ role) × (length old ≡ 1024) × IsNew old front
+NumberFault role old front (TooManyStates r) = (r ≡ role) × (length old ≡ MOST_STATES) × IsNew old front
 NumberFault role old front (Unmergeable r a b) = ⊥
 NumberFault role old front (Unreached r n) = ⊥
 NumberFault role old front NoMemory = Unit {0}
@@ -53,7 +54,7 @@ pub record Finds (protocol : Protocol_data) (role : Role) (old : List Front_data
 pub record FindsNone (protocol : Protocol_data) (role : Role) (old : List Front_data) (talks : List ℕ) (label : Label) : Type 0 where
   pub front : Front_data
   pub is : IsFrontBehind protocol role talks label front
-  pub many : length old ≡ 1024
+  pub many : length old ≡ MOST_STATES
   pub new : IsNew old front
 
 abbrev pub FindFault : Protocol_data → Role → List Front_data → List ℕ → Label → ProjFault → Type 0
@@ -66,7 +67,7 @@ FindFault protocol role old talks label NoMemory = Unit {0}
 -- role, and one without talks has the end
 pub record AreFound (protocol : Protocol_data) (role : Role) (fronts : List Front_data) : Type 0 where
   pub once : IsOnce fronts
-  pub few : length fronts ≤ 1024
+  pub few : length fronts ≤ MOST_STATES
   pub right : (k : ℕ) (f : Front_data) (t : ℕ) → slice_get fronts k ≡ Some f → Among f.talks t → Involves protocol role t
   pub told : (k : ℕ) (f : Front_data) → slice_get fronts k ≡ Some f → f.talks ≡ [] → f.ends ≡ true
 

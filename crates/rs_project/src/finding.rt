@@ -2,7 +2,7 @@ ghost use Rattle.std.specs.Prelude.{◌≡◌, ◌<◌, ◌≤◌, ◌^◌, ◌�
 ghost use Rattle.std.specs.List.{All};
 ghost use Rattle.rs_project.specs.Marks.{IsSurvey};
 ghost use Rattle.rs_project.specs.Order.{IsOnce};
-ghost use Rattle.rs_project.specs.Projected.{nexts_of};
+ghost use Rattle.rs_project.specs.Numbered.{nexts_of};
 ghost use Rattle.rs_project.specs.Projection.{choice_of, merged_choices};
 ghost use Rattle.rs_project.specs.Working.{Adds, AreFound, ArmsFault, Discovers, FindFault, Finds, IsFrontBehind, IsNew, NumberFault};
 ghost use Rattle.rs_wellformed.specs.WellFormed.{IsWellFormed};
@@ -12,10 +12,8 @@ use crate::filing::Fronts;
 use crate::fronts::{Front, front_of};
 use crate::merging::starts_behind;
 use crate::surveying::Survey;
-use rs_model::{Arm, Arms, Label, NoMemory, Protocol, Role};
+use rs_model::{Arm, Arms, Label, MOST_STATES, NoMemory, Protocol, Role};
 use std::alloc::Global;
-
-const MOST_STATES: usize = 1024;
 
 /// The arms of the state that stands for these talks, with these choices. Fronts that weren't found before are added.
 pub fn arms_of(
@@ -64,7 +62,7 @@ fn find(
     requires few { length protocol.now.nodes < 2 ^ 32 }
     requires survey { IsSurvey protocol.now survey.now.role survey.now }
     requires talks { All (λ t. t < length protocol.now.nodes) talks.now }
-    requires fronts { length fronts.old ≤ 1024 }
+    requires fronts { length fronts.old ≤ MOST_STATES }
     ensures ok { IfOk result (λ n. Finds protocol.now survey.now.role fronts.old talks.now label fronts.new n) }
     ensures err { IfErr result (λ e. FindFault protocol.now survey.now.role fronts.old talks.now label e) }
 {
@@ -95,7 +93,7 @@ fn front_behind(
 
 // The number of a front, which is added where it is new.
 fn number_of(role: Role, fronts: &mut Fronts, front: Front) -> Result<u32, ProjFault>
-    requires { length fronts.old ≤ 1024 }
+    requires { length fronts.old ≤ MOST_STATES }
     ensures ok { IfOk result (λ n. Adds fronts.old front fronts.new n) }
     ensures err { IfErr result (λ e. NumberFault role fronts.old front e) }
 {

@@ -7,7 +7,7 @@ ghost use Rattle.rs_model.specs.WellFormed.{IsWellFormedMachine};
 ghost use Rattle.rs_model.specs.declared.graph.Label.{Label};
 ghost use Rattle.rs_model.specs.declared.graph.Role.{Role};
 ghost use Rattle.rs_project.specs.Data.{Projection_data};
-ghost use Rattle.rs_project.specs.Projected.{Projected};
+ghost use Rattle.rs_project.specs.Numbered.{IsNumberedProjection};
 ghost use Rattle.rs_project.specs.Projection.{IsProjection};
 ghost use Rattle.rs_project.specs.Reached.{LeadToState, MeetsAfter, EndsAfter};
 ghost use Rattle.rs_project.specs.Refusals.{FirstRefusal};
@@ -21,12 +21,12 @@ pub fn one_refusal_at_most()
 
 /// A well-formed protocol has one projection onto a role at most, numbers of states included.
 pub fn one_projection_at_most()
-    ensures { (protocol : Protocol_data) (role : Role) (one other : Projection_data) → IsWellFormed protocol → Projected protocol role one → Projected protocol role other → one ≡ other }
+    ensures { (protocol : Protocol_data) (role : Role) (one other : Projection_data) → IsWellFormed protocol → IsNumberedProjection protocol role one → IsNumberedProjection protocol role other → one ≡ other }
 {}
 
 /// Where there is a projection nothing is refused.
 pub fn not_both()
-    ensures { (protocol : Protocol_data) (role : Role) (projection : Projection_data) (fault : ProjFault) → Projected protocol role projection → FirstRefusal protocol role fault → ⊥ }
+    ensures { (protocol : Protocol_data) (role : Role) (projection : Projection_data) (fault : ProjFault) → IsNumberedProjection protocol role projection → FirstRefusal protocol role fault → ⊥ }
 {}
 
 /// The machine of a projection of a well-formed protocol is well formed.
@@ -36,7 +36,7 @@ pub fn projections_are_well_formed()
 
 /// Each state of a projection is reached: labels lead to it from state 0.
 pub fn states_are_reached()
-    ensures { (protocol : Protocol_data) (role : Role) (projection : Projection_data) (number : ℕ) → Projected protocol role projection → number < length projection.machine.states → (labels : List Label) × LeadToState projection labels number }
+    ensures { (protocol : Protocol_data) (role : Role) (projection : Projection_data) (number : ℕ) → IsNumberedProjection protocol role projection → number < length projection.machine.states → (labels : List Label) × LeadToState projection labels number }
 {}
 
 /// The members of a state are exactly the talks that the role may meet after the labels that lead to the state, on some

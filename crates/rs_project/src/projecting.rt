@@ -1,9 +1,10 @@
 ghost use Rattle.std.specs.Prelude.{◌≡◌, ◌⊎◌, ◌<◌, ◌≤◌, ◌^◌, ℕ, map, length, IfOk, IfErr};
 ghost use Rattle.std.specs.List.{Contains};
+ghost use Rattle.rs_model.specs.declared.limits.TheConstants.{MOST_STATES};
 ghost use Rattle.rs_model.specs.WellFormed.{IsWellFormedMachine};
 ghost use Rattle.rs_project.specs.Graph.{Involves, MeetsFirst, MeetsTheEnd};
 ghost use Rattle.rs_project.specs.Marks.{Among, IsSurvey};
-ghost use Rattle.rs_project.specs.Projected.{Projected, nexts_behind, nexts_of};
+ghost use Rattle.rs_project.specs.Numbered.{IsNumberedProjection, nexts_behind, nexts_of};
 ghost use Rattle.rs_project.specs.Projection.{Agree, choice_of, merged_choices};
 ghost use Rattle.rs_project.specs.Refusals.{FirstRefusal, IsFront, NoneUnreached};
 ghost use Rattle.rs_project.specs.Working.{AreFound, ArmsFault, Discovers, HasShape, StateFault, WorksOn};
@@ -93,9 +94,9 @@ pub fn project(alloc: Global, protocol: &Protocol, role: Role) -> Result<Project
     requires well_formed { IsWellFormed protocol.now }
     requires role { role.0 < protocol.now.roles }
     requires few { length protocol.now.nodes < 2 ^ 32 }
-    ensures ok { IfOk result (λ p. Projected protocol.now role p) }
+    ensures ok { IfOk result (λ p. IsNumberedProjection protocol.now role p) }
     ensures machine { IfOk result (λ p. IsWellFormedMachine p.machine protocol.now.roles) }
-    ensures few { IfOk result (λ p. length p.machine.states ≤ 1024) }
+    ensures few { IfOk result (λ p. length p.machine.states ≤ MOST_STATES) }
     ensures err { IfErr result (λ e. (e ≡ ProjFault.NoMemory) ⊎ FirstRefusal protocol.now role e) }
 {
     let survey = survey_of(alloc, protocol, role)?;
@@ -121,7 +122,7 @@ fn work(
     requires survey { IsSurvey protocol.now survey.now.role survey.now }
     requires reached { NoneUnreached protocol.now survey.now.role }
     requires start { IsFront start (MeetsFirst protocol.now survey.now.role protocol.now.root) (MeetsTheEnd protocol.now survey.now.role protocol.now.root) }
-    ensures ok { IfOk result (λ p. Projected protocol.now survey.now.role p) }
+    ensures ok { IfOk result (λ p. IsNumberedProjection protocol.now survey.now.role p) }
     ensures err { IfErr result (λ e. (e ≡ ProjFault.NoMemory) ⊎ FirstRefusal protocol.now survey.now.role e) }
 {
     let mut fronts = Fronts::new(alloc)?;

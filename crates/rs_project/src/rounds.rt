@@ -1,7 +1,7 @@
 ghost use Rattle.std.specs.Prelude.{◌≡◌, ◌<◌, ◌≤◌, ◌^◌, ◌&&◌, ℕ, true, false, length, replicate, slice_index_or, IfOk, MatchOption};
 ghost use Rattle.rs_project.specs.Graph.{IsReached, IsUnreached};
 ghost use Rattle.rs_project.specs.Marks.{IsLeft, IsLive, IsOn, IsSurvey, nexts_of_node};
-ghost use Rattle.rs_project.specs.Projected.{nexts_of};
+ghost use Rattle.rs_project.specs.Numbered.{nexts_of};
 ghost use Rattle.rs_project.specs.Refusals.{NoneUnreached};
 ghost use Rattle.rs_wellformed.specs.WellFormed.{IsWellFormed};
 

@@ -2,7 +2,7 @@ ghost use Rattle.std.specs.Prelude.{◌≡◌, ◌+◌, ◌<◌, ◌≤◌, ◌�
 ghost use Rattle.std.specs.List.{All};
 ghost use Rattle.rs_model.specs.Data.{Protocol_data};
 ghost use Rattle.rs_project.specs.Marks.{IsSpread, LeadsWithin, Spreading, nexts_of_node, unmarked};
-ghost use Rattle.rs_project.specs.Projected.{nexts_of};
+ghost use Rattle.rs_project.specs.Numbered.{nexts_of};
 ghost use Rattle.rs_wellformed.specs.WellFormed.{IsWellFormed};
 
 use rs_model::{Arm, NoMemory, Node, Protocol};

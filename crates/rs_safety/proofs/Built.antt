@@ -13,7 +13,7 @@ use Rattle.rs_wellformed.specs.Faults.{Talks}
 use Rattle.rs_wellformed.specs.WellFormed.{IsWellFormed}
 use Rattle.rs_core.specs.Configurations.{Configuration, StartsAt}
 use Rattle.rs_core.specs.Safety.{IsSafe}
-use Rattle.rs_core.specs.Straight.{StraightTalk}
+use Rattle.rs_core.proofs.Parts.{StraightTalk}
 use Rattle.rs_core.proofs.Items.{Item, sends, recvs, Ordered}
 use Rattle.rs_core.proofs.Stands.{Known, Trace, Stands, Good, Lasts, Peered}
 use Rattle.rs_core.proofs.Going.{safe-of-good}

@@ -7,7 +7,7 @@ use Rattle.rs_model.specs.WellFormed.{IsWellFormedMachine}
 use Rattle.rs_model.specs.declared.graph.Arm.{Arm}
 use Rattle.rs_model.specs.declared.graph.Role.{Role}
 use Rattle.rs_model.specs.declared.machines.State.TheVariants.{Puts, Takes}
-use Rattle.rs_core.proofs.Items.{Item, Give, Get, serves-itself}
+use Rattle.rs_core.proofs.Items.{Item, Give, Get, subsort-itself}
 use Rattle.rs_core.proofs.Stands.{Trace, Does, Gives, Gets, pick}
 use Rattle.rs_safety.proofs.Kept.{Kept, kept-refl}
 use Rattle.rs_safety.proofs.Grow.{Follower, Given, Taken}
@@ -46,7 +46,7 @@ equal-gives m roles f is eaten done owed t q k arms w st =
     let fit = is.puts t q arms st in
     let pk = picked (f (length done)) arms fit.some in
     let x : Item = Give k q pk.0.label pk.0.sort in
-    let does : Gives m (f (length done)) t q pk.0.label pk.0.sort pk.0.next = record { arms = arms; arm = pk.0; puts = st; chosen = pk.1; label = refl; serves = serves-itself pk.0.sort; next = refl } in
+    let does : Gives m (f (length done)) t q pk.0.label pk.0.sort pk.0.next = record { arms = arms; arm = pk.0; puts = st; chosen = pk.1; label = refl; serves = subsort-itself pk.0.sort; next = refl } in
     record {
       index = pick (f (length done)) arms;
       arm = pk.0;
@@ -81,7 +81,7 @@ equal-takes m roles f is eaten done owed t q k arms place arm w st h =
       chosen = h;
       label = refl;
       only = one-arm arms place arm (is.takes t q arms st).once h;
-      serves = serves-itself arm.sort;
+      serves = subsort-itself arm.sort;
       next = refl;
     } in
     record {

@@ -10,9 +10,8 @@ use Rattle.rs_model.specs.declared.machines.State.{State}
 use Rattle.rs_model.specs.declared.machines.State.TheVariants.{Done, Puts, Takes}
 use Rattle.rs_model.specs.declared.values.Sort.{Sort}
 use Rattle.rs_wellformed.specs.Faults.{Talks}
-use Rattle.rs_core.specs.Straight.{StraightTalk}
 use Rattle.rs_core.proofs.Items.{Item, Give, Get, Entry, sends, recvs, sends-append, recvs-append, Ordered}
-use Rattle.rs_core.proofs.Parts.{own, own-sender, own-receiver, own-other}
+use Rattle.rs_core.proofs.Parts.{StraightTalk, own, own-sender, own-receiver, own-other}
 use Rattle.rs_core.proofs.Stands.{Trace}
 use Rattle.rs_project.specs.Data.{Projection_data}
 use Rattle.rs_project.specs.Graph.{LeadsTo, IsReached, Involves, PassesBy}

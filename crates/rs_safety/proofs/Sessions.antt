@@ -3,27 +3,17 @@ use Rattle.std.proofs.Common.{◌≡◌, ℕ, zero, suc, ◌<◌, List, [], ◌�
 use Rattle.std.proofs.lemmas.Option.{slice_get-get_or, slice_get_within}
 use Rattle.rs_model.specs.Data.{Machine_data, Protocol_data}
 use Rattle.rs_model.specs.WellFormed.{IsWellFormedMachine}
+use Rattle.rs_model.specs.declared.graph.Role.{Role}
 use Rattle.rs_wellformed.specs.WellFormed.{IsWellFormed}
 use Rattle.rs_core.specs.Safety.{IsSafe}
-use Rattle.rs_core.proofs.Stands.{Peered}
+use Rattle.rs_core.specs.Choices.{AreWellFormed}
+use Rattle.rs_core.proofs.Stands.{peered}
 use Rattle.rs_project.specs.Data.{Projection_data}
 use Rattle.rs_project.specs.Projection.{AreProjections}
 use Rattle.rs_safety.proofs.Walks.{numbered}
 use Rattle.rs_project.proofs.Machines.{projection-machine}
 use Rattle.rs_safety.proofs.Built.{safe-of-parts}
 use Rattle.rs_safety.proofs.Equal.{equal}
-
--- machines that are those of the roles, in order
-pub record InRoleOrder (ms : List Machine_data) : Type 0 where
-  pub role : (p : ℕ) (m : Machine_data) → slice_get ms p ≡ Some m → m.role ≡ numbered p
-  pub fits : (p : ℕ) (m : Machine_data) → slice_get ms p ≡ Some m → IsWellFormedMachine m (length ms)
-
-pub peered : (ms : List Machine_data) → InRoleOrder ms → Peered ms
-peered ms o = record {
-  takes = λ a m s q arms h st.
-      let fit = (o.fits a m h).takes s q arms st in
-      (fit.known, λ e. fit.other (ap numbered e ∙ sym (o.role a m h)));
-}
 
 no-machine : Machine_data
 no-machine = record { role = numbered 0; states = []; start = 0 }
@@ -66,13 +56,13 @@ same-machine pr pjs are p m h =
     (hp, cc (there, h))
 
 in-order : (pr : Protocol_data) (pjs : List Projection_data) → IsWellFormed pr → AreProjections pr pjs
-    → InRoleOrder (map (λ (z : Projection_data). z.machine) pjs)
+    → AreWellFormed (map (λ (z : Projection_data). z.machine) pjs)
 in-order pr pjs wf are = record {
   role = λ p m h.
       let same = same-machine pr pjs are p m h in
       let pj = get_or pjs p no-projection in
-      let P : Machine_data → Type 0 = λ z. z.role ≡ numbered p in
-      subst P same.1 (are.each p pj (the-projection pr pjs are p same.0)).onto;
+      let P : Machine_data → Type 0 = λ z. z.role.0 ≡ p in
+      subst P same.1 (ap (λ (z : Role). z.0) (are.each p pj (the-projection pr pjs are p same.0)).onto);
   fits = λ p m h.
       let same = same-machine pr pjs are p m h in
       let P : Machine_data → Type 0 = λ z. IsWellFormedMachine z (length (map (λ (z : Projection_data). z.machine) pjs)) in

@@ -3,9 +3,8 @@ use Rattle.std.proofs.Common.{◌≡◌, ◌≢◌, inl, inr, ℕ, ◌<◌, ◌�
 use Rattle.std.proofs.lemmas.Bool.Decides.{eqb_tells}
 use Rattle.std.proofs.lemmas.Map.Steps.{length-le_from_distinct_below}
 use Rattle.std.specs.List.{list_any, AllByRecursion, IsDistinct}
-use Rattle.rs_core.specs.Straight.{StraightTalk}
 use Rattle.rs_core.proofs.Items.{Item, Entry, sends, recvs, sends-append, recvs-append, eq_other}
-use Rattle.rs_core.proofs.Parts.{own, own-agrees}
+use Rattle.rs_core.proofs.Parts.{StraightTalk, own, own-agrees}
 use Rattle.rs_safety.proofs.Members.{Among}
 
 -- p's items, in the order of the talks; the trail has the last talk first

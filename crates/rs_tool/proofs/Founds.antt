@@ -7,7 +7,7 @@ use Rattle.rs_model.specs.Data.{Names_data, Protocol_data, Machine_data}
 use Rattle.rs_model.specs.declared.graph.Role.{Role}
 use Rattle.rs_model.specs.declared.memory.NoMemory.{NoMemory}
 use Rattle.rs_project.specs.Data.{Projection_data}
-use Rattle.rs_project.specs.Projected.{Projected}
+use Rattle.rs_project.specs.Numbered.{IsNumberedProjection, AreFirstProjections, AreNumberedProjections}
 use Rattle.rs_project.specs.Refusals.{FirstRefusal}
 use Rattle.rs_project.specs.declared.projecting.ProjFault.{ProjFault}
 use Rattle.rs_project.specs.declared.projecting.ProjFault.TheVariants as proj
@@ -31,7 +31,7 @@ use Rattle.rs_tool.specs.Data.{Document_data}
 use Rattle.rs_tool.specs.FaultTexts.{fault_answer, wf_answer, proj_answer, machine_answer}
 use Rattle.rs_tool.specs.Reading.{AreShort, IsFound, IsReady}
 use Rattle.rs_tool.specs.Report.{too_many_for}
-use Rattle.rs_tool.specs.Sessions.{AreFirstProjections, AreProjected, IsUnprojectable, MachineRefusal, first_refusal, machine_or, machines_of}
+use Rattle.rs_tool.specs.Sessions.{IsUnprojectable, MachineRefusal, first_refusal, machine_or, machines_of}
 use Rattle.rs_tool.specs.Projecting.{IsProjected, Refuses}
 use Rattle.rs_tool.specs.declared.answering.Projected.TheVariants as projected
 use Rattle.rs_tool.specs.Shown.{CanBeShown}
@@ -52,18 +52,18 @@ last_or_before (z ∷ zs) y (suc q) x e = elim (last_or_before zs y q x e) [
   | inr last ↦ inr (ap suc last.0, last.1)
 ]
 
-get_appended : (protocol : Protocol_data) (xs : List Projection_data) (count : ℕ) (y : Projection_data) (q : ℕ) (x : Projection_data) → AreFirstProjections protocol count xs → length xs ≡ count → Projected protocol (record { 0 = count }) y
-    → slice_get (xs ++ y ∷ []) q ≡ Some x → Projected protocol (record { 0 = q }) x
+get_appended : (protocol : Protocol_data) (xs : List Projection_data) (count : ℕ) (y : Projection_data) (q : ℕ) (x : Projection_data) → AreFirstProjections protocol count xs → length xs ≡ count → IsNumberedProjection protocol (record { 0 = count }) y
+    → slice_get (xs ++ y ∷ []) q ≡ Some x → IsNumberedProjection protocol (record { 0 = q }) x
 get_appended protocol xs count y q x h many p e = elim (last_or_before xs y q x e) [
   | inl before ↦ h.each q x before
   | inr last ↦
       let same : y ≡ x = last.1 in
       let place : q ≡ count = last.0 ∙ many in
-      subst (λ (z : Projection_data). Projected protocol (record { 0 = q }) z) same (subst (λ (n : ℕ). Projected protocol (record { 0 = n }) y) (sym place) p)
+      subst (λ (z : Projection_data). IsNumberedProjection protocol (record { 0 = q }) z) same (subst (λ (n : ℕ). IsNumberedProjection protocol (record { 0 = n }) y) (sym place) p)
 ]
 
 -- one projection more
-pub next_projection : (protocol : Protocol_data) (count : ℕ) (projections : List Projection_data) (projection : Projection_data) → AreFirstProjections protocol count projections → Projected protocol (record { 0 = count }) projection
+pub next_projection : (protocol : Protocol_data) (count : ℕ) (projections : List Projection_data) (projection : Projection_data) → AreFirstProjections protocol count projections → IsNumberedProjection protocol (record { 0 = count }) projection
     → AreFirstProjections protocol (count + 1) (projections ++ projection ∷ [])
 next_projection protocol count projections projection h p =
     let size = length-append projections (projection ∷ []) in
@@ -260,14 +260,14 @@ cant_check d a h = CantCheck h.0
 pub cant_project : (d : Document_data) (a : Answer) → IsProjected d (projected.Refused a) → AnswersProject d a
 cant_project d a h = CantProject h.0
 
-sizes : (own : List (Option Machine_data)) (d : Document_data) (projections : List Projection_data) → own ≡ d.machines → IsReady d → length d.names.roles ≡ d.protocol.roles → AreProjected d.protocol projections → length own ≡ length projections
+sizes : (own : List (Option Machine_data)) (d : Document_data) (projections : List Projection_data) → own ≡ d.machines → IsReady d → length d.names.roles ≡ d.protocol.roles → AreNumberedProjections d.protocol projections → length own ≡ length projections
 sizes own d projections e ready roles h = ap length e ∙ ready.one_each ∙ roles ∙ sym h.many
 
 pub chosen_size_by : (d : Document_data) (own : List (Option Machine_data)) (projections : List Projection_data) (machines : List Machine_data) → own ≡ d.machines → IsReady d → length d.names.roles ≡ d.protocol.roles
-    → AreProjected d.protocol projections → machines ≡ machines_of own projections → length machines ≡ length projections
+    → AreNumberedProjections d.protocol projections → machines ≡ machines_of own projections → length machines ≡ length projections
 chosen_size_by d own projections machines e ready roles h is = ap length is ∙ chosen_size own projections (sizes own d projections e ready roles h)
 
-few_states : (protocol : Protocol_data) (projections : List Projection_data) → AreProjected protocol projections → (k : ℕ) (p : Projection_data) → slice_get projections k ≡ Some p → length p.machine.states ≤ 1024
+few_states : (protocol : Protocol_data) (projections : List Projection_data) → AreNumberedProjections protocol projections → (k : ℕ) (p : Projection_data) → slice_get projections k ≡ Some p → length p.machine.states ≤ 1024
 few_states protocol projections h k p e =
     let x = h.each k p e in
     let is = x.is in
@@ -276,7 +276,7 @@ few_states protocol projections h k p e =
     omega arith
 
 pub chosen_small_by : (d : Document_data) (own : List (Option Machine_data)) (projections : List Projection_data) (machines : List Machine_data) → own ≡ d.machines → IsReady d
-    → AreProjected d.protocol projections → machines ≡ machines_of own projections → (k : ℕ) (x : Machine_data) → k < length machines → length (slice_index_or machines k x).states < 4294967296
+    → AreNumberedProjections d.protocol projections → machines ≡ machines_of own projections → (k : ℕ) (x : Machine_data) → k < length machines → length (slice_index_or machines k x).states < 4294967296
 chosen_small_by d own projections machines e ready h is =
     subst (λ (z : List Machine_data). (k : ℕ) (x : Machine_data) → k < length z → length (slice_index_or z k x).states < 4294967296) (sym is)
     (chosen_small own projections (subst AreShort (sym e) ready.short) (few_states d.protocol projections h))

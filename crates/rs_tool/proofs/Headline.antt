@@ -22,7 +22,8 @@ use Rattle.rs_tool.specs.Answers.{Answers, NoCommand, NoSuchCommand, CarriesOut,
 use Rattle.rs_tool.specs.Data.{Document_data}
 use Rattle.rs_tool.specs.FaultTexts.{fault_answer, wf_answer, proj_answer, machine_answer}
 use Rattle.rs_tool.specs.Headline.{SpellsSafeMachines}
-use Rattle.rs_tool.specs.Sessions.{AreProjected, machines_of}
+use Rattle.rs_project.specs.Numbered.{AreNumberedProjections}
+use Rattle.rs_tool.specs.Sessions.{machines_of}
 use Rattle.rs_tool.specs.Top.{Tells}
 use Rattle.rs_tool.specs.Words.{is_check, is_show, is_project, task_of}
 use Rattle.rs_tool.specs.declared.words.Task.{Task}
@@ -72,7 +73,7 @@ refusal-is-no-fine d a (IsIllFormed f e is) = no-fine a _ is (wf-is-no-fine d.na
 refusal-is-no-fine d a (IsUnprojected none role f h is) = no-fine a _ is (proj-is-no-fine d.names f)
 
 -- what is told of projections is what the law of equal sessions asks
-pub projections-are : (protocol : Protocol_data) (projections : List Projection_data) → AreProjected protocol projections → AreProjections protocol projections
+pub projections-are : (protocol : Protocol_data) (projections : List Projection_data) → AreNumberedProjections protocol projections → AreProjections protocol projections
 projections-are protocol projections h = record { many = h.many; each = λ p projection e. let x = h.each p projection e in x.is }
 
 session-is-safe : (bytes : List ℕ) (d : Document_data) (projections : List Projection_data) (a : Answer) → IsDocument bytes d → HasProjections d projections

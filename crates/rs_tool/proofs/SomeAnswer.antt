@@ -7,7 +7,7 @@ use Rattle.rs_model.specs.declared.graph.Role.{Role}
 use Rattle.rs_global.specs.Texts.{protocol_text}
 use Rattle.rs_global.proofs.Existence.{canonical_is_there}
 use Rattle.rs_project.specs.Data.{Projection_data}
-use Rattle.rs_project.specs.Projected.{Projected}
+use Rattle.rs_project.specs.Numbered.{IsNumberedProjection, AreFirstProjections}
 use Rattle.rs_project.specs.Refusals.{FirstRefusal}
 use Rattle.rs_project.specs.declared.projecting.ProjFault.{ProjFault}
 use Rattle.rs_safety.specs.Accepting.{AreSame}
@@ -27,7 +27,7 @@ use Rattle.rs_tool.specs.Documents.{SpellsDocument}
 use Rattle.rs_tool.specs.FaultTexts.{fault_answer, wf_answer, proj_answer, machine_answer}
 use Rattle.rs_tool.specs.Reading.{IsFound}
 use Rattle.rs_tool.specs.Report.{report_text, too_many_for}
-use Rattle.rs_tool.specs.Sessions.{AreDecided, AreFirstProjections, IsUnprojectable, MachineRefusal, first_refusal, machines_of}
+use Rattle.rs_tool.specs.Sessions.{AreDecided, IsUnprojectable, MachineRefusal, first_refusal, machines_of}
 use Rattle.rs_tool.specs.Shown.{AreShown, AreCanonicalMachines}
 use Rattle.rs_tool.specs.Words.{names_command, task_of}
 use Rattle.rs_tool.proofs.CanShow.{role_names}
@@ -69,7 +69,7 @@ first_ones : (protocol : Protocol_data) (count : ℕ) → AreDecided protocol �
 first_ones protocol zero decided le = AllProject [] (no_projections protocol)
 first_ones protocol (suc count) decided le = go (first_ones protocol count decided (omega arith)) (decided (record { 0 = count }) (omega arith))
   where
-    go : Decision protocol count → ((projection : Projection_data) × Projected protocol (record { 0 = count }) projection) ⊎ ((fault : ProjFault) × FirstRefusal protocol (record { 0 = count }) fault) → Decision protocol (suc count)
+    go : Decision protocol count → ((projection : Projection_data) × IsNumberedProjection protocol (record { 0 = count }) projection) ⊎ ((fault : ProjFault) × FirstRefusal protocol (record { 0 = count }) fault) → Decision protocol (suc count)
     go (OneDoesnt role fault h) d = OneDoesnt role fault h
     go (AllProject projections h) (inl p) =
         let one : count + 1 ≡ suc count = omega arith in

@@ -9,7 +9,7 @@ use Rattle.rs_model.specs.declared.graph.Role.{Role}
 use Rattle.rs_global.specs.Canonical.{IsCanonicalText}
 use Rattle.rs_global.proofs.CanonOne.{canonical_text_is_one}
 use Rattle.rs_project.specs.Data.{Projection_data}
-use Rattle.rs_project.specs.Projected.{Projected}
+use Rattle.rs_project.specs.Numbered.{IsNumberedProjection, AreFirstProjections, AreNumberedProjections}
 use Rattle.rs_project.specs.declared.projecting.ProjFault.{ProjFault}
 use Rattle.rs_wellformed.specs.WellFormed.{IsWellFormed}
 use Rattle.rs_wellformed.proofs.Faults.{no_fault}
@@ -25,7 +25,7 @@ use Rattle.rs_tool.specs.Answers.{Answers, NoCommand, NoSuchCommand, CarriesOut,
 use Rattle.rs_tool.specs.Data.{Document_data}
 use Rattle.rs_tool.specs.Documents.{HasFault, HasDerivations}
 use Rattle.rs_tool.specs.FaultTexts.{fault_answer, wf_answer, proj_answer, machine_answer}
-use Rattle.rs_tool.specs.Sessions.{AreFirstProjections, AreProjected, IsUnprojectable, MachineRefusal, machines_of}
+use Rattle.rs_tool.specs.Sessions.{IsUnprojectable, MachineRefusal, machines_of}
 use Rattle.rs_tool.specs.Shown.{AreCanonicalMachines, AreShown, IsCanonicalDocument}
 use Rattle.rs_tool.specs.Words.{commands, names_command, task_of, is_check, is_show, is_project}
 use Rattle.rs_tool.proofs.CanShow.{role_names}
@@ -78,7 +78,7 @@ same_list (x ∷ xs) [] size h = absurd cc
 same_list (x ∷ xs) (y ∷ ys) size h =
     ap (λ z. z ∷ xs) (h 0 x y refl refl) ∙ ap (λ z. y ∷ z) (same_list xs ys (cc) (λ p a b e f. h (suc p) a b e f))
 
-one_list : (protocol : Protocol_data) (xs ys : List Projection_data) → IsWellFormed protocol → AreProjected protocol xs → AreProjected protocol ys → xs ≡ ys
+one_list : (protocol : Protocol_data) (xs ys : List Projection_data) → IsWellFormed protocol → AreNumberedProjections protocol xs → AreNumberedProjections protocol ys → xs ≡ ys
 one_list protocol xs ys w h k =
     same_list xs ys (h.many ∙ sym k.many) (λ p x y e f. one-projection protocol (record { 0 = p }) x y w (h.each p x e) (k.each p y f))
 

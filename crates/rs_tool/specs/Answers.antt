@@ -18,7 +18,8 @@ use Rattle.rs_tool.specs.Data.{Document_data}
 use Rattle.rs_tool.specs.Documents.{SpellsDocument, HasDerivations, HasFault}
 use Rattle.rs_tool.specs.FaultTexts.{fault_answer, wf_answer, proj_answer, machine_answer}
 use Rattle.rs_tool.specs.Report.{report_text, too_many_for}
-use Rattle.rs_tool.specs.Sessions.{AreProjected, IsUnprojectable, MachineRefusal, first_refusal, machines_of}
+use Rattle.rs_project.specs.Numbered.{AreNumberedProjections}
+use Rattle.rs_tool.specs.Sessions.{IsUnprojectable, MachineRefusal, first_refusal, machines_of}
 use Rattle.rs_tool.specs.Shown.{IsCanonicalDocument}
 use Rattle.rs_tool.specs.Words.{names_command, task_of}
 
@@ -48,7 +49,7 @@ pub data AnswersRefusal (d : Document_data) (answer : Answer) : Type 0 where
 -- the protocol is well formed, and these are its projections
 pub record HasProjections (d : Document_data) (projections : List Projection_data) : Type 0 where
   pub well_formed : first_fault d.protocol ≡ None
-  pub projected : AreProjected d.protocol projections
+  pub projected : AreNumberedProjections d.protocol projections
 
 -- the tables of the projections, in role order
 abbrev pub tables_text : Names_data → List Projection_data → List ℕ

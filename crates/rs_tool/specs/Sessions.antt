@@ -5,18 +5,9 @@ use Rattle.rs_model.specs.Faults.{first_fault}
 use Rattle.rs_model.specs.declared.checks.MachineFault.{MachineFault}
 use Rattle.rs_model.specs.declared.graph.Role.{Role}
 use Rattle.rs_project.specs.Data.{Projection_data}
-use Rattle.rs_project.specs.Projected.{Projected}
+use Rattle.rs_project.specs.Numbered.{IsNumberedProjection, AreFirstProjections}
 use Rattle.rs_project.specs.Refusals.{FirstRefusal}
 use Rattle.rs_project.specs.declared.projecting.ProjFault.{ProjFault}
-
--- the projections of the protocol onto its first so many roles, in order
-pub record AreFirstProjections (protocol : Protocol_data) (count : ℕ) (projections : List Projection_data) : Type 0 where
-  pub many : length projections ≡ count
-  pub each : (p : ℕ) (projection : Projection_data) → slice_get projections p ≡ Some projection → Projected protocol (record { 0 = p }) projection
-
--- onto all of them
-abbrev pub AreProjected : Protocol_data → List Projection_data → Type 0
-AreProjected protocol projections = AreFirstProjections protocol protocol.roles projections
 
 -- the first role onto which the protocol has no projection, and the first reason
 pub record IsUnprojectable (protocol : Protocol_data) (role : Role) (fault : ProjFault) : Type 0 where
@@ -52,4 +43,4 @@ first_refusal roles (machine ∷ machines) = refusal_or (first_fault machine rol
 -- each role has a projection, or there is a first reason why it has none
 abbrev pub AreDecided : Protocol_data → Type 0
 AreDecided protocol = (role : Role) → role.0 < protocol.roles
-    → ((projection : Projection_data) × Projected protocol role projection) ⊎ ((fault : ProjFault) × FirstRefusal protocol role fault)
+    → ((projection : Projection_data) × IsNumberedProjection protocol role projection) ⊎ ((fault : ProjFault) × FirstRefusal protocol role fault)

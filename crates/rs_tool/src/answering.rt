@@ -11,7 +11,7 @@ ghost use Rattle.rs_tool.specs.Answers.{Answers, AnswersCheck, AnswersDocument, 
 ghost use Rattle.rs_tool.specs.Projecting.{IsProjected};
 ghost use Rattle.rs_tool.specs.Reading.{IsFound, IsInOrder, IsReady};
 ghost use Rattle.rs_tool.specs.Sessions as sessions;
-ghost use Rattle.rs_tool.specs.Sessions.{AreProjected};
+ghost use Rattle.rs_project.specs.Numbered.{AreNumberedProjections};
 ghost use Rattle.rs_tool.specs.Shown.{CanBeShown, IsCanonicalDocument};
 ghost use Rattle.rs_tool.specs.Top.{IsVerdict};
 ghost use Rattle.rs_tool.specs.Words.{task_of};
@@ -70,7 +70,7 @@ fn answer_to_session(
     machines: Vec<Machine>,
 ) -> Result<Made, NoMemory>
     requires well_formed { IsWellFormed protocol.now }
-    requires projected { AreProjected protocol.now projections.now }
+    requires projected { AreNumberedProjections protocol.now projections.now }
     requires one_each { length machines.items ≡ length projections.now }
     requires few { All (λ m. length m.states < 2 ^ 32) machines.items }
     ensures answer { IfOk result (AnswersSession names.now protocol.now.roles machines.items projections.now) }
@@ -93,7 +93,7 @@ fn answer_to_projected(
 ) -> Result<Made, NoMemory>
     requires ready { IsReady document.now }
     requires well_formed { IsWellFormed document.now.protocol }
-    requires projected { AreProjected document.now.protocol projections.now }
+    requires projected { AreNumberedProjections document.now.protocol projections.now }
     requires roles { length document.now.names.roles ≡ document.now.protocol.roles }
     ensures answer { IfOk result (AnswersSession document.now.names document.now.protocol.roles (sessions.machines_of document.now.machines projections.now) projections.now) }
     ensures verdict { IfOk result (λ m. IsVerdict m.status) }

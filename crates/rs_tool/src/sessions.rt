@@ -4,7 +4,8 @@ ghost use Rattle.std.specs.Prelude.{◌≡◌, ◌≤◌, ◌<◌, ◌⊎◌, �
 ghost use Rattle.std.specs.List.{All};
 ghost use Rattle.rs_tool.specs.Projecting.{Refuses};
 ghost use Rattle.rs_tool.specs.Reading.{AreShort};
-ghost use Rattle.rs_tool.specs.Sessions.{AreProjected, first_refusal, machine_or, machines_of};
+ghost use Rattle.rs_project.specs.Numbered.{AreNumberedProjections};
+ghost use Rattle.rs_tool.specs.Sessions.{first_refusal, machine_or, machines_of};
 ghost use Rattle.rs_wellformed.specs.WellFormed.{IsWellFormed};
 
 use rs_model::{Machine, MachineFault, NoMemory, Protocol, Role};
@@ -16,7 +17,7 @@ use std::alloc::Global;
 pub fn projections_of(alloc: Global, protocol: &Protocol) -> Result<Vec<Projection>, ProjFault>
     requires well_formed { IsWellFormed protocol.now }
     requires few { length protocol.now.nodes < 2 ^ 32 }
-    ensures ok { IfOk result (λ projections. AreProjected protocol.now projections.items) }
+    ensures ok { IfOk result (λ projections. AreNumberedProjections protocol.now projections.items) }
     ensures err { IfErr result (λ e. (e ≡ ProjFault.NoMemory) ⊎ Refuses protocol.now e) }
 {
     let mut projections = Vec::new(alloc);

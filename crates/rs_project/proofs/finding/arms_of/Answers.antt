@@ -2,7 +2,7 @@ use Rattle.std.proofs.Common.{[], List, map, get_or, ap, subst, sym}
 use Rattle.std.proofs.lemmas.Option.{slice_get-get_or}
 use Rattle.rs_model.specs.declared.graph.Arm.{Arm}
 use Rattle.rs_model.specs.declared.values.Sort.TheVariants.{Unit as unit}
-use Rattle.rs_project.specs.Projected.{nexts_of}
+use Rattle.rs_project.specs.Numbered.{nexts_of}
 use Rattle.rs_project.specs.Projection.{choice_of}
 use Rattle.rs_project.specs.Working.{Discovers}
 use Rattle.rs_project.proofs.Numbers.{discovers-none, arm-more, same-more, arms-fault}

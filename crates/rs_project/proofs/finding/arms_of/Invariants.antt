@@ -1,5 +1,5 @@
 use Rattle.std.proofs.Common.{◌≡◌, map, take}
-use Rattle.rs_project.specs.Projected.{nexts_of}
+use Rattle.rs_project.specs.Numbered.{nexts_of}
 use Rattle.rs_project.specs.Projection.{choice_of}
 use Rattle.rs_project.specs.Working.{Discovers}
 use Rattle.rs_project.proofs.finding.arms_of.Given as goal

@@ -4,7 +4,7 @@ use Rattle.rs_model.specs.declared.graph.Role.{Role}
 use Rattle.rs_project.specs.Graph.{IsUnreached}
 use Rattle.rs_project.specs.Marks.{StartMeets, StartEnds}
 use Rattle.rs_project.specs.Refusals.{IsFront, NoneUnreached}
-use Rattle.rs_project.specs.Projected.{Projected}
+use Rattle.rs_project.specs.Numbered.{IsNumberedProjection}
 use Rattle.rs_project.proofs.Machines.{projection-machine}
 use Rattle.rs_project.proofs.Steps.{front-root}
 use Rattle.rs_project.proofs.projecting.project.Goals as goal
@@ -27,7 +27,7 @@ work-requires-clause-start c =
 
 pub returns-clause-machine : goal.returns-clause-machine
 returns-clause-machine c =
-    let P : Role → Type 0 = λ z. Projected c.args.protocol.now z c.in-Ok.projection in
+    let P : Role → Type 0 = λ z. IsNumberedProjection c.args.protocol.now z c.in-Ok.projection in
     let h = subst P c.in_ok-survey.ensures.role c.in-Ok.ensures.ok in
     projection-machine c.args.protocol.now c.args.role c.in-Ok.projection c.requires.well_formed c.requires.role h.is
 

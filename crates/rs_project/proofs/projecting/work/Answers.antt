@@ -4,7 +4,7 @@ use Rattle.std.specs.declared.alloc.Global.{Global}
 use Rattle.rs_model.specs.declared.graph.Role.{Role}
 use Rattle.rs_project.specs.Data.{Front_data}
 use Rattle.rs_project.specs.Marks.{Survey_data}
-use Rattle.rs_project.specs.Projected.{Projected}
+use Rattle.rs_project.specs.Numbered.{IsNumberedProjection}
 use Rattle.rs_project.specs.Working.{Working, WorksOn, StateFault}
 use Rattle.rs_project.proofs.Steps.{working-begin, working-on, work-fault, working-done}
 use Rattle.rs_project.proofs.projecting.work.Goals as goal
@@ -34,7 +34,7 @@ returns-clause-ok c =
     let b : c.len-in-loop-states.result ≡ length c.loop-states.fronts = search rules in
     let le : length c.loop-states.fronts ≤ length c.loop-states.states.items = (let f = c.loop-states-test.false in omega (arith, a, b, f)) in
     let sets : List (List ℕ) = map (λ (s : Vec ℕ Global). s.items) c.in_ok-sets.sets.items in
-    let P : Role → Type 0 = λ z. Projected c.args.protocol.now c.args.survey.now.role record { machine = record { role = z; states = c.loop-states.states.items; start = 0 }; sets = sets } in
+    let P : Role → Type 0 = λ z. IsNumberedProjection c.args.protocol.now c.args.survey.now.role record { machine = record { role = z; states = c.loop-states.states.items; start = 0 }; sets = sets } in
     subst P (sym (ap (λ (z : Survey_data). z.role) c.survey.view_is))
     (working-done c.args.protocol.now c.args.survey.now.role c.loop-states.fronts c.loop-states.states.items sets c.requires.reached c.loop-states.invariant le
     (c.in_ok-sets.ensures ∙ ap (λ (z : List Front_data). map (λ (f : Front_data). f.talks) z) c.as_slice.ensures))

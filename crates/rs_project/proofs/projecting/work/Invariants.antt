@@ -1,4 +1,5 @@
 use Rattle.std.proofs.Common.{◌-◌, length}
+use Rattle.rs_model.specs.declared.limits.TheConstants.{MOST_STATES}
 use Rattle.rs_project.specs.Working.{Working}
 use Rattle.rs_project.proofs.projecting.work.Given as goal
 
@@ -6,4 +7,4 @@ abbrev pub invariant-loop-states : goal.invariant-loop-states
 invariant-loop-states l = Working l.protocol l.survey.role l.fronts l.states.items
 
 abbrev pub decreases-loop-states : goal.decreases-loop-states
-decreases-loop-states l = 1024 - length l.states.items
+decreases-loop-states l = MOST_STATES - length l.states.items

@@ -1,5 +1,5 @@
 use Rattle.std.proofs.Common.{◌≡◌, take}
-use Rattle.rs_project.specs.Projected.{nexts_of}
+use Rattle.rs_project.specs.Numbered.{nexts_of}
 use Rattle.rs_project.proofs.rounds.nexts.Given as goal
 
 abbrev pub invariant-loop-arm : goal.invariant-loop-arm

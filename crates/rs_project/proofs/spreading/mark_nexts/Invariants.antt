@@ -1,7 +1,7 @@
 use Rattle.std.proofs.Common.{◌≡◌, ◌+◌, ℕ, Bool, List, drop, length}
 use Rattle.rs_model.specs.Data.{Protocol_data}
 use Rattle.rs_project.specs.Marks.{Spreading, unmarked}
-use Rattle.rs_project.specs.Projected.{nexts_of}
+use Rattle.rs_project.specs.Numbered.{nexts_of}
 use Rattle.rs_project.proofs.spreading.mark_nexts.Given as goal
 
 abbrev pub invariant-loop-arm : goal.invariant-loop-arm

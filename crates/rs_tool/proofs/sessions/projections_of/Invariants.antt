@@ -1,4 +1,4 @@
-use Rattle.rs_tool.specs.Sessions.{AreFirstProjections}
+use Rattle.rs_project.specs.Numbered.{AreFirstProjections}
 use Rattle.rs_tool.proofs.sessions.projections_of.Given as goal
 
 abbrev pub invariant-loop-role : goal.invariant-loop-role

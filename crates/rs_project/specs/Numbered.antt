@@ -1,5 +1,6 @@
 -- The whole meaning of the projection of a protocol onto a role: also its numbers are fixed.
-use Rattle.std.specs.Prelude.{◌≤◌, ℕ, List, [], map, length}
+use Rattle.std.specs.Prelude.{◌≡◌, ◌≤◌, ℕ, List, [], map, length, Some, slice_get}
+use Rattle.rs_model.specs.declared.limits.TheConstants.{MOST_STATES}
 use Rattle.rs_model.specs.Data.{Protocol_data}
 use Rattle.rs_model.specs.declared.graph.Arm.{Arm}
 use Rattle.rs_model.specs.declared.graph.Role.{Role}
@@ -21,8 +22,17 @@ nexts_behind (Takes peer arms) = nexts_of arms
 
 -- it is a projection, its states are numbered in the order in which their sets are found, working on the states in
 -- order of number and on the arms of each in order, no set stands twice, and there are at most 1,024
-pub record Projected (protocol : Protocol_data) (role : Role) (projection : Projection_data) : Type 0 where
+pub record IsNumberedProjection (protocol : Protocol_data) (role : Role) (projection : Projection_data) : Type 0 where
   pub is : IsProjection protocol role projection
   pub order : Worked 0 1 (map nexts_behind projection.machine.states) (length projection.sets)
   pub once : IsOnce projection.sets
-  pub few : length projection.sets ≤ 1024
+  pub few : length projection.sets ≤ MOST_STATES
+
+-- those onto the first so many roles, in role order
+pub record AreFirstProjections (protocol : Protocol_data) (count : ℕ) (projections : List Projection_data) : Type 0 where
+  pub many : length projections ≡ count
+  pub each : (p : ℕ) (projection : Projection_data) → slice_get projections p ≡ Some projection → IsNumberedProjection protocol (record { 0 = p }) projection
+
+-- .. and onto all roles
+abbrev pub AreNumberedProjections : Protocol_data → List Projection_data → Type 0
+AreNumberedProjections protocol projections = AreFirstProjections protocol protocol.roles projections
