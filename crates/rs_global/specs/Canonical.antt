@@ -10,6 +10,7 @@ use Rattle.rs_model.specs.declared.values.Sort.TheVariants as sort
 use Rattle.rs_global.specs.Trees.{Body, ends, again, binds, talks, offers, Branches, one, more, ProtocolTree, roles_of}
 use Rattle.rs_global.specs.Texts.{protocol_text}
 use Rattle.rs_global.specs.Spells.{SpellsProtocol}
+use Rattle.rs_text.specs.Arms.{shown_sort}
 
 -- some text reads to the protocol
 pub record IsTextShaped (protocol : Protocol_data) : Type 0 where
@@ -22,11 +23,6 @@ pub record IsTextShaped (protocol : Protocol_data) : Type 0 where
 -- the recursion name of node n: X and the number
 abbrev pub name_of_node : ℕ → List ℕ
 name_of_node n = codes "X" ++ decimal n
-
--- the unit isn't written
-abbrev pub shown_sort : Sort → Option Sort
-shown_sort sort.Unit = None
-shown_sort s = Some s
 
 -- an arm of node n or a later one leads to n
 pub record IsGoneBackTo (protocol : Protocol_data) (n : ℕ) : Type 0 where

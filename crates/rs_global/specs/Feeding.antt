@@ -230,8 +230,3 @@ ReadsAs bytes at answer = (lexemes : List Lexeme) → Lexed bytes at lexemes →
 -- what the tokens lead the reader to
 abbrev pub Reads : List ℕ → ℕ → Result (Reading Reader_data) TextFault → Type 0
 Reads bytes at reading = ReadsBy feeding begin bytes at reading
-
--- the last number that a name is bound to, by bindings in order
-abbrev pub last_bound : List ℕ → Bound → Option ℕ → Option ℕ
-last_bound name [] found = found
-last_bound name (b ∷ bs) found = last_bound name bs (if bytes_eq b.0 name then Some b.1 else found)

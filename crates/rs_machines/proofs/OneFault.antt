@@ -33,15 +33,9 @@ use Rattle.rs_text.proofs.Keeping.{tokens}
 use Rattle.rs_text.specs.Readings.{Reading, feed_sign, read_all, last_of}
 use Rattle.rs_machines.proofs.Labels.{Tracks, track_first, track_on, track_word}
 use Rattle.rs_text.specs.FirstFaults.{IsWhole, next_of}
+use Rattle.rs_text.proofs.Arms.{arm_not}
 
 -- ---- places behind the machine
-
-arm_no_part : (arm : ArmCut) → wanted_in_arm arm ≡ wanted.PartOrEnd → ⊥
-arm_no_part at_label h = cc
-arm_no_part (behind_label l) h = cc
-arm_no_part (behind_paren l) h = cc
-arm_no_part (behind_sort l s) h = cc
-arm_no_part (behind_head l s) h = cc
 
 mark_no_part : (arm : ArmCut) → wanted_behind_mark arm ≡ wanted.PartOrEnd → ⊥
 mark_no_part at_label h = cc
@@ -64,7 +58,7 @@ mutual
   no_part (behind_brace x y arms) w n h = n h
 
   no_part_in : (a : BranchCut) → wanted_in a ≡ wanted.PartOrEnd → ⊥
-  no_part_in (in_head arm) h = arm_no_part arm h
+  no_part_in (in_head arm) h = arm_not arm wanted.PartOrEnd refl h
   no_part_in (in_branch l s b) h = no_part b wanted.CommaOrCloseBrace (λ e. cc) h
   no_part_in (later l s b arms) h = no_part_in arms h
 

@@ -12,6 +12,7 @@ use Rattle.rs_machines.specs.Machines.{state_of}
 use Rattle.rs_machines.specs.Trees.{Body, ends, again, binds, acts, offers, Branches, one, more, MachineTree}
 use Rattle.rs_machines.specs.Texts.{machine_text}
 use Rattle.rs_machines.specs.Spells.{SpellsMachine}
+use Rattle.rs_text.specs.Arms.{shown_sort}
 
 -- some machine part reads to the machine
 pub record IsMachineTextShaped (machine : Machine_data) : Type 0 where
@@ -25,11 +26,6 @@ pub record IsMachineTextShaped (machine : Machine_data) : Type 0 where
 -- the recursion name of state n: X and the number
 abbrev pub name_of_state : ℕ → List ℕ
 name_of_state n = codes "X" ++ decimal n
-
--- the unit isn't written
-abbrev pub shown_sort : Sort → Option Sort
-shown_sort sort.Unit = None
-shown_sort s = Some s
 
 -- an arm of state n or a later one leads to n
 pub record IsGoneBackTo (machine : Machine_data) (n : ℕ) : Type 0 where

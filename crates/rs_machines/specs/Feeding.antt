@@ -234,8 +234,3 @@ Reads r bytes at reading = ReadsBy feeding r bytes at reading
 abbrev pub Leaves : Stop → Reader_data → List ℕ → ℕ → List (List ℕ) → Type 0
 Leaves stops.Memory r bytes at labels = Unit {0}
 Leaves (stops.Fault f) r bytes at labels = (lexemes : List Lexeme) → Lexed bytes at lexemes → (last_of feeding r (Ok r) lexemes).labels ≡ labels
-
--- the last number that a name is bound to, by bindings in order
-abbrev pub last_bound : List ℕ → Bound → Option ℕ → Option ℕ
-last_bound name [] found = found
-last_bound name (b ∷ bs) found = last_bound name bs (if bytes_eq b.0 name then Some b.1 else found)
