@@ -10,9 +10,8 @@ use Rattle.rs_model.specs.declared.graph.Arm.{Arm}
 use Rattle.rs_model.specs.declared.graph.Node.{Node}
 use Rattle.rs_model.specs.declared.graph.Node.TheVariants.{Talk}
 use Rattle.rs_model.specs.declared.values.Sort.{Sort}
-use Rattle.rs_model.specs.declared.values.Sort.TheVariants as sort
 use Rattle.rs_text.proofs.Values.{decimal_reads}
-use Rattle.rs_text.specs.Arms.{sort_or_unit, shown_sort}
+use Rattle.rs_text.specs.Arms.{sort_or_unit}
 use Rattle.rs_text.specs.Lexemes.{value_of}
 use Rattle.rs_text.specs.Names.{Bound, bound_to, number_or}
 use Rattle.rs_global.specs.Trees.{Body, ends, again, binds, talks, offers, Branches, one, more}

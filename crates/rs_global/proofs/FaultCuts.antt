@@ -1,14 +1,13 @@
 -- A place of the grammar goes on by each token that it takes, and can be completed to a protocol.
-use Rattle.std.proofs.Common.{◌≡◌, ℕ, List, [], ◌∷◌, ◌++◌, codes, Bool, true, false, if◌then◌else◌, Option, Some, None, is_some, refl, sym, ap, ◌∙◌, subst, ◌⊎◌, inl, inr, append_assoc, append-nil}
+use Rattle.std.proofs.Common.{◌≡◌, ℕ, List, [], ◌∷◌, ◌++◌, codes, Bool, true, false, Option, Some, None, is_some, refl, sym, ap, ◌∙◌, subst, ◌⊎◌, inl, inr, append_assoc, append-nil}
 use Rattle.std.proofs.lemmas.Slice.Eq.{bytes_eq-Decides}
 use Rattle.std.specs.List.{flat_map}
 use Rattle.std.specs.Str.{bytes_eq}
 use Rattle.rs_model.specs.declared.values.Sort.{Sort}
-use Rattle.rs_model.specs.declared.values.Sort.TheVariants as sort
 use Rattle.rs_text.specs.declared.faults.Wanted.{Wanted}
 use Rattle.rs_text.specs.declared.faults.Wanted.TheVariants as wanted
 use Rattle.rs_text.specs.Signs.{Sign, rec_word, end_word, plain, arrow, colon, dot, comma, open_brace, close_brace, open_paren, close_paren, word_sign}
-use Rattle.rs_text.specs.Arms.{sort_text, sort_signs, arm_signs, ArmCut, at_label, behind_label, behind_paren, behind_sort, behind_head, arm_cut_signs, wanted_in_arm}
+use Rattle.rs_text.specs.Arms.{sort_signs, arm_signs, ArmCut, at_label, behind_label, behind_paren, behind_sort, behind_head, arm_cut_signs, wanted_in_arm}
 use Rattle.rs_text.specs.Seen.{sort_named}
 use Rattle.rs_global.specs.Trees.{Body, ends, again, binds, talks, offers, Branches, one, more, ProtocolTree, body_signs, branch_signs, further_signs, protocol_signs}
 use Rattle.rs_global.specs.Cuts.{Cut, at_body, behind_end, behind_name, behind_rec, behind_rec_name, in_binds, behind_arrow, behind_receiver, in_arm, in_talks, in_offers, behind_brace, BranchCut, in_head, in_branch, later, ProtocolCut, at_begin, at_first, behind_first, at_further, behind_further, in_body, cut_signs, branch_cut_signs, line_signs, protocol_cut_signs, wanted_at, wanted_in, wanted_of}

@@ -9,7 +9,7 @@ use Rattle.rs_text.specs.declared.faults.Wanted.TheVariants as wanted
 use Rattle.rs_text.specs.Faults.{kind_of}
 use Rattle.rs_text.specs.Lexemes.{Lexeme}
 use Rattle.rs_text.specs.Signs.{Sign, rec_word, plain, arrow, colon, dot, comma, open_brace, broken, finish}
-use Rattle.rs_text.specs.Arms.{arm_signs, wanted_in_arm, ArmCut, at_label, behind_label, behind_paren, behind_sort, behind_head}
+use Rattle.rs_text.specs.Arms.{arm_signs}
 use Rattle.rs_global.specs.declared.reading.Frame.{Frame}
 use Rattle.rs_global.specs.declared.reading.Mode.{Mode}
 use Rattle.rs_global.specs.declared.reading.Mode.TheVariants as mode

@@ -7,7 +7,6 @@ use Rattle.rs_text.specs.declared.faults.Wanted.{Wanted}
 use Rattle.rs_text.specs.declared.faults.Wanted.TheVariants as wanted
 use Rattle.rs_text.specs.Lexemes.{Lexeme, Lexed, signs_of}
 use Rattle.rs_text.specs.Signs.{Sign, rec_word, end_word, plain, open_brace, finish}
-use Rattle.rs_text.specs.Arms.{wanted_in_arm, ArmCut, at_label, behind_label, behind_paren, behind_sort, behind_head}
 use Rattle.rs_global.specs.declared.reading.Frame.{Frame}
 use Rattle.rs_global.specs.declared.reading.Mode.{Mode}
 use Rattle.rs_global.specs.declared.reading.Mode.TheVariants as mode

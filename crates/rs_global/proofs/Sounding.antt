@@ -12,7 +12,7 @@ use Rattle.rs_text.specs.Names.{place_of, is_among, bound_to}
 use Rattle.rs_text.specs.Signs.{Sign, rec_word, end_word, plain, arrow, colon, dot, comma, open_brace, close_brace, open_paren, close_paren, broken}
 use Rattle.rs_text.specs.Sound.{differ, IsSound}
 use Rattle.rs_text.specs.Words.{is_word, is_role_word}
-use Rattle.rs_text.proofs.Naming.{grown_differ, grown_all, not_among, decides_sound, new_differ, new_all}
+use Rattle.rs_text.proofs.Naming.{not_among, decides_sound, new_differ, new_all}
 use Rattle.rs_text.specs.Seen.{sort_named, plain_text, word_text, is_text}
 use Rattle.rs_global.specs.declared.reading.Frame.{Frame}
 use Rattle.rs_global.specs.declared.reading.Link.{Link}

@@ -2,7 +2,7 @@
 use Rattle.std.proofs.Common.{◌≡◌, ◌∷◌, ◌++◌, codes, refl, ap}
 use Rattle.rs_text.specs.declared.faults.Wanted.TheVariants as wanted
 use Rattle.rs_text.specs.Signs.{rec_word, plain, arrow, colon, dot}
-use Rattle.rs_text.specs.Arms.{arm_signs, ArmCut, at_label, behind_label, behind_paren, behind_sort, behind_head, wanted_in_arm}
+use Rattle.rs_text.specs.Arms.{arm_signs}
 use Rattle.rs_global.specs.Trees.{Body, ends, again, binds, talks, offers, ProtocolTree, body_signs, protocol_signs, ends_by_name}
 use Rattle.rs_global.specs.Cuts.{Cut, at_body, behind_end, behind_name, behind_rec, behind_rec_name, in_binds, behind_arrow, behind_receiver, in_arm, in_talks, in_offers, behind_brace, BranchCut, in_head, in_branch, later, ProtocolCut, in_body, cut_signs, line_signs, protocol_cut_signs, wanted_at, wanted_in, wanted_of}
 use Rattle.rs_global.proofs.FaultPlaces.{is_named, is_named_of}

@@ -10,7 +10,7 @@ use Rattle.rs_text.specs.Names.{is_among, grown, Bound}
 use Rattle.rs_text.specs.Sound.{differ}
 use Rattle.rs_text.specs.Signs.{Sign, plain, comma}
 use Rattle.rs_text.proofs.Gaps.{true_or_false}
-use Rattle.rs_text.proofs.Naming.{grown_differ, new_differ}
+use Rattle.rs_text.proofs.Naming.{new_differ}
 use Rattle.rs_global.specs.declared.reading.Link.TheVariants as link
 use Rattle.rs_global.specs.declared.reading.Mode.{Mode}
 use Rattle.rs_global.specs.declared.reading.Mode.TheVariants as mode

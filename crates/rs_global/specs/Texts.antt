@@ -1,7 +1,6 @@
 -- The text of a protocol tree, with the spacing of canonical texts.
-use Rattle.std.specs.Prelude.{ℕ, List, [], ◌∷◌, ◌++◌, codes, Option, Some, None}
-use Rattle.rs_model.specs.declared.values.Sort.{Sort}
-use Rattle.rs_text.specs.Arms.{sort_text, arm_text}
+use Rattle.std.specs.Prelude.{ℕ, List, [], ◌∷◌, ◌++◌, codes}
+use Rattle.rs_text.specs.Arms.{arm_text}
 use Rattle.rs_global.specs.Trees.{Body, ends, again, binds, talks, offers, Branches, one, more, ProtocolTree, roles_of}
 
 -- a body: a space behind each dot and behind each comma

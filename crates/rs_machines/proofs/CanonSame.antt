@@ -9,9 +9,8 @@ use Rattle.rs_model.specs.Data.{Machine_data}
 use Rattle.rs_model.specs.declared.graph.Arm.{Arm}
 use Rattle.rs_model.specs.declared.machines.State.{State}
 use Rattle.rs_model.specs.declared.values.Sort.{Sort}
-use Rattle.rs_model.specs.declared.values.Sort.TheVariants as sort
 use Rattle.rs_text.proofs.Values.{decimal_reads}
-use Rattle.rs_text.specs.Arms.{sort_or_unit, shown_sort}
+use Rattle.rs_text.specs.Arms.{sort_or_unit}
 use Rattle.rs_text.specs.Lexemes.{value_of}
 use Rattle.rs_text.specs.Names.{Bound, bound_to, number_or}
 use Rattle.rs_machines.specs.Trees.{Body, ends, again, binds, acts, offers, Branches, one, more}

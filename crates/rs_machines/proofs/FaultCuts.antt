@@ -1,13 +1,12 @@
 -- A place of the grammar goes on by each token that it takes, and can be completed to a machine.
-use Rattle.std.proofs.Common.{◌≡◌, ℕ, List, [], ◌∷◌, ◌++◌, codes, Bool, true, false, if◌then◌else◌, Option, Some, None, is_some, refl, sym, ap, ◌∙◌, subst, ◌⊎◌, inl, inr, append_assoc, append-nil}
+use Rattle.std.proofs.Common.{◌≡◌, ℕ, List, [], ◌∷◌, ◌++◌, codes, Bool, true, false, Option, Some, None, is_some, refl, sym, ap, ◌∙◌, subst, ◌⊎◌, inl, inr, append_assoc, append-nil}
 use Rattle.std.proofs.lemmas.Slice.Eq.{bytes_eq-Decides}
 use Rattle.std.specs.Str.{bytes_eq}
 use Rattle.rs_model.specs.declared.values.Sort.{Sort}
-use Rattle.rs_model.specs.declared.values.Sort.TheVariants as sort
 use Rattle.rs_text.specs.declared.faults.Wanted.{Wanted}
 use Rattle.rs_text.specs.declared.faults.Wanted.TheVariants as wanted
 use Rattle.rs_text.specs.Signs.{Sign, rec_word, end_word, plain, colon, dot, comma, open_brace, close_brace, open_paren, close_paren, word_sign}
-use Rattle.rs_text.specs.Arms.{sort_text, sort_signs, arm_signs, ArmCut, at_label, behind_label, behind_paren, behind_sort, behind_head, arm_cut_signs, wanted_in_arm}
+use Rattle.rs_text.specs.Arms.{sort_signs, arm_signs, ArmCut, at_label, behind_label, behind_paren, behind_sort, behind_head, arm_cut_signs, wanted_in_arm}
 use Rattle.rs_text.specs.Seen.{sort_named}
 use Rattle.rs_machines.specs.Trees.{Body, ends, again, binds, acts, offers, Branches, one, more, MachineTree, mark_sign, body_signs, branch_signs, machine_signs}
 use Rattle.rs_machines.specs.Cuts.{Cut, at_body, behind_end, behind_name, behind_rec, behind_rec_name, in_binds, in_arm, in_acts, in_offers, behind_brace, BranchCut, in_head, in_branch, later, MachineCut, at_begin, at_role, behind_role, in_body, cut_signs, branch_cut_signs, machine_cut_signs, wanted_at, wanted_in, wanted_behind_mark}

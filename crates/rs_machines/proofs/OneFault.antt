@@ -8,7 +8,7 @@ use Rattle.rs_text.specs.declared.faults.Wanted.TheVariants as wanted
 use Rattle.rs_text.specs.Lexemes.{Lexeme, Lexed, signs_of}
 use Rattle.rs_text.specs.Signs.{Sign, rec_word, end_word, plain, open_brace, finish}
 use Rattle.rs_text.proofs.Nexts.{one_list}
-use Rattle.rs_text.specs.Arms.{wanted_in_arm, ArmCut, at_label, behind_label, behind_paren, behind_sort, behind_head}
+use Rattle.rs_text.specs.Arms.{ArmCut, at_label, behind_label, behind_paren, behind_sort, behind_head}
 use Rattle.rs_machines.specs.declared.reading.Frame.{Frame}
 use Rattle.rs_machines.specs.declared.reading.Mode.{Mode}
 use Rattle.rs_machines.specs.declared.reading.Mode.TheVariants as mode

@@ -1,15 +1,13 @@
 -- The text of a tree is written for its tokens.
-use Rattle.std.proofs.Common.{◌≡◌, ℕ, ◌+◌, ◌<◌, ◌≤◌, List, [], ◌∷◌, ◌++◌, length, drop, codes, true, false, Option, Some, None, refl, sym, ap, subst, append-nil, length-append, length-drop, arith}
-use Rattle.rs_model.specs.declared.values.Sort.{Sort}
-use Rattle.rs_model.specs.declared.values.Sort.TheVariants as sort
+use Rattle.std.proofs.Common.{◌≡◌, ℕ, ◌+◌, ◌<◌, ◌≤◌, List, [], ◌∷◌, ◌++◌, length, drop, codes, true, false, refl, sym, ap, subst, append-nil, length-append, length-drop, arith}
 use Rattle.rs_model.specs.Data.{Names_data}
 use Rattle.rs_machines.specs.declared.marks.Mark.{Mark}
 use Rattle.rs_machines.specs.declared.marks.Mark.TheVariants as mark
-use Rattle.rs_text.specs.Arms.{sort_text, sort_signs, arm_signs, shown_text, arm_text}
+use Rattle.rs_text.specs.Arms.{arm_signs, arm_text}
 use Rattle.rs_text.specs.Bytes.{is_word_byte}
 use Rattle.rs_text.specs.Lexemes.{Lexeme, Lexed, next_lexeme}
-use Rattle.rs_text.specs.Signs.{Sign, plain, bang, question, colon, dot, comma, open_brace, close_brace, open_paren, close_paren, finish}
-use Rattle.rs_text.specs.Words.{begins, is_word, is_role_word}
+use Rattle.rs_text.specs.Signs.{Sign, plain, bang, question, colon, dot, comma, open_brace, close_brace, finish}
+use Rattle.rs_text.specs.Words.{begins, is_role_word}
 use Rattle.rs_text.specs.Writing.{IsWritten}
 use Rattle.rs_text.proofs.Written.{nothing_written, joined, before_blank, before_mark, before_word, before_role, word_written, role_written, written_cut}
 use Rattle.rs_text.proofs.Nexts.{exists, are_lexed, end_again}

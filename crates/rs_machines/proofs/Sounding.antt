@@ -16,7 +16,7 @@ use Rattle.rs_text.specs.Signs.{Sign, rec_word, end_word, plain, bang, question,
 use Rattle.rs_text.specs.Sound.{differ, IsSound}
 use Rattle.rs_text.specs.Data.{Lexer_data}
 use Rattle.rs_text.specs.Words.{is_word, is_role_word}
-use Rattle.rs_text.proofs.Naming.{grown_differ, grown_all, not_among, decides_sound, new_differ, new_all}
+use Rattle.rs_text.proofs.Naming.{not_among, decides_sound, new_differ, new_all}
 use Rattle.rs_text.proofs.Nexts.{next_is_next, plain_law}
 use Rattle.rs_text.specs.Seen.{sort_named, plain_text, word_text, is_text}
 use Rattle.rs_machines.specs.declared.marks.Mark.{Mark}

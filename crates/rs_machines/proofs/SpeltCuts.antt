@@ -2,7 +2,7 @@
 use Rattle.std.proofs.Common.{◌≡◌, ◌∷◌, ◌++◌, codes, refl, ap}
 use Rattle.rs_text.specs.declared.faults.Wanted.TheVariants as wanted
 use Rattle.rs_text.specs.Signs.{rec_word, plain, colon, dot}
-use Rattle.rs_text.specs.Arms.{arm_signs, ArmCut, at_label, behind_label, behind_paren, behind_sort, behind_head, wanted_in_arm}
+use Rattle.rs_text.specs.Arms.{arm_signs, ArmCut, at_label, behind_label, behind_paren, behind_sort, behind_head}
 use Rattle.rs_machines.specs.Trees.{Body, ends, again, binds, acts, offers, MachineTree, mark_sign, body_signs, machine_signs, ends_by_name}
 use Rattle.rs_machines.specs.Cuts.{Cut, at_body, behind_end, behind_name, behind_rec, behind_rec_name, in_binds, in_arm, in_acts, in_offers, behind_brace, BranchCut, in_head, in_branch, later, MachineCut, in_body, cut_signs, machine_cut_signs, wanted_at, wanted_in, wanted_behind_mark}
 use Rattle.rs_machines.proofs.FaultPlaces.{place_wants, is_named, is_named_of}

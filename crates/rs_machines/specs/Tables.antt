@@ -1,6 +1,6 @@
 -- The table that a machine is printed as.
 pub use Rattle.rs_text.specs.Names.{name_at}
-use Rattle.std.specs.Prelude.{ℕ, suc, List, [], ◌∷◌, ◌++◌, codes, slice_get, Option, Some, None}
+use Rattle.std.specs.Prelude.{ℕ, suc, List, [], ◌∷◌, ◌++◌, codes}
 use Rattle.std.specs.Fmt.{decimal}
 use Rattle.std.specs.List.{flat_map}
 use Rattle.rs_model.specs.Data.{Machine_data, Names_data}

@@ -1,7 +1,6 @@
 -- The text of a machine tree, with the spacing of canonical texts.
-use Rattle.std.specs.Prelude.{ℕ, List, [], ◌++◌, codes, Option, Some, None}
-use Rattle.rs_model.specs.declared.values.Sort.{Sort}
-use Rattle.rs_text.specs.Arms.{sort_text, arm_text}
+use Rattle.std.specs.Prelude.{ℕ, List, ◌++◌, codes}
+use Rattle.rs_text.specs.Arms.{arm_text}
 use Rattle.rs_machines.specs.declared.marks.Mark.{Mark}
 use Rattle.rs_machines.specs.declared.marks.Mark.TheVariants as mark
 use Rattle.rs_machines.specs.Trees.{Body, ends, again, binds, acts, offers, Branches, one, more, MachineTree}

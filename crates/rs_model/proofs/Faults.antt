@@ -1,19 +1,18 @@
 -- What the first fault of a machine says, and that a machine has none exactly where it is well formed.
-use Rattle.std.proofs.Common.{◌≡◌, ◌≢◌, ◌⊎◌, ℕ, zero, suc, ◌+◌, ◌<◌, ◌≤◌, List, [], ◌∷◌, ◌++◌, length, Bool, true, false, cond, eqb, ltb, leb, ◌==◌, ◌&&◌, Option, Some, None, slice_get, inl, inr, ⊎_elim, sym, refl, ap, subst, ◌∙◌, arith, append_assoc, length-append, zero-add}
-use Rattle.std.proofs.lemmas.Bool.{cases_order, ltb-true, ltb-false, leb-true, leb-false, eqb-true, eqb-false, or_cases, or_parts, and_cases, and_parts, false≢true}
-use Rattle.std.proofs.lemmas.Option.{none-some, same_Some, slice_get_within}
+use Rattle.std.proofs.Common.{◌≡◌, ◌≢◌, ℕ, zero, suc, ◌+◌, ◌<◌, ◌≤◌, List, [], ◌∷◌, length, cond, eqb, ltb, leb, ◌&&◌, Option, Some, None, slice_get, inl, inr, ⊎_elim, sym, refl, ap, subst, ◌∙◌, arith, zero-add}
+use Rattle.std.proofs.lemmas.Bool.{ltb-true, ltb-false, leb-true, leb-false, eqb-true, eqb-false, and_cases, and_parts}
+use Rattle.std.proofs.lemmas.Option.{none-some, same_Some}
 use Rattle.std.specs.List.{list_any}
 use Rattle.rs_model.proofs.Tests.{or_some, or_none, cond_is, label_is, label_none, any_place, any_not, role_same, stands_twice, once}
 use Rattle.rs_model.specs.Tests.{or_later, label_fault}
 use Rattle.rs_model.proofs.Order.{in_order}
 use Rattle.rs_model.specs.Data.{Machine_data}
 use Rattle.rs_model.specs.Checks.{first_repeat, nexts_fault, peer_fault, arms_fault, choice_fault, state_fault, states_fault, start_fault, machine_fault}
-use Rattle.rs_model.specs.Faults.{Chooses, StandsTwice, LeadsOut, Blames, first_fault}
+use Rattle.rs_model.specs.Faults.{Chooses, LeadsOut, Blames, first_fault}
 use Rattle.rs_model.specs.WellFormed.{StateFits, IsWellFormedMachine}
 use Rattle.rs_model.specs.declared.checks.MachineFault.{MachineFault}
 use Rattle.rs_model.specs.declared.checks.MachineFault.TheVariants.{BadNext, NoArms, TwiceLabel, SelfPeer, UnknownPeer}
 use Rattle.rs_model.specs.declared.graph.Arm.{Arm}
-use Rattle.rs_model.specs.declared.graph.Label.{Label}
 use Rattle.rs_model.specs.declared.graph.Role.{Role}
 use Rattle.rs_model.specs.declared.machines.State.{State}
 use Rattle.rs_model.specs.declared.machines.State.TheVariants.{Done, Puts, Takes}

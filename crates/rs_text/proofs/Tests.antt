@@ -1,5 +1,5 @@
 -- Small laws of tests, options and lists.
-use Rattle.std.proofs.Common.{Some, Bool, refl, true, false, inr, inl, arith, suc, nat_lt, slice_get, List, zero, ap, drop, length, subst, ◌≡◌, ◌≢◌, ℕ, ◌+◌, ◌-◌, ◌<◌, ◌≤◌, [], ◌∷◌, ◌++◌, codes, ◌&&◌, ◌||◌, ◌==◌, not, if◌then◌else◌, nat_le, Option, None, sym, ◌∙◌, append_assoc, length-append}
+use Rattle.std.proofs.Common.{Some, Bool, refl, true, false, inr, inl, arith, suc, nat_lt, slice_get, List, zero, ap, drop, length, subst, ◌≡◌, ◌≢◌, ℕ, ◌+◌, ◌<◌, [], ◌∷◌, ◌++◌, ◌&&◌, ◌||◌, ◌==◌, ◌∙◌}
 use Rattle.std.proofs.lemmas.Bool.Decides.{eqb_tells, leb_tells}
 use Rattle.std.specs.List.{list_any, list_all}
 use Rattle.rs_text.proofs.Gaps.{true_or_false}

@@ -5,7 +5,6 @@ use Rattle.rs_model.specs.Tests.{or_later, label_fault}
 use Rattle.rs_model.specs.Checks.{first_repeat}
 use Rattle.rs_model.specs.Data.{Protocol_data}
 use Rattle.rs_model.specs.declared.graph.Arm.{Arm}
-use Rattle.rs_model.specs.declared.graph.Label.{Label}
 use Rattle.rs_model.specs.declared.graph.Node.{Node}
 use Rattle.rs_model.specs.declared.graph.Node.TheVariants.{Finished, Talk}
 use Rattle.rs_model.specs.declared.graph.Role.{Role}
