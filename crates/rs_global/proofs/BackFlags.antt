@@ -10,7 +10,7 @@ use Rattle.rs_model.specs.declared.graph.Node.TheVariants.{Finished, Talk}
 use Rattle.rs_model.specs.declared.graph.Role.{Role}
 use Rattle.rs_global.specs.Canonical.{IsGoneBackTo}
 use Rattle.rs_global.specs.Printing.{marked, marked_node, marked_all, AreBack}
-use Rattle.rs_text.proofs.Tests.{some_is}
+use Rattle.rs_text.proofs.Basics.{some_is}
 
 abbrev one_marked : ℕ → Arm → List Bool → List Bool
 one_marked node a flags = if nat_le a.next node && nat_lt a.next (length flags) then slice_set flags a.next true else flags

@@ -15,7 +15,7 @@ use Rattle.rs_global.specs.Scenes.{Scene, with_label, in_talk, in_braces, in_rec
 use Rattle.rs_global.specs.Spells.{is_guarded, body_fits, arms_fit}
 use Rattle.rs_global.specs.Canonical.{name_of_node, IsGoneBackTo}
 use Rattle.rs_global.specs.Shapes.{leads_to, talk_leads, leads_from}
-use Rattle.rs_text.proofs.Tests.{some_is, both, any_stands, stands_any, drop_get}
+use Rattle.rs_text.proofs.Basics.{some_is, both, any_stands, stands_any, drop_get}
 
 -- ---- what stands in a list
 

@@ -20,7 +20,7 @@ use Rattle.rs_global.specs.Shapes.{deeper}
 use Rattle.rs_global.proofs.CanonForms.{goes_back, Writing, role_as, label_as, sort_as, wrapped, canon, canon_arms, Named, NamedArms, Low, low_rec, low_up}
 use Rattle.rs_global.proofs.CanonSame.{Leads, Fine, FineArms, Inv, InvAll, inv_rec, inv_talk, inv_all, opened_for, canon_talks}
 use Rattle.rs_global.proofs.Existence.{nodes_length}
-use Rattle.rs_text.proofs.Tests.{some_is, two_true, both}
+use Rattle.rs_text.proofs.Basics.{some_is, two_true, both}
 
 -- ---- a rec stands right in front of each talk that is gone back to
 

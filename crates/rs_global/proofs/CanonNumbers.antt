@@ -17,7 +17,7 @@ use Rattle.rs_global.specs.Trees.{Body, ends, again, binds, talks, offers, Branc
 use Rattle.rs_global.specs.Graph.{labels_of, labels_of_arms, talks_in, has_end, Numbering, role_of, label_of, first_node, arm_of, arms_of, talk_of, nodes_of, nodes_of_arms, numbering, graph_of, finish_of}
 use Rattle.rs_global.proofs.CanonForms.{role_as, label_as, or_empty}
 use Rattle.rs_global.proofs.Existence.{AreEnough, roles_stand, label_stands, one_longer, at_seam, nodes_length, writing_of}
-use Rattle.rs_text.proofs.Tests.{some_is, both, or_first, or_cases}
+use Rattle.rs_text.proofs.Basics.{some_is, both, or_first, or_cases}
 
 -- ---- each label of a text is an arm's
 

@@ -13,7 +13,7 @@ use Rattle.rs_global.specs.Texts.{protocol_text}
 use Rattle.rs_global.specs.Trees.{Body, ends, again, binds, talks, offers, Branches, one, more, ProtocolTree, roles_of}
 use Rattle.rs_global.specs.Graph.{talks_in, has_end, Numbering, nodes_of, nodes_of_arms, numbering, graph_of, finish_of}
 use Rattle.rs_global.specs.Canonical.{IsTextShaped, IsTalkOf, IsArmOf, IsOneArm, AreArms, Draws, DrawsTalk, DrawsArms, IsCanonical, IsCanonicalText}
-use Rattle.rs_text.proofs.Tests.{some_is, first_true, second_true, two_true}
+use Rattle.rs_text.proofs.Basics.{some_is, first_true, second_true, two_true}
 
 -- ---- the end stands behind all talks
 

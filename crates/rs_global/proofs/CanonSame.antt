@@ -20,7 +20,7 @@ use Rattle.rs_global.specs.Spells.{is_guarded}
 use Rattle.rs_global.specs.Canonical.{name_of_node}
 use Rattle.rs_global.proofs.CanonForms.{goes_back, is_back, Writing, role_as, label_as, sort_as, wrapped, offered, canon, canon_arms, Named, NamedArms, Low, low_rec, low_up, Ins, ins_rec}
 use Rattle.rs_global.proofs.Existence.{one_longer, at_seam, nodes_length}
-use Rattle.rs_text.proofs.Tests.{some_is}
+use Rattle.rs_text.proofs.Basics.{some_is}
 use Rattle.rs_text.proofs.Arms.{sort_same}
 
 -- ---- the names of nodes differ

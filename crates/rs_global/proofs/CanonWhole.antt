@@ -30,7 +30,7 @@ use Rattle.rs_global.proofs.Existence.{roles_stand, label_stands, roles_with, wr
 use Rattle.rs_global.proofs.NodeNames.{node_name_law}
 use Rattle.rs_global.proofs.PrintedTrees.{lone_tree_spelt}
 use Rattle.rs_global.proofs.SpeltLaws.{one_spelling}
-use Rattle.rs_text.proofs.Tests.{some_is, or_first}
+use Rattle.rs_text.proofs.Basics.{some_is, or_first}
 
 -- ---- the canonical tree of what a tree spells
 

@@ -12,7 +12,7 @@ use Rattle.rs_global.specs.Canonical.{IsTextShaped}
 use Rattle.rs_global.specs.Graph.{Numbering, numbering, nodes_of, nodes_of_arms, finish_of, has_end, talks_in, graph_of}
 use Rattle.rs_global.specs.Trees.{Body, ends, again, binds, talks, offers, Branches, one, more, ProtocolTree}
 use Rattle.rs_global.proofs.Printed.{EndIsLast}
-use Rattle.rs_text.proofs.Tests.{some_is}
+use Rattle.rs_text.proofs.Basics.{some_is}
 
 abbrev is_talk : Node → Bool
 is_talk Finished = false

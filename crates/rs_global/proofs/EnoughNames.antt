@@ -15,7 +15,7 @@ use Rattle.rs_global.specs.Enough.{AreEnough}
 use Rattle.rs_global.specs.Graph.{Numbering, numbering, label_of, labels_of, labels_of_arms, arms_of, nodes_of, nodes_of_arms, finish_of, has_end, talks_in, names_of, graph_of}
 use Rattle.rs_global.specs.Spells.{SpellsProtocol}
 use Rattle.rs_global.specs.Trees.{Body, ends, again, binds, talks, offers, Branches, one, more, ProtocolTree}
-use Rattle.rs_text.proofs.Tests.{both, test_below, one_of, below_test, two_true}
+use Rattle.rs_text.proofs.Basics.{both, test_below, one_of, below_test, two_true}
 
 -- a label has a number below the count of the labels
 abbrev is_numbered : Numbering → List ℕ → Bool

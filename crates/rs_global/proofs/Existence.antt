@@ -16,7 +16,7 @@ use Rattle.rs_global.specs.Spells.{is_guarded, Fits}
 use Rattle.rs_global.specs.Scenes.{first_scene}
 use Rattle.rs_global.specs.Canonical.{IsTextShaped, name_of_node, IsTalkOf, IsArmOf, IsOneArm, AreArms, Draws, DrawsArms, IsCanonical}
 use Rattle.rs_global.proofs.CanonForms.{goes_back, back_is, is_back, or_empty, Writing, role_as, label_as, sort_as, wrapped, canon, canon_arms, Named, NamedArms, fits_named, Low, low_rec, low_up, Ins, ins_rec}
-use Rattle.rs_text.proofs.Tests.{or_end, seam}
+use Rattle.rs_text.proofs.Basics.{or_end, seam}
 
 mutual
   pub nodes_length : (m : Numbering) (b : Body) (bound : Bound) (k : ℕ) → length (nodes_of m b bound k) ≡ talks_in b

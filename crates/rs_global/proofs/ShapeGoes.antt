@@ -21,7 +21,7 @@ use Rattle.rs_global.specs.Shapes.{leads_to, talk_leads, leads_from, last_of, la
 use Rattle.rs_global.proofs.CanonForms.{Low, low_rec, low_up, Ins, ins_rec, Named, NamedArms}
 use Rattle.rs_global.proofs.CanonNest.{Recs, RecsArms, scene, few_labels, fits_labels}
 use Rattle.rs_global.proofs.Existence.{nodes_length, arms_length, one_longer, at_seam}
-use Rattle.rs_text.proofs.Tests.{both, or_true, or_false, or_assoc, false_or, and_false, not_equal}
+use Rattle.rs_text.proofs.Basics.{both, or_true, or_false, or_assoc, false_or, and_false, not_equal}
 
 abbrev walk : ℕ → ℕ → Bool → Walk
 walk count labels ended = record { count = count; labels = labels; ended = ended }

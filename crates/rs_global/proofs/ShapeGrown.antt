@@ -29,7 +29,7 @@ use Rattle.rs_global.proofs.CanonSame.{node_name_is, opened_for, wrapped_talks, 
 use Rattle.rs_global.proofs.CanonWhole.{one_words}
 use Rattle.rs_global.proofs.NodeNames.{node_name_law}
 use Rattle.rs_text.proofs.PlainNames.{plain_name, plain_names, plain_stands, plain_place, plain_grown, plain_role, plain_label, plain_count}
-use Rattle.rs_text.proofs.Tests.{some_is, two_true, both, or_true, or_false, or_assoc, or_first, any_stands, stands_any, drop_get}
+use Rattle.rs_text.proofs.Basics.{some_is, two_true, both, or_true, or_false, or_assoc, or_first, any_stands, stands_any, drop_get}
 use Rattle.rs_text.proofs.Arms.{sort_same}
 
 -- ---- cases of options

@@ -29,7 +29,7 @@ use Rattle.rs_text.proofs.PlainNames.{plain_names, plain_count, plain_differ, pl
 use Rattle.rs_global.proofs.PrintedTrees.{lone_tree_spelt}
 use Rattle.rs_global.proofs.ShapeGoes.{goes}
 use Rattle.rs_global.proofs.ShapeGrown.{Small, Grown, numbers, met_grown, visited_grown}
-use Rattle.rs_text.proofs.Tests.{some_is, both, seam}
+use Rattle.rs_text.proofs.Basics.{some_is, both, seam}
 
 -- ---- the end of a graph
 

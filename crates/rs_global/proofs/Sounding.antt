@@ -25,7 +25,7 @@ use Rattle.rs_global.specs.Feeding.{Fed, Answer, Reads, ReadsAs, answered, begin
 use Rattle.rs_text.specs.Readings.{Reading, feed_sign, read_all}
 use Rattle.rs_text.proofs.Keeping.{tokens, kept, KeptIn}
 use Rattle.rs_text.proofs.Judging.{IsNamed}
-use Rattle.rs_text.proofs.Tests.{some_is}
+use Rattle.rs_text.proofs.Basics.{some_is}
 
 -- names that texts can have, as many as there may be
 pub record Sound (roles labels : List (List ℕ)) : Type 0 where

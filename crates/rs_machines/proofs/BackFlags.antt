@@ -13,7 +13,7 @@ use Rattle.rs_machines.specs.Machines.{state_of}
 use Rattle.rs_model.specs.declared.graph.Role.{Role}
 use Rattle.rs_machines.specs.Canonical.{IsGoneBackTo}
 use Rattle.rs_machines.specs.Printing.{marked, marked_state, marked_all, AreBack}
-use Rattle.rs_text.proofs.Tests.{some_is}
+use Rattle.rs_text.proofs.Basics.{some_is}
 
 abbrev one_marked : ℕ → Arm → List Bool → List Bool
 one_marked state a flags = if nat_le a.next state && nat_lt a.next (length flags) then slice_set flags a.next true else flags

@@ -19,7 +19,7 @@ use Rattle.rs_machines.specs.Scenes.{Scene, with_label, in_act, in_braces, in_re
 use Rattle.rs_machines.specs.Spells.{is_guarded, body_fits, arms_fit}
 use Rattle.rs_machines.specs.Canonical.{name_of_state, IsGoneBackTo}
 use Rattle.rs_machines.specs.Shapes.{leads_to, act_leads, leads_from}
-use Rattle.rs_text.proofs.Tests.{some_is, both, any_stands, stands_any, drop_get}
+use Rattle.rs_text.proofs.Basics.{some_is, both, any_stands, stands_any, drop_get}
 
 -- ---- what stands in a list
 

@@ -22,7 +22,7 @@ use Rattle.rs_machines.specs.Shapes.{deeper}
 use Rattle.rs_machines.proofs.CanonForms.{goes_back, Writing, role_as, label_as, sort_as, wrapped, offered, canon, canon_arms, Named, NamedArms, Low, low_rec, low_up, HasRole, HasLabel, HasNames, HasNamesArms}
 use Rattle.rs_machines.proofs.CanonSame.{Leads, Fine, FineArms, Inv, InvAll, inv_rec, inv_act, inv_all, opened_for, canon_acts, wrapped_labels, offered_labels}
 use Rattle.rs_machines.proofs.Existence.{states_length}
-use Rattle.rs_text.proofs.Tests.{some_is, two_true, both, or_first}
+use Rattle.rs_text.proofs.Basics.{some_is, two_true, both, or_first}
 
 -- ---- a rec stands right in front of each act that is gone back to
 

@@ -9,7 +9,7 @@ use Rattle.rs_text.specs.Words.{is_word, is_role_word}
 use Rattle.rs_machines.specs.Machines.{role_of, label_of}
 use Rattle.rs_machines.proofs.CanonForms.{Writing, role_as, label_as, HasRole, HasLabel}
 use Rattle.rs_machines.proofs.Existence.{role_stands, label_stands}
-use Rattle.rs_text.proofs.Tests.{both}
+use Rattle.rs_text.proofs.Basics.{both}
 
 -- ---- the names that are written
 

@@ -29,7 +29,7 @@ use Rattle.rs_machines.proofs.EnoughNames.{with_name, placed, spelt_enough, spel
 use Rattle.rs_machines.proofs.Existence.{tree_has_names, writing_of, canonical_tree, canonical_of}
 use Rattle.rs_machines.proofs.PrintedTrees.{lone_tree_spelt}
 use Rattle.rs_text.proofs.Naming.{grown_stays}
-use Rattle.rs_text.proofs.Tests.{two_true, both}
+use Rattle.rs_text.proofs.Basics.{two_true, both}
 
 -- ---- labels that are written as they were
 

@@ -12,7 +12,7 @@ use Rattle.rs_machines.specs.declared.marks.Mark.{Mark}
 use Rattle.rs_machines.proofs.Acts.{no_act, act_parts}
 use Rattle.rs_machines.proofs.EndsLast.{EndsLast, shaped_ends_last}
 use Rattle.rs_machines.specs.Canonical.{IsMachineTextShaped, IsActOf, IsArmOf, IsOneArm, AreArms, Draws, DrawsAct, DrawsArms, IsCanonical, IsCanonicalMachineText}
-use Rattle.rs_text.proofs.Tests.{some_is}
+use Rattle.rs_text.proofs.Basics.{some_is}
 
 -- ---- two bodies for one state
 

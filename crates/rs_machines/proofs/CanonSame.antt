@@ -20,7 +20,7 @@ use Rattle.rs_machines.specs.Canonical.{name_of_state}
 use Rattle.rs_machines.proofs.CanonForms.{goes_back, is_back, Writing, role_as, label_as, sort_as, wrapped, offered, canon, canon_arms, Named, NamedArms, Low, low_rec, low_up, Ins, ins_rec, HasRole, HasLabel, HasNames, HasNamesArms}
 use Rattle.rs_machines.specs.declared.marks.Mark.{Mark}
 use Rattle.rs_machines.proofs.Existence.{one_longer, at_seam, states_length}
-use Rattle.rs_text.proofs.Tests.{some_is}
+use Rattle.rs_text.proofs.Basics.{some_is}
 use Rattle.rs_text.proofs.Arms.{sort_same}
 
 -- ---- the names of states differ

@@ -13,7 +13,7 @@ use Rattle.rs_machines.specs.Machines.{acts_in, has_end, state_of, role_of, firs
 use Rattle.rs_machines.specs.Canonical.{IsMachineTextShaped}
 use Rattle.rs_machines.specs.declared.marks.Mark.{Mark}
 use Rattle.rs_machines.proofs.Acts.{is_act, acts_are, no_act}
-use Rattle.rs_text.proofs.Tests.{some_is, first_true, second_true, two_true}
+use Rattle.rs_text.proofs.Basics.{some_is, first_true, second_true, two_true}
 
 -- ---- the end stands behind all acts
 

@@ -19,7 +19,7 @@ use Rattle.rs_machines.specs.Machines.{state_of, role_of, first_state, arm_of, a
 use Rattle.rs_machines.specs.Spells.{Fits, SpellsMachine}
 use Rattle.rs_machines.proofs.SpeltShapes.{Good, tree_good, peer_known}
 use Rattle.rs_machines.specs.Trees.{Body, ends, again, binds, acts, offers, Branches, one, more, MachineTree}
-use Rattle.rs_text.proofs.Tests.{both, test_below, one_of, below_test, two_true}
+use Rattle.rs_text.proofs.Basics.{both, test_below, one_of, below_test, two_true}
 
 -- a label has a number below the count of the labels
 abbrev is_numbered : Numbering → List ℕ → Bool

@@ -17,7 +17,7 @@ use Rattle.rs_machines.specs.Enough.{AreEnoughFor}
 use Rattle.rs_machines.specs.Texts.{machine_text}
 use Rattle.rs_machines.specs.declared.marks.Mark.{Mark}
 use Rattle.rs_machines.proofs.CanonForms.{goes_back, back_is, is_back, or_empty, Writing, role_as, label_as, sort_as, wrapped, canon, canon_arms, Named, NamedArms, fits_named, Low, low_rec, low_up, Ins, ins_rec, HasNames, HasNamesArms}
-use Rattle.rs_text.proofs.Tests.{or_end, seam}
+use Rattle.rs_text.proofs.Basics.{or_end, seam}
 
 mutual
   pub states_length : (m : Numbering) (b : Body) (bound : Bound) (k : ℕ) → length (states_of m b bound k) ≡ acts_in b

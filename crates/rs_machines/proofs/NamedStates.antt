@@ -17,7 +17,7 @@ use Rattle.rs_machines.specs.Scenes.{Scene, with_label, in_act, in_braces, in_re
 use Rattle.rs_machines.specs.Spells.{has_room_for, body_fits, arms_fit, Fits, SpellsMachine}
 use Rattle.rs_machines.specs.Trees.{Body, ends, again, binds, acts, offers, Branches, one, more, MachineTree}
 use Rattle.rs_machines.proofs.SpeltShapes.{and_split, or_right, known_by}
-use Rattle.rs_text.proofs.Tests.{or_first}
+use Rattle.rs_text.proofs.Basics.{or_first}
 
 -- all of these names are among those
 abbrev Has : List (List ℕ) → List (List ℕ) → Type 0

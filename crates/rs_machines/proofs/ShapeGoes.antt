@@ -20,7 +20,7 @@ use Rattle.rs_machines.specs.Shapes.{leads_to, act_leads, leads_from, last_of, m
 use Rattle.rs_machines.proofs.CanonForms.{Low, low_rec, low_up, Ins, ins_rec, Named, NamedArms, leads_as}
 use Rattle.rs_machines.proofs.CanonNest.{Recs, RecsArms, scene}
 use Rattle.rs_machines.proofs.Existence.{states_length, arms_length, one_longer, at_seam}
-use Rattle.rs_text.proofs.Tests.{both, or_true, or_false, or_assoc, false_or, and_false, not_equal}
+use Rattle.rs_text.proofs.Basics.{both, or_true, or_false, or_assoc, false_or, and_false, not_equal}
 
 abbrev walk : ℕ → Bool → Walk
 walk count ended = record { count = count; ended = ended }

@@ -32,7 +32,7 @@ use Rattle.rs_machines.proofs.CanonSame.{state_name_is, opened_for, wrapped_acts
 use Rattle.rs_machines.proofs.CanonWhole.{one_words}
 use Rattle.rs_machines.proofs.StateNames.{state_name_law}
 use Rattle.rs_text.proofs.PlainNames.{plain_name, plain_role, plain_label}
-use Rattle.rs_text.proofs.Tests.{some_is, two_true, both, or_true, or_false, or_assoc, or_first, any_stands, stands_any, drop_get}
+use Rattle.rs_text.proofs.Basics.{some_is, two_true, both, or_true, or_false, or_assoc, or_first, any_stands, stands_any, drop_get}
 use Rattle.rs_text.proofs.Arms.{sort_same}
 
 -- ---- cases of options

@@ -31,7 +31,7 @@ use Rattle.rs_text.proofs.PlainNames.{plain_name, plain_names, plain_place, plai
 use Rattle.rs_machines.proofs.PrintedTrees.{lone_tree_spelt}
 use Rattle.rs_machines.proofs.ShapeGoes.{goes}
 use Rattle.rs_machines.proofs.ShapeGrown.{Plain, Grown, numbers, met_grown, visited_grown, role_numbered}
-use Rattle.rs_text.proofs.Tests.{some_is, both, seam}
+use Rattle.rs_text.proofs.Basics.{some_is, both, seam}
 
 -- ---- the end of a machine
 

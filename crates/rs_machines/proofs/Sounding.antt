@@ -29,7 +29,7 @@ use Rattle.rs_machines.specs.Drafts.{names_read}
 use Rattle.rs_machines.specs.Faults.{Keeps}
 use Rattle.rs_machines.specs.Data.{Reader_data}
 use Rattle.rs_machines.specs.Feeding.{Fed, in_mode, linked, feed_at, feed_of, feed_role, role_by, met_by, marked, feed_word, feed_body, named, feed_next, feed_head, feed_label, label_wanted, labelled_by, sorted_by}
-use Rattle.rs_text.proofs.Tests.{some_is}
+use Rattle.rs_text.proofs.Basics.{some_is}
 
 -- names that are still sound, with further labels behind the old ones
 pub record GoodNames (old : Names_data) (roles labels : List (List ℕ)) : Type 0 where

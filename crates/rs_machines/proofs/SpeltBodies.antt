@@ -26,7 +26,7 @@ use Rattle.rs_machines.proofs.FaultPlaces.{scene_of}
 use Rattle.rs_machines.proofs.SpeltSteps.{target, arm_to, arms_to, draft, drafts_of, drafts_in, with_all, mid_arm, linked_length, Stays, stays_before, numbered, arm_exact}
 use Rattle.rs_text.specs.Readings.{fault, feed_sign}
 use Rattle.rs_text.proofs.Leading.{sign_behind, Tells, Exact, Hangs, hangs_both, tells_if, full, roomy, fits_in}
-use Rattle.rs_text.proofs.Tests.{or_true, or_false, or_assoc}
+use Rattle.rs_text.proofs.Basics.{or_true, or_false, or_assoc}
 
 -- as many acts as the tree has
 mutual

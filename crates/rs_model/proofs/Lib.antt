@@ -1,4 +1,4 @@
 pub mod Faults
 pub mod Order
 pub mod Repeats
-pub mod Tests
+pub mod FirstFailed

@@ -1,7 +1,7 @@
 -- The fault that the code finds is that of the first test that isn't passed.
 use Rattle.std.proofs.Common.{◌≡◌, ℕ, ◌+◌, List, [], ◌∷◌, ◌++◌, length, Bool, true, false, not, cond, eqb, ltb, ◌&&◌, Option, Some, None, sym, refl, ap, ◌∙◌}
-use Rattle.rs_model.proofs.Tests.{failed_append, labels_told, nexts_told, some_arms}
-use Rattle.rs_model.specs.Tests.{first_failed, or_later, label_fault, label_tests, next_tests}
+use Rattle.rs_model.proofs.FirstFailed.{failed_append, labels_told, nexts_told, some_arms}
+use Rattle.rs_model.specs.FirstFailed.{first_failed, or_later, label_fault, label_tests, next_tests}
 use Rattle.rs_model.specs.Data.{Machine_data}
 use Rattle.rs_model.specs.Checks.{first_repeat, nexts_fault, choice_fault, state_fault, states_fault, machine_fault}
 use Rattle.rs_model.specs.Faults.{choice_tests, state_tests, states_tests, first_fault}

@@ -3,4 +3,4 @@ pub mod Data
 pub mod Faults
 pub mod Sorts
 pub mod WellFormed
-pub mod Tests
+pub mod FirstFailed

@@ -4,7 +4,7 @@ pub mod Gaps
 pub mod Starts
 pub mod Nexts
 pub mod Naming
-pub mod Tests
+pub mod Basics
 pub mod Numbers
 pub mod Written
 pub mod Leading

@@ -12,7 +12,7 @@ use Rattle.rs_model.specs.Data.{Names_data}
 use Rattle.rs_text.specs.Sound.{differ, are_sound, IsSound}
 use Rattle.rs_text.specs.Words.{is_word, is_role_word}
 use Rattle.rs_text.proofs.Gaps.{true_or_false}
-use Rattle.rs_text.proofs.Tests.{stands_any, any_stands, some_is, both}
+use Rattle.rs_text.proofs.Basics.{stands_any, any_stands, some_is, both}
 
 -- ---- places
 

@@ -14,7 +14,7 @@ use Rattle.rs_text.specs.Lexemes.{value_of}
 use Rattle.rs_text.specs.Names.{grown, is_among, place_of}
 use Rattle.rs_text.specs.Sound.{differ}
 use Rattle.rs_text.specs.Words.{is_word, is_role_word}
-use Rattle.rs_text.proofs.Tests.{some_is, first_true, second_true, two_true}
+use Rattle.rs_text.proofs.Basics.{some_is, first_true, second_true, two_true}
 
 -- the n-th name with a letter
 abbrev pub plain_name : ℕ → ℕ → List ℕ

@@ -5,7 +5,7 @@ use Rattle.std.proofs.lemmas.Option.{none-some, same_Some, slice_get_within}
 use Rattle.std.specs.List.{list_any}
 use Rattle.rs_model.specs.Checks.{first_repeat}
 use Rattle.rs_model.specs.Faults.{StandsTwice}
-use Rattle.rs_model.specs.Tests.{Test, first_failed, or_later, label_fault, label_tests, next_tests}
+use Rattle.rs_model.specs.FirstFailed.{Test, first_failed, or_later, label_fault, label_tests, next_tests}
 use Rattle.rs_model.specs.declared.graph.Arm.{Arm}
 use Rattle.rs_model.specs.declared.graph.Label.{Label}
 use Rattle.rs_model.specs.declared.graph.Role.{Role}
