@@ -16,7 +16,7 @@ use Rattle.rs_global.specs.declared.reading.Mode.TheVariants as mode
 use Rattle.rs_global.specs.Data.{Reader_data}
 use Rattle.rs_global.specs.Trees.{protocol_signs, body_signs}
 use Rattle.rs_global.specs.Cuts.{Cut, at_body, behind_end, behind_name, behind_rec, behind_rec_name, in_binds, behind_arrow, behind_receiver, in_arm, in_talks, in_offers, behind_brace, BranchCut, in_head, in_branch, later, ProtocolCut, at_begin, at_first, behind_first, at_further, behind_further, in_body, cut_signs, branch_cut_signs, line_signs, protocol_cut_signs, wanted_at, wanted_in, wanted_of, IsBehind}
-use Rattle.rs_global.specs.Scenes.{Scene, fault_by, fault_of}
+use Rattle.rs_global.specs.Scenes.{Scene}
 use Rattle.rs_global.specs.Faults.{Begins, IsWithin, EndsByName, IsInReach, FaultAt}
 use Rattle.rs_global.specs.Feeding.{Fed, begin, feed_at, feed_next, is_read, no_frames, behind_body, feeding}
 use Rattle.rs_global.proofs.FaultPlaces.{wanted_by, fault_seen, is_named, is_named_in, is_named_of, NamedBy, PlaceAgrees, place_passes, tree_passes}
@@ -28,6 +28,7 @@ use Rattle.rs_text.proofs.Leading.{Reached, NotExpected, Lands, sign_behind, lex
 use Rattle.rs_text.specs.FirstFaults.{IsClear, IsWhole}
 use Rattle.rs_text.specs.Readings.{feed_sign}
 use Rattle.rs_text.proofs.Arms.{arm_not}
+use Rattle.rs_global.specs.Misplaced.{fault_by, fault_of}
 
 -- a place stands behind these tokens
 abbrev pub There : List Sign → Type 0

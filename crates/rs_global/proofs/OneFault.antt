@@ -15,7 +15,7 @@ use Rattle.rs_global.specs.Trees.{ends_a_name}
 use Rattle.rs_global.specs.Cuts.{Cut, at_body, behind_end, behind_name, behind_rec, behind_rec_name, in_binds, behind_arrow, behind_receiver, in_arm, in_talks, in_offers, behind_brace, BranchCut, in_head, in_branch, later, ProtocolCut, at_begin, at_first, behind_first, at_further, behind_further, in_body, wanted_at, wanted_in, wanted_of, IsBehind}
 use Rattle.rs_text.specs.Names.{is_among, bound_to}
 use Rattle.std.proofs.Common.{nat_le, nat_lt}
-use Rattle.rs_global.specs.Scenes.{Scene, fault_by, fault_of, fault_of_name, fault_of_word, fault_of_label, fault_in_line}
+use Rattle.rs_global.specs.Scenes.{Scene}
 use Rattle.rs_global.specs.Faults.{Begins, IsWithin, EndsByName, IsInReach, IsUnexpected, FaultAt, FirstFault}
 use Rattle.rs_global.specs.Feeding.{Fed, Answer, begin, feed_at, feed_next, is_read, no_frames, behind_body, answered, ReadsAs, feeding}
 use Rattle.rs_global.proofs.FaultRuns.{Follower, an_arrow, a_broken, a_name, follower}
@@ -29,6 +29,7 @@ use Rattle.rs_text.proofs.Keeping.{tokens}
 use Rattle.rs_text.specs.Readings.{Reading, feed_sign, read_all, last_of}
 use Rattle.rs_text.specs.FirstFaults.{IsWhole, next_of}
 use Rattle.rs_text.proofs.Arms.{arm_not}
+use Rattle.rs_global.specs.Misplaced.{fault_by, fault_of, fault_of_name, fault_of_word, fault_of_label, fault_in_line}
 
 -- ---- places behind the protocol
 

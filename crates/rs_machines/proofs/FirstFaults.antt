@@ -19,7 +19,7 @@ use Rattle.rs_model.specs.Data.{Names_data}
 use Rattle.rs_machines.specs.declared.marks.Mark.{Mark}
 use Rattle.rs_machines.specs.declared.marks.Mark.TheVariants as mark
 use Rattle.rs_machines.specs.Cuts.{Cut, at_body, behind_end, behind_name, behind_rec, behind_rec_name, in_binds, in_arm, in_acts, in_offers, behind_brace, BranchCut, in_head, in_branch, later, MachineCut, at_begin, at_role, behind_role, in_body, cut_signs, branch_cut_signs, machine_cut_signs, wanted_at, wanted_in, wanted_of, wanted_behind_mark, IsBehind}
-use Rattle.rs_machines.specs.Scenes.{Scene, fault_by, fault_of}
+use Rattle.rs_machines.specs.Scenes.{Scene}
 use Rattle.rs_machines.specs.Faults.{Begins, IsWithin, EndsByName, IsInReach, FaultAt}
 use Rattle.rs_machines.specs.Feeding.{Fed, begin, feed_at, feed_next, is_read, no_frames, behind_body, feeding}
 use Rattle.rs_machines.proofs.FaultPlaces.{place_wants, wanted_by, fault_seen, is_named, is_named_in, is_named_of, NamedBy, PlaceAgrees, place_passes, tree_passes}
@@ -31,6 +31,7 @@ use Rattle.rs_text.proofs.Leading.{Reached, NotExpected, Lands, sign_behind, lex
 use Rattle.rs_text.specs.FirstFaults.{IsClear, IsWhole}
 use Rattle.rs_text.specs.Readings.{feed_sign}
 use Rattle.rs_text.proofs.Arms.{arm_not}
+use Rattle.rs_machines.specs.Misplaced.{fault_by, fault_of}
 
 -- a place stands behind these tokens
 abbrev pub There : List Sign → Type 0

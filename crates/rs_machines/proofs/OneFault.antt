@@ -19,7 +19,7 @@ use Rattle.rs_model.specs.Data.{Names_data}
 use Rattle.rs_machines.specs.declared.marks.Mark.TheVariants as mark
 use Rattle.rs_text.specs.Names.{is_among, bound_to, grown}
 use Rattle.std.proofs.Common.{nat_le, nat_lt}
-use Rattle.rs_machines.specs.Scenes.{Scene, fault_by, fault_of, fault_of_name, fault_of_word, fault_of_label}
+use Rattle.rs_machines.specs.Scenes.{Scene}
 use Rattle.rs_machines.specs.Faults.{Begins, IsWithin, EndsByName, IsInReach, IsUnexpected, FaultAt, FirstFault, LeavesNames, names_behind, labels_among}
 use Rattle.rs_machines.specs.Feeding.{Fed, Answer, begin, feed_at, feed_next, is_read, no_frames, behind_body, answered, ReadsAs, feeding}
 use Rattle.rs_machines.proofs.FaultRuns.{Follower, a_mark, a_broken, a_name, follower}
@@ -34,6 +34,7 @@ use Rattle.rs_text.specs.Readings.{Reading, feed_sign, read_all, last_of}
 use Rattle.rs_machines.proofs.Labels.{Tracks, track_first, track_on, track_word}
 use Rattle.rs_text.specs.FirstFaults.{IsWhole, next_of}
 use Rattle.rs_text.proofs.Arms.{arm_not}
+use Rattle.rs_machines.specs.Misplaced.{fault_by, fault_of, fault_of_name, fault_of_word, fault_of_label}
 
 -- ---- places behind the machine
 

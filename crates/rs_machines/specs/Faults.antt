@@ -11,8 +11,8 @@ use Rattle.rs_text.specs.Names.{grown}
 use Rattle.rs_text.specs.Signs.{Sign, rec_word, end_word, plain, bang, question, comma, open_brace, broken}
 use Rattle.rs_machines.specs.Trees.{MachineTree, machine_signs}
 use Rattle.rs_machines.specs.Cuts.{Cut, behind_end, behind_name, in_binds, in_acts, behind_brace, MachineCut, in_body, IsBehind, machine_cut_signs, wanted_of}
-use Rattle.rs_machines.specs.Scenes.{fault_of}
 use Rattle.rs_text.specs.FirstFaults.{IsWhole, FirstFaultBy}
+use Rattle.rs_machines.specs.Misplaced.{fault_of}
 
 -- the tokens begin a machine
 abbrev pub Begins : List Sign → Type 0
