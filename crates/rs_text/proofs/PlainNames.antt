@@ -1,5 +1,5 @@
 -- Names by number: a letter and the decimal digits.
-use Rattle.std.proofs.Common.{◌≡◌, ℕ, zero, suc, ◌+◌, ◌<◌, ◌≤◌, ◌^◌, List, [], ◌∷◌, ◌++◌, length, Bool, true, false, ◌&&◌, ◌||◌, nat_le, if◌then◌else◌, Some, inl, inr, refl, sym, ap, ◌∙◌, arith, slice_get, length-append}
+use Rattle.std.proofs.Common.{◌≡◌, ℕ, codes, zero, suc, ◌+◌, ◌<◌, ◌≤◌, ◌^◌, List, [], ◌∷◌, ◌++◌, length, Bool, true, false, ◌||◌, nat_le, if◌then◌else◌, Some, inl, inr, refl, sym, ap, ◌∙◌, arith, slice_get, length-append}
 use Rattle.std.proofs.lemmas.Bool.Decides.{leb_tells}
 use Rattle.std.proofs.lemmas.Fmt.{length-decimal-le}
 use Rattle.std.proofs.lemmas.List.Folds.{list_all-append}
@@ -7,14 +7,14 @@ use Rattle.std.proofs.lemmas.Option.{slice_get_within}
 use Rattle.std.specs.Fmt.{decimal}
 use Rattle.std.specs.List.{list_all}
 use Rattle.rs_text.proofs.Gaps.{true_or_false}
-use Rattle.rs_text.proofs.Naming.{place_law, grown_differ}
+use Rattle.rs_text.proofs.Naming.{place_law, grown_differ, among_at}
 use Rattle.rs_text.proofs.Values.{decimal_reads}
 use Rattle.rs_text.specs.Bytes.{is_letter, is_digit, is_word_byte}
 use Rattle.rs_text.specs.Lexemes.{value_of}
 use Rattle.rs_text.specs.Names.{grown, is_among, place_of}
 use Rattle.rs_text.specs.Sound.{differ}
 use Rattle.rs_text.specs.Words.{is_word, is_role_word}
-use Rattle.rs_machines.proofs.CanonNumbers.{among_at}
+use Rattle.rs_text.proofs.Basics.{some_is, first_true, second_true, two_true}
 
 -- the n-th name with a letter
 abbrev pub plain_name : ℕ → ℕ → List ℕ
@@ -44,9 +44,6 @@ behind_stands : (xs : List (List ℕ)) (x : List ℕ) → slice_get (xs ++ x ∷
 behind_stands [] x = refl
 behind_stands (z ∷ xs) x = behind_stands xs x
 
-some_text : (x y : List ℕ) → Some x ≡ Some y → x ≡ y
-some_text x y h = cc
-
 by_last : (letter n i : ℕ) → i < suc n → (i < n → slice_get (plain_names letter n) i ≡ Some (plain_name letter i)) → slice_get (plain_names letter (suc n)) i ≡ Some (plain_name letter i)
 by_last letter n i lt f = elim (leb_tells n i) [
   | inl e ↦ (
@@ -63,7 +60,7 @@ plain_stands letter (suc n) i lt = by_last letter n i lt (plain_stands letter n 
 pub plain_place : (letter n i : ℕ) → i < n → n < 2 ^ 64 → place_of (plain_name letter i) (plain_names letter n) ≡ Some i
 plain_place letter n i lt small = (place_law (plain_name letter i) (plain_names letter n) i).1 (record {
   there = plain_stands letter n i lt;
-  first = λ k below same. let e : plain_name letter k ≡ plain_name letter i = some_text (plain_name letter k) (plain_name letter i) (sym (plain_stands letter n k (omega arith)) ∙ same) in
+  first = λ k below same. let e : plain_name letter k ≡ plain_name letter i = some_is (plain_name letter k) (plain_name letter i) (sym (plain_stands letter n k (omega arith)) ∙ same) in
       let number : k ≡ i = plain_is letter k i (omega arith) (omega arith) e in omega arith;
 })
 
@@ -73,7 +70,7 @@ plain_new letter n small = elim (true_or_false (is_among (plain_name letter n) (
       let j = among_at (plain_names letter n) (plain_name letter n) e in
       let lt : j.0 < length (plain_names letter n) = slice_get_within (plain_names letter n) j.0 (plain_name letter n) j.1 in
       let count : length (plain_names letter n) ≡ n = plain_count letter n in
-      let same : plain_name letter j.0 ≡ plain_name letter n = some_text (plain_name letter j.0) (plain_name letter n) (sym (plain_stands letter n j.0 (omega arith)) ∙ j.1) in
+      let same : plain_name letter j.0 ≡ plain_name letter n = some_is (plain_name letter j.0) (plain_name letter n) (sym (plain_stands letter n j.0 (omega arith)) ∙ j.1) in
       let number : j.0 ≡ n = plain_is letter j.0 n (omega arith) small same in absurd (omega arith))
   | inr e ↦ e
 ]
@@ -91,18 +88,6 @@ digit_in_word : (letter digit : Bool) → digit ≡ true → (letter || digit) �
 digit_in_word true digit h = refl
 digit_in_word false digit h = h
 
-two_true : (p q : Bool) → p ≡ true → q ≡ true → (p && q) ≡ true
-two_true true q h k = k
-two_true false q h k = absurd (cc h)
-
-first_true : (p q : Bool) → (p && q) ≡ true → p ≡ true
-first_true true q h = refl
-first_true false q h = absurd (cc h)
-
-second_true : (p q : Bool) → (p && q) ≡ true → q ≡ true
-second_true true q h = h
-second_true false q h = absurd (cc h)
-
 digits_in_words : (bytes : List ℕ) → list_all is_digit bytes ≡ true → list_all is_word_byte bytes ≡ true
 digits_in_words [] h = refl
 digits_in_words (b ∷ bs) h = two_true (is_word_byte b) (list_all is_word_byte bs) (digit_in_word (is_letter b) (is_digit b) (first_true (is_digit b) (list_all is_digit bs) h)) (digits_in_words bs (second_true (is_digit b) (list_all is_digit bs) h))
@@ -113,6 +98,9 @@ within_64 n h = elim (leb_tells n 64) [ inl e ↦ e.0 | inr e ↦ absurd (omega 
 role_is_word : (digits : List ℕ) → list_all is_word_byte digits ≡ true → nat_le (suc (length digits)) 64 ≡ true → is_role_word (82 ∷ digits) ≡ true
 role_is_word digits h k = rw (h, k) refl
 
+number_is_word : (digits : List ℕ) → list_all is_word_byte digits ≡ true → nat_le (suc (length digits)) 64 ≡ true → is_role_word (88 ∷ digits) ≡ true
+number_is_word digits h k = rw (h, k) refl
+
 label_is_word : (digits : List ℕ) → list_all is_word_byte digits ≡ true → nat_le (suc (length digits)) 64 ≡ true → is_word (108 ∷ digits) ≡ true
 label_is_word digits h k = rw (h, k) refl
 
@@ -121,6 +109,9 @@ short n small = let size : length (decimal n) ≤ 10 = length-decimal-le 10 n (o
 
 pub plain_role : (n : ℕ) → n < 4294967296 → is_role_word (plain_name 82 n) ≡ true
 plain_role n small = role_is_word (decimal n) (digits_in_words (decimal n) (decimal_reads n (omega arith)).1) (short n small)
+
+pub numbered_word : (n : ℕ) → n < 4294967296 → is_role_word (codes "X" ++ decimal n) ≡ true
+numbered_word n small = number_is_word (decimal n) (digits_in_words (decimal n) (decimal_reads n (omega arith)).1) (short n small)
 
 pub plain_label : (n : ℕ) → n < 4294967296 → is_word (plain_name 108 n) ≡ true
 plain_label n small = label_is_word (decimal n) (digits_in_words (decimal n) (decimal_reads n (omega arith)).1) (short n small)
