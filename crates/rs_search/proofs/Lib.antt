@@ -1,3 +1,4 @@
+pub mod Accepted
 pub mod Assembled
 pub mod Choices
 pub mod Chosen

@@ -3,6 +3,7 @@
 
 mod faults;
 mod found;
+pub mod laws;
 mod nodes;
 mod searches;
 mod survey;
