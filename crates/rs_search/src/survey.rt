@@ -13,10 +13,7 @@ ghost use Rattle.rs_search.specs.Turns.{nexts_within};
 
 use crate::SearchFault;
 use crate::found::{Candidates, Fault, find_all};
-use rs_graph::build::graph_of;
-use rs_graph::graph::Graph;
-use rs_graph::removal::{Removal, remove};
-use rs_graph::steps::Steps;
+use rs_graph::{Graph, Removal, Steps, graph_of, remove};
 use rs_model::Machine;
 use std::alloc::Global;
 use std::sync::ledger::Ledger;
@@ -64,7 +61,7 @@ pub fn explore<L: Ledger>(
         Ok(left) => left,
         Err(_) => return Err(SearchFault::NoMemory),
     };
-    if left.current[0] as usize == graph.moves(0) {
+    if left.current[0] == graph.moves(0) {
         return Err(SearchFault::NotFound { cut: found.cut });
     }
     Ok(Survey { found, graph, left })

@@ -11,7 +11,7 @@ use Rattle.rs_graph.specs.declared.ranks.RankFault.{RankFault}
 use Rattle.rs_graph.specs.declared.ranks.RankFault.TheVariants.{OnCycle}
 use Rattle.rs_search.specs.Canonical.{IsFound, IsForgets}
 use Rattle.rs_search.specs.Turns.{is_keeping}
-use Rattle.rs_search.proofs.Assembled.{all_within, forgets, is_found, kept_few, kept_within, length-map, nexts_few, same_kept, same_nodes, unranked, unranked_are}
+use Rattle.rs_search.proofs.Assembled.{all_within, forgets, is_found, kept_few, kept_within, length-map, next_few, nexts_few, same_kept, same_nodes, unranked, unranked_are}
 use Rattle.rs_search.proofs.Costing.{whole_cost}
 use Rattle.rs_search.proofs.Verdicts.{pictures}
 use Rattle.rs_search.proofs.searches.search_counted.Goals as goal
@@ -125,3 +125,7 @@ returns-in-Ok-nodes_of-clause-steps g c =
       c.args.steps.now c.explore.new.steps c.number_all.new.steps e.found e.built
       (subst (λ (z : List ℕ). IsRemoval s.graph.outs z s.left.order.items) (sym c.as_slice-current.ensures.value) e.left)
       d.ensures.found d.ensures.stay e.steps d.ensures.steps
+
+pub number_all-requires-clause-short : goal.number_all-requires-clause-short
+number_all-requires-clause-short g c = λ n. (let s = c.in-Ok.survey in let e = c.in-Ok.ensures in
+    let k = next_few s.found.anys.items s.found.rows.items s.graph c.as_slice-current.result.now 65536 e.built e.short n in omega arith)
