@@ -33,15 +33,17 @@ new-numbered : (known after : ℕ) (row : List ℕ) → Numbered known row after
 new-numbered known _ _ (NoMore _) j a b = let bad : ⊥ = omega arith in absurd bad
 new-numbered known after _ (Known _ n _ ns h w) j a b = inr (new-numbered known after ns w j a b)
 new-numbered known after _ (New _ _ ns w) j a b = elim (cases_lt known j) [
-    inl lt ↦ inr (new-numbered (suc known) after ns w j (omega arith) b)
-  | inr ge ↦ inl (let e : known ≡ j = omega arith in e) ]
+  | inl lt ↦ inr (new-numbered (suc known) after ns w j (omega arith) b)
+  | inr ge ↦ inl (let e : known ≡ j = omega arith in e)
+]
 
 -- .. and so each stands in some row
 new-worked : (k known after : ℕ) (rows : List (List ℕ)) → Worked k known rows after → (j : ℕ) → known ≤ j → j < after → (i : ℕ) × (row : List ℕ) × (slice_get rows i ≡ Some row) × Among row j
 new-worked k known _ _ (AllDone _ _) j a b = let bad : ⊥ = omega arith in absurd bad
 new-worked k known after _ (Next _ _ mid _ row rows h n w) j a b = elim (cases_lt j mid) [
-    inl lt ↦ (zero, row, refl, new-numbered known mid row n j a lt)
-  | inr ge ↦ (let r = new-worked (suc k) mid after rows w j ge b in (suc r.0, r.1, r.2, r.3)) ]
+  | inl lt ↦ (zero, row, refl, new-numbered known mid row n j a lt)
+  | inr ge ↦ (let r = new-worked (suc k) mid after rows w j ge b in (suc r.0, r.1, r.2, r.3))
+]
 
 named-result : (spots : List Spot) (ns : List ℕ) (rs : List Spot) → Names spots ns rs → (j : ℕ) → Among ns j → (r : Spot) × (slice_get spots j ≡ Some r) × Among rs r
 named-result spots [] [] h j m = absurd m
@@ -74,24 +76,32 @@ pub derives : (sub above : Machine_data) (bound : ℕ) (d : Derivation_data) →
 derives sub above bound d ws wa c =
     let f = map-of (λ (m : DNode_data). spot_of m) d.nodes 0 (begin sub above) c.first in
     record {
-      first = f.0; is = f.1; starts = f.2;
+      first = f.0;
+      is = f.1;
+      starts = f.2;
       each = λ i n e. (
-        let k = nodes_are_candidates sub above bound d c i n e in
-        let w = stays_within sub above bound ws wa (spot_of n) k in
-        let s = candidate_short sub above bound (spot_of n) k in
-        let f = c.each i n e in
-        record {
-          state = w.state; there = w.there;
-          short = (let b = c.bound' in omega arith);
-          makes = f.chosen.move.makes; results = f.results; move = f.chosen.move.move;
-          named = names-are d.nodes n.next f.results f.names }) }
+          let k = nodes_are_candidates sub above bound d c i n e in
+          let w = stays_within sub above bound ws wa (spot_of n) k in
+          let s = candidate_short sub above bound (spot_of n) k in
+          let f = c.each i n e in
+          record {
+            state = w.state;
+            there = w.there;
+            short = (let b = c.bound' in omega arith);
+            makes = f.chosen.move.makes;
+            results = f.results;
+            move = f.chosen.move.move;
+            named = names-are d.nodes n.next f.results f.names;
+          });
+    }
 
 pub remembers : (sub above : Machine_data) (bound : ℕ) (d : Derivation_data) → IsFound sub above bound d → Remembers d sub above
 remembers sub above bound d f = record {
-    falls = λ i n makes results is move keeps k j m next there. (
+  falls = λ i n makes results is move keeps k j m next there. (
       let a = f.ranks i n is in let b = f.ranks j m there in
       let e : KeepsHead sub above d.nodes i j = record { node = n; is = is; makes = makes; results = results; move = move; keeps = keeps; leads = in_at n.next k j next } in
-      let l = a.most (suc m.rank) b.end (Further i j b.end m.rank e b.walk) in omega arith) }
+      let l = a.most (suc m.rank) b.end (Further i j b.end m.rank e b.walk) in omega arith);
+}
 
 pub accepted : (sub above : Machine_data) (bound : ℕ) (d : Derivation_data) → IsProper sub → IsProper above → IsFound sub above bound d → first_fault d sub above ≡ None
 accepted sub above bound d ws wa f = no_fault_back d sub above (derives sub above bound d ws wa f.canonical, remembers sub above bound d f)

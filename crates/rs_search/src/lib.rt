@@ -7,6 +7,8 @@ pub mod laws;
 mod nodes;
 mod searches;
 mod survey;
+#[cfg(test)]
+mod tests;
 mod turns;
 
 pub use faults::SearchFault;

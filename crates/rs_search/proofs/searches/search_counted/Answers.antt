@@ -114,17 +114,17 @@ pub returns-in-Err-OnCycle-clause-cost : goal.returns-in-Err-OnCycle-clause-cost
 returns-in-Err-OnCycle-clause-cost g c =
     let s = c.in-Ok.survey in let e = c.in-Ok.ensures in let d = c.in-Ok-number_all in
     whole_cost c.args.sub.now c.args.above.now c.args.bound s.found.points.items s.found.rows.items s.found.anys.items s.graph c.as_slice-current.result.now s.left.order.items d.numbers.items.items d.numbers.nexts.items
-      c.args.steps.now c.explore.new.steps c.number_all.new.steps e.found e.built
-      (subst (λ (z : List ℕ). IsRemoval s.graph.outs z s.left.order.items) (sym c.as_slice-current.ensures.value) e.left)
-      d.ensures.found d.ensures.stay e.steps d.ensures.steps
+    c.args.steps.now c.explore.new.steps c.number_all.new.steps e.found e.built
+    (subst (λ (z : List ℕ). IsRemoval s.graph.outs z s.left.order.items) (sym c.as_slice-current.ensures.value) e.left)
+    d.ensures.found d.ensures.stay e.steps d.ensures.steps
 
 pub returns-in-Ok-nodes_of-clause-steps : goal.returns-in-Ok-nodes_of-clause-steps
 returns-in-Ok-nodes_of-clause-steps g c =
     let s = c.in-Ok.survey in let e = c.in-Ok.ensures in let d = c.in-Ok-number_all in
     whole_cost c.args.sub.now c.args.above.now c.args.bound s.found.points.items s.found.rows.items s.found.anys.items s.graph c.as_slice-current.result.now s.left.order.items d.numbers.items.items d.numbers.nexts.items
-      c.args.steps.now c.explore.new.steps c.number_all.new.steps e.found e.built
-      (subst (λ (z : List ℕ). IsRemoval s.graph.outs z s.left.order.items) (sym c.as_slice-current.ensures.value) e.left)
-      d.ensures.found d.ensures.stay e.steps d.ensures.steps
+    c.args.steps.now c.explore.new.steps c.number_all.new.steps e.found e.built
+    (subst (λ (z : List ℕ). IsRemoval s.graph.outs z s.left.order.items) (sym c.as_slice-current.ensures.value) e.left)
+    d.ensures.found d.ensures.stay e.steps d.ensures.steps
 
 pub number_all-requires-clause-short : goal.number_all-requires-clause-short
 number_all-requires-clause-short g c = λ n. (let s = c.in-Ok.survey in let e = c.in-Ok.ensures in

@@ -36,4 +36,4 @@ returns-then-index-moves-clause-cost g c =
     let b1 : IsBuilt c.in-Ok.found.anys.items c.as_slice-2.result.now (length c.as_slice-2.result.now) c.in-Ok-graph_of.graph = subst (λ (z : List Bool). IsBuilt z c.as_slice-2.result.now (length c.as_slice-2.result.now) c.in-Ok-graph_of.graph) c.as_slice.ensures.value c.in-Ok-graph_of.ensures in
     let b2 : IsBuilt c.in-Ok.found.anys.items c.in-Ok.found.rows.items (length c.in-Ok.found.rows.items) c.in-Ok-graph_of.graph = subst (λ (z : List (List ℕ)). IsBuilt c.in-Ok.found.anys.items z (length z) c.in-Ok-graph_of.graph) c.as_slice-2.ensures.value b1 in
     removal_cost c.args.sub.now c.args.above.now c.args.bound c.in-Ok.found.points.items c.in-Ok.found.rows.items c.in-Ok.found.anys.items c.in-Ok-graph_of.graph c.in-Ok-remove.left.current.items c.in-Ok-remove.left.order.items
-      c.args.steps.now c.remove.new.steps c.in-Ok.ensures.found b2 c.in-Ok-remove.ensures.removal c.in-Ok-remove.ensures.steps
+    c.args.steps.now c.remove.new.steps c.in-Ok.ensures.found b2 c.in-Ok-remove.ensures.removal c.in-Ok-remove.ensures.steps
