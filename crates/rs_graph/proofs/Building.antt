@@ -6,7 +6,10 @@ use Rattle.std.proofs.lemmas.List.{get_or-set_same, get_or-set_other, length-set
 use Rattle.rs_graph.specs.Built.{IsBuilt, IsFilled}
 use Rattle.rs_graph.specs.Graphs.{Graph_data, with_end, with_move, with_result}
 use Rattle.rs_graph.specs.Lists.{Among, Names}
-use Rattle.rs_graph.specs.Removal.{IsInto, Leads, moves_at}
+use Rattle.std.specs.List.{sum_by}
+use Rattle.std.proofs.lemmas.List.Folds.{sum_by-replicate}
+use Rattle.std.proofs.lemmas.List.Sums.{sum_by-set, sum_by_push}
+use Rattle.rs_graph.specs.Removal.{IsInto, Leads, edges_in, moves_at}
 use Rattle.rs_graph.specs.Graphs.{moves_of}
 use Rattle.rs_graph.specs.declared.graph.Move.{Move}
 use Rattle.rs_graph.proofs.Growth.{take_on, at_short, at_within}
@@ -42,11 +45,31 @@ move-leads outs n a b inn = elim (eqb_tells a n) [
   | inr e ↦ ap (λ (y : List (List ℕ)). get_or y b []) (get_or-set_other outs n a (get_or outs n [] ++ ([] ∷ [])) [] e.1)
 ]
 
+move-count : (outs : List (List (List ℕ))) (n : ℕ) → n < length outs → edges_in (with_move outs n) ≡ edges_in outs
+move-count outs n inn =
+    let s = sum_by-set (λ (moves : List (List ℕ)). sum_by (λ (results : List ℕ). length results) moves) outs n (get_or outs n [] ++ ([] ∷ [])) [] inn in
+    let p = sum_by_push (λ (results : List ℕ). length results) (get_or outs n []) [] in
+    omega arith
+
+edge-count : (outs : List (List (List ℕ))) (n p r : ℕ) → n < length outs → p < length (get_or outs n []) → edges_in (with_result outs n p r) ≡ edges_in outs + 1
+edge-count outs n p r inn inp =
+    let s = sum_by-set (λ (moves : List (List ℕ)). sum_by (λ (results : List ℕ). length results) moves) outs n (set (get_or outs n []) p (get_or (get_or outs n []) p [] ++ (r ∷ []))) [] inn in
+    let q = sum_by-set (λ (results : List ℕ). length results) (get_or outs n []) p (get_or (get_or outs n []) p [] ++ (r ∷ [])) [] inp in
+    let l = length-append (get_or (get_or outs n []) p []) (r ∷ []) in
+    omega arith
+
+end-count : (intos : List (List Move)) (r : ℕ) (m : Move) → r < length intos → sum_by (λ (row : List Move). length row) (with_end intos r m) ≡ sum_by (λ (row : List Move). length row) intos + 1
+end-count intos r m h =
+    let s = sum_by-set (λ (row : List Move). length row) intos r (get_or intos r [] ++ (m ∷ [])) [] h in
+    let l = length-append (get_or intos r []) (m ∷ []) in
+    omega arith
+
 pub into_move : (outs : List (List (List ℕ))) (intos : List (List Move)) (n : ℕ) → n < length outs → IsInto outs intos → IsInto (with_move outs n) intos
 into_move outs intos n inn i = record {
   size = i.size ∙ sym (length-set outs n (get_or outs n [] ++ ([] ∷ [])));
   to = λ m r h. i.to m r (subst (λ (z : List ℕ). Among z r) (move-leads outs n m.node m.place inn) h);
   from = λ m r h. subst (λ (z : List ℕ). Among z r) (sym (move-leads outs n m.node m.place inn)) (i.from m r h);
+  count = i.count ∙ sym (move-count outs n inn);
 }
 
 -- how the results of a move read with one more
@@ -120,7 +143,8 @@ into_edge outs intos n p r inn inp inr' i =
             ])
             | inr e ↦ old (i.from m x (subst (λ (z : List Move). Among z m) e.1 h))
           ]);
-    }
+    count = (let a = end-count intos r (record { node = n; place = p }) inr2 in let b = edge-count outs n p r inn inp in let c = i.count in omega arith);
+  }
 
 pub fill_none : (g : Graph_data) (n : ℕ) → get_or g.outs n [] ≡ [] → IsInto g.outs g.intos → IsFilled g g n []
 fill_none g n e i = record { size = refl; here = e; others = λ k ne. refl; into = i }
@@ -216,6 +240,9 @@ built_none anys rows g eo ei =
         size = li ∙ sym lo;
         to = λ m r h. (let z : get_or (get_or g.outs m.node []) m.place [] ≡ [] = ap (λ (y : List (List ℕ)). get_or y m.place []) (o m.node) in let bad : Among [] r = subst (λ (y : List ℕ). Among y r) z h in absurd bad);
         from = λ m r h. (let bad : Among [] m = subst (λ (y : List Move). Among y m) (q r) h in absurd bad);
+        count = (let a = sum_by-replicate (λ (row : List Move). length row) (length rows) [] in let b = sum_by-replicate (λ (moves : List (List ℕ)). sum_by (λ (results : List ℕ). length results) moves) (length rows) [] in
+          let c : sum_by (λ (row : List Move). length row) g.intos ≡ sum_by (λ (row : List Move). length row) (replicate (length rows) []) = ap (sum_by (λ (row : List Move). length row)) ei in
+          let d : edges_in g.outs ≡ edges_in (replicate (length rows) []) = ap edges_in eo in omega arith);
       };
     }
 

@@ -1,5 +1,6 @@
 pub mod Buckets
 pub mod Building
+pub mod Counting
 pub mod Endless
 pub mod Growth
 pub mod Kept

@@ -502,7 +502,7 @@ sum-cut f (y ∷ xs) x h = let a = sum_by-append f (y ∷ []) xs in elim (eqb_te
   ]
 ]
 
-sum-less : (f : ℕ → ℕ) (xs ys : List ℕ) → Once xs → ((x : ℕ) → Among xs x → Among ys x) → sum_by f xs ≤ sum_by f ys
+pub sum-less : (f : ℕ → ℕ) (xs ys : List ℕ) → Once xs → ((x : ℕ) → Among xs x → Among ys x) → sum_by f xs ≤ sum_by f ys
 sum-less f [] ys once all = omega arith
 sum-less f (x ∷ xs) ys once all =
     let c = sum-cut f ys x (all x (inl refl)) in

@@ -12,11 +12,16 @@ moves_at outs n = length (slice_index_or outs n [])
 abbrev pub Leads : List (List (List ℕ)) → ℕ → ℕ → ℕ → Type 0
 Leads outs n place r = Among (slice_index_or (slice_index_or outs n []) place []) r
 
--- for each node the moves that have it as a result
+-- how many results all the moves have together
+abbrev pub edges_in : List (List (List ℕ)) → ℕ
+edges_in outs = sum_by (λ (moves : List (List ℕ)). sum_by (λ (results : List ℕ). length results) moves) outs
+
+-- for each node the moves that have it as a result, each as often as it has it
 pub record IsInto (outs : List (List (List ℕ))) (intos : List (List Move)) : Type 0 where
   pub size : length intos ≡ length outs
   pub to : (m : Move) (r : ℕ) → Leads outs m.node m.place r → Among (slice_index_or intos r []) m
   pub from : (m : Move) (r : ℕ) → Among (slice_index_or intos r []) m → Leads outs m.node m.place r
+  pub count : sum_by (λ (row : List Move). length row) intos ≡ edges_in outs
 
 -- where the node stands: at the place of its first move that isn't lost, or behind its last
 abbrev pub at : List ℕ → ℕ → ℕ

@@ -1,6 +1,6 @@
 //! Graphs whose nodes have moves.
 ghost use Rattle.std.specs.Prelude.{◌≡◌, ◌<◌, ◌+◌, ◌^◌, [], ◌∷◌, ◌++◌, List, ℕ, OnOk, OnErr, OnSome, IfOk, length, slice_get, slice_index_or, slice_set};
-ghost use Rattle.rs_graph.specs.Graphs.{with_end, with_move, with_result};
+ghost use Rattle.rs_graph.specs.Graphs.{pair_of, with_end, with_move, with_result};
 ghost use Rattle.rs_graph.specs.declared.graph.Move.{Move};
 
 use crate::steps::Steps;
@@ -75,6 +75,10 @@ impl Model for Rows {
     ghost Value = { List (List ℕ) };
 
     ghost view = { λ a. a.rows.items };
+
+    ghost use Rattle.std.specs.Prelude.{◌<◌, ◌^◌, length};
+
+    ghost invariant = { λ a. length a.rows.items < 2 ^ 32 };
 }
 
 impl Rows {
@@ -92,7 +96,14 @@ impl Rows {
         self.rows.as_slice()
     }
 
+    pub fn count(&self) -> u32
+        ensures { result ≡ length self.now }
+    {
+        self.rows.len() as u32
+    }
+
     pub fn push(&mut self, row: Row) -> Result<(), NoMemory>
+        requires { length self.old + 1 < 2 ^ 32 }
         ensures ok { OnOk result (self.new ≡ self.old ++ row ∷ []) }
         ensures err { OnErr result (self.new ≡ self.old) }
     {
@@ -232,6 +243,7 @@ impl Graph {
         requires target { target < length self.old.outs }
         ensures outs { OnOk result (self.new.outs ≡ with_result self.old.outs node place target) }
         ensures intos { OnOk result (self.new.intos ≡ with_end self.old.intos target (record { node = node; place = place })) }
+        ensures err { OnErr result (self.new ≡ self.old) }
     {
         self.intos[target as usize].push(Move { node, place })?;
         if self.outs[node as usize].push_at(place, target).is_err() {
@@ -242,29 +254,29 @@ impl Graph {
     }
 
     /// How many moves the node has.
-    pub fn moves(&self, node: u32) -> usize
+    pub fn moves(&self, node: u32) -> u32
         requires { node < length self.now.outs }
         ensures { result ≡ length (slice_index_or self.now.outs node []) }
     {
-        self.outs[node as usize].as_slice().len()
+        self.outs[node as usize].count()
     }
 
-    /// The nth result of the move. One step.
+    /// The nth result of the move, or none where it has fewer. One step.
     pub fn out<L: Ledger>(
         &self,
         node: u32,
         place: u32,
-        nth: usize,
+        nth: u32,
         steps: &mut Steps<L>,
     ) -> Option<u32>
         requires there { node < length self.now.outs }
         requires place { place < length (slice_index_or self.now.outs node []) }
         ensures value { result ≡ slice_get (slice_index_or (slice_index_or self.now.outs node []) place []) nth }
-        ensures fits { OnSome result (nth + 1 < 2 ^ 64) }
         ensures step { steps.new ≡ steps.old + 1 }
     {
         steps.tick();
         let row = self.outs[node as usize].as_slice()[place as usize].as_slice();
+        let nth = nth as usize;
         if nth < row.len() {
             Some(row[nth])
         } else {
@@ -272,8 +284,31 @@ impl Graph {
         }
     }
 
-    /// The nth move that leads to the node. One step.
-    pub fn into<L: Ledger>(&self, node: u32, nth: usize, steps: &mut Steps<L>) -> Option<Move>
+    /// The nth edge that ends at the node, by the node and the place of its move, in order of addition; none where
+    /// there are fewer. One step.
+    pub fn into<L: Ledger>(
+        &self,
+        node: u32,
+        nth: u64,
+        steps: &mut Steps<L>,
+    ) -> Option<(u32, u32)>
+        requires { node < length self.now.outs }
+        ensures value { result ≡ pair_of (slice_get (slice_index_or self.now.intos node []) nth) }
+        ensures step { steps.new ≡ steps.old + 1 }
+    {
+        match self.move_into(node, nth as usize, steps) {
+            Some(m) => Some((m.node, m.place)),
+            None => None,
+        }
+    }
+
+    // The same as a move.
+    pub(crate) fn move_into<L: Ledger>(
+        &self,
+        node: u32,
+        nth: usize,
+        steps: &mut Steps<L>,
+    ) -> Option<Move>
         requires { node < length self.now.outs }
         ensures value { result ≡ slice_get (slice_index_or self.now.intos node []) nth }
         ensures fits { OnSome result (nth + 1 < 2 ^ 64) }

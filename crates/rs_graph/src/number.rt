@@ -22,11 +22,12 @@ fn read_move<L: Ledger>(
 ) -> Result<Row, NoMemory>
     requires there { node < length graph.now.outs }
     requires place { place < length (slice_index_or graph.now.outs node []) }
+    requires few { length (slice_index_or (slice_index_or graph.now.outs node []) place []) < 2 ^ 32 }
     ensures row { IfOk result (λ row. row ≡ slice_index_or (slice_index_or graph.now.outs node []) place []) }
     ensures steps { IfOk result (λ row. steps.new ≡ steps.old + length row + 1) }
 {
     let mut row = Row::new(alloc);
-    let mut nth: usize = 0;
+    let mut nth: u32 = 0;
     while let Some(r) = graph.out(node, place, nth, steps) {
         row.push(r)?;
         nth += 1;
@@ -100,6 +101,7 @@ pub fn number_all<L: Ledger>(
     requires current { length current.now ≡ length graph.now.outs }
     requires into { IsInto graph.now.outs graph.now.intos }
     requires stays { (n r : ℕ) → at current.now n < moves_at graph.now.outs n → Leads graph.now.outs n (at current.now n) r → at current.now r < moves_at graph.now.outs r }
+    requires short { (n : ℕ) → length (next_of graph.now.outs current.now n) < 2 ^ 32 }
     requires start { at current.now 0 < moves_at graph.now.outs 0 }
     ensures found { IfOk result (λ d. IsDiscovery (next_of graph.now.outs current.now) 0 d.items.items d.nexts.items) }
     ensures few { IfOk result (λ d. length d.items.items ≤ length graph.now.outs) }

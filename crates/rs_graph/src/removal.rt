@@ -123,7 +123,7 @@ fn hand_on<L: Ledger>(
 {
     let node = order[told];
     let mut nth: usize = 0;
-    while let Some(m) = graph.into(node, nth, steps) {
+    while let Some(m) = graph.move_into(node, nth, steps) {
         lose(m, lost, current, order)?;
         nth += 1;
     }
@@ -137,7 +137,7 @@ fn no_flags(alloc: Global, graph: &Graph) -> Result<Vec<Flags>, NoMemory>
 {
     let mut lost = Vec::new(alloc);
     for node in 0..graph.nodes() {
-        lost.push(Flags::new(alloc, graph.moves(node as u32))?)?;
+        lost.push(Flags::new(alloc, graph.moves(node as u32) as usize)?)?;
     }
     Ok(lost)
 }

@@ -350,8 +350,8 @@ move-length : (any : Bool) (row : List ℕ) (place : ℕ) → length (get_or (mo
 move-length true row place = let k = single-length row place in omega arith
 move-length false row place = let k = whole-length row place in omega arith
 
-next-few : (anys : List Bool) (rows : List (List ℕ)) (g : Graph_data) (current : List ℕ) (most : ℕ) → IsBuilt anys rows (length rows) g → ((n : ℕ) → length (get_or rows n []) ≤ most) → (n : ℕ) → length (next_of g.outs current n) ≤ most + 1
-next-few anys rows g current most b h n = elim (cases_lt n (length rows)) [
+pub next_few : (anys : List Bool) (rows : List (List ℕ)) (g : Graph_data) (current : List ℕ) (most : ℕ) → IsBuilt anys rows (length rows) g → ((n : ℕ) → length (get_or rows n []) ≤ most) → (n : ℕ) → length (next_of g.outs current n) ≤ most + 1
+next_few anys rows g current most b h n = elim (cases_lt n (length rows)) [
   | inl a ↦ (let e : length (next_of g.outs current n) ≡ length (get_or (moves_of (get_or anys n false) (get_or rows n [])) (at current n) []) = ap (λ (z : List (List ℕ)). length (get_or z (at current n) [])) (b.done n a) in
       let k = move-length (get_or anys n false) (get_or rows n []) (at current n) in let f = h n in omega arith)
   | inr a ↦ (let e : length (next_of g.outs current n) ≡ 0 = ap (λ (z : List (List ℕ)). length (get_or z (at current n) [])) (b.free n a) ∙ ap (λ (z : List ℕ). length z) (get_or_past [] (at current n) [] (omega arith)) in omega arith)
@@ -362,7 +362,7 @@ pub nexts_few : (anys : List Bool) (rows : List (List ℕ)) (g : Graph_data) (cu
 nexts_few anys rows g current items nexts most b h d i = elim (cases_lt i (length nexts)) [
   | inl a ↦ (let r = at_within nexts i a in let n = at_within items i (let l = d.all in omega arith) in
       let k = names_length items r.0 (next_of g.outs current n.0) (d.names i n.0 r.0 n.1 r.1) in
-      let f = next-few anys rows g current most b h n.0 in
+      let f = next_few anys rows g current most b h n.0 in
       let q : length (get_or nexts i []) ≡ length r.0 = ap (λ (z : List ℕ). length z) (got nexts i r.0 [] r.1) in omega arith)
   | inr a ↦ (let l : length (get_or nexts i []) ≡ 0 = ap (λ (z : List ℕ). length z) (get_or_past nexts i [] a) in omega arith)
 ]

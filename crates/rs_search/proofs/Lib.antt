@@ -1,6 +1,8 @@
+pub mod Accepted
 pub mod Assembled
 pub mod Choices
 pub mod Chosen
+pub mod Costing
 pub mod Noding
 pub mod Same
 pub mod Staying

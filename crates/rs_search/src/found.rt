@@ -12,7 +12,7 @@ ghost use Rattle.rs_search.specs.Turns.{is_any, is_cut, is_keeping};
 ghost use Rattle.rs_search.specs.declared.found.Fault.TheVariants.{TooLarge, Memory};
 
 use crate::turns::{Point, turn_within};
-use rs_graph::graph::Row;
+use rs_graph::Row;
 use rs_model::{Act, Machine, NoMemory};
 use rs_prefix::Pending;
 use std::alloc::{AllocError, AllocFailed, Global};

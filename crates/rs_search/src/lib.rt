@@ -3,9 +3,12 @@
 
 mod faults;
 mod found;
+pub mod laws;
 mod nodes;
 mod searches;
 mod survey;
+#[cfg(test)]
+mod tests;
 mod turns;
 
 pub use faults::SearchFault;

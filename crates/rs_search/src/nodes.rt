@@ -5,7 +5,7 @@ ghost use Rattle.rs_search.specs.Nodes.{AreKept, AreNodes, node_of};
 
 use crate::turns::Point;
 use rs_derive::DNode;
-use rs_graph::graph::Row;
+use rs_graph::Row;
 use rs_model::NoMemory;
 use std::alloc::Global;
 

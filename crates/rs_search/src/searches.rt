@@ -1,15 +1,14 @@
 //! The search.
-ghost use Rattle.std.specs.Prelude.{◌≡◌, ◌<◌, ◌≤◌, ◌+◌, ◌^◌, [], List, ℕ, IfOk, IfErr, length};
+ghost use Rattle.std.specs.Prelude.{◌≡◌, ◌<◌, ◌≤◌, ◌+◌, ◌^◌, [], List, ℕ, IfOk, IfErr, OnOk, length};
 ghost use Rattle.rs_derive.specs.Derivations.{IsProper};
 ghost use Rattle.rs_search.specs.Canonical.{IsFound, Refuses};
+ghost use Rattle.rs_search.specs.Costs.{Costs, IsWithinCost};
 
 use crate::SearchFault;
 use crate::nodes::{kept_of, nodes_of};
 use crate::survey::explore;
 use rs_derive::Derivation;
-use rs_graph::number::number_all;
-use rs_graph::ranks::{RankFault, rank_rows};
-use rs_graph::steps::Steps;
+use rs_graph::{RankFault, Steps, number_all, rank_rows};
 use rs_model::Machine;
 use std::alloc::Global;
 use std::marker::Brand;
@@ -50,7 +49,8 @@ fn search_by<L: Ledger>(
     search_counted(alloc, sub, above, bound, &mut steps)
 }
 
-/// The same search, which counts its reads of the candidates' graph.
+/// The same search, which counts its reads of the candidates' graph: at most two for each result of a move of a candidate
+/// and one for each candidate, and none where there are too many candidates.
 pub fn search_counted<L: Ledger>(
     alloc: Global,
     sub: &Machine,
@@ -62,6 +62,8 @@ pub fn search_counted<L: Ledger>(
     requires theirs { IsProper above.now }
     ensures ok { IfOk result (λ d. IsFound sub.now above.now bound d) }
     ensures err { IfErr result (λ e. Refuses sub.now above.now bound e) }
+    ensures steps { OnOk result (IsWithinCost sub.now above.now bound steps.old steps.new) }
+    ensures cost { IfErr result (λ e. Costs sub.now above.now bound e steps.old steps.new) }
 {
     let survey = match explore(alloc, sub, above, bound, steps) {
         Ok(survey) => survey,

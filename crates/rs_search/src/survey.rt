@@ -1,21 +1,19 @@
 //! The candidates, their graph and what is left of it.
 ghost use Rattle.std.specs.Prelude.{◌≡◌, ◌<◌, ◌≤◌, ◌+◌, ◌^◌, [], List, ℕ, IfOk, IfErr, length, map, slice_index_or};
-ghost use Rattle.std.specs.List.{list_any};
+ghost use Rattle.std.specs.List.{sum_by};
 ghost use Rattle.rs_derive.specs.Derivations.{IsProper};
 ghost use Rattle.rs_graph.specs.Built.{IsBuilt};
 ghost use Rattle.rs_search.specs.Candidates.{begin};
 ghost use Rattle.rs_search.specs.Canonical.{Refuses};
+ghost use Rattle.rs_search.specs.Costs.{Costs};
 ghost use Rattle.rs_graph.specs.Discovery.{IsDiscovery};
 ghost use Rattle.rs_search.specs.Turns.{is_any, is_keeping};
-ghost use Rattle.rs_graph.specs.Removal.{IsRemoval, at, moves_at};
+ghost use Rattle.rs_graph.specs.Removal.{IsRemoval, at, cost_of, moves_at};
 ghost use Rattle.rs_search.specs.Turns.{nexts_within};
 
 use crate::SearchFault;
 use crate::found::{Candidates, Fault, find_all};
-use rs_graph::build::graph_of;
-use rs_graph::graph::Graph;
-use rs_graph::removal::{Removal, remove};
-use rs_graph::steps::Steps;
+use rs_graph::{Graph, Removal, Steps, graph_of, remove};
 use rs_model::Machine;
 use std::alloc::Global;
 use std::sync::ledger::Ledger;
@@ -47,6 +45,8 @@ pub fn explore<L: Ledger>(
     ensures left { IfOk result (λ s. IsRemoval s.graph.outs s.left.current.items s.left.order.items) }
     ensures start { IfOk result (λ s. at s.left.current.items 0 < moves_at s.graph.outs 0) }
     ensures err { IfErr result (λ e. Refuses sub.now above.now bound e) }
+    ensures steps { IfOk result (λ s. steps.new ≡ steps.old + sum_by (λ n. cost_of s.graph.intos n) s.left.order.items) }
+    ensures cost { IfErr result (λ e. Costs sub.now above.now bound e steps.old steps.new) }
 {
     let found = match find_all(alloc, sub, above, bound, 65_536) {
         Ok(found) => found,
@@ -61,7 +61,7 @@ pub fn explore<L: Ledger>(
         Ok(left) => left,
         Err(_) => return Err(SearchFault::NoMemory),
     };
-    if left.current[0] as usize == graph.moves(0) {
+    if left.current[0] == graph.moves(0) {
         return Err(SearchFault::NotFound { cut: found.cut });
     }
     Ok(Survey { found, graph, left })

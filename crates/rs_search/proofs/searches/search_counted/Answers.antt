@@ -11,7 +11,8 @@ use Rattle.rs_graph.specs.declared.ranks.RankFault.{RankFault}
 use Rattle.rs_graph.specs.declared.ranks.RankFault.TheVariants.{OnCycle}
 use Rattle.rs_search.specs.Canonical.{IsFound, IsForgets}
 use Rattle.rs_search.specs.Turns.{is_keeping}
-use Rattle.rs_search.proofs.Assembled.{all_within, forgets, is_found, kept_few, kept_within, length-map, nexts_few, same_kept, same_nodes, unranked, unranked_are}
+use Rattle.rs_search.proofs.Assembled.{all_within, forgets, is_found, kept_few, kept_within, length-map, next_few, nexts_few, same_kept, same_nodes, unranked, unranked_are}
+use Rattle.rs_search.proofs.Costing.{whole_cost}
 use Rattle.rs_search.proofs.Verdicts.{pictures}
 use Rattle.rs_search.proofs.searches.search_counted.Goals as goal
 
@@ -108,3 +109,23 @@ returns-in-Ok-nodes_of-clause-ok g c =
     }) c.in-Ok-kept_of.kept.items a in
     let r' = subst (λ (rows : List (List ℕ)). (i : ℕ) → IsRank (Edge rows) i (slice_index_or c.in-Ok-rank_rows.ranks.items i 0)) c.as_slice-2.ensures.value r in
     subst (λ (q : Role). IsFound c.args.sub.now c.args.above.now c.args.bound (record { role = q; bound = c.args.bound; nodes = c.in-Ok-nodes_of.nodes.items })) (sym (ap (λ (m : Machine_data). m.role) c.sub.view_is)) (w r')
+
+pub returns-in-Err-OnCycle-clause-cost : goal.returns-in-Err-OnCycle-clause-cost
+returns-in-Err-OnCycle-clause-cost g c =
+    let s = c.in-Ok.survey in let e = c.in-Ok.ensures in let d = c.in-Ok-number_all in
+    whole_cost c.args.sub.now c.args.above.now c.args.bound s.found.points.items s.found.rows.items s.found.anys.items s.graph c.as_slice-current.result.now s.left.order.items d.numbers.items.items d.numbers.nexts.items
+    c.args.steps.now c.explore.new.steps c.number_all.new.steps e.found e.built
+    (subst (λ (z : List ℕ). IsRemoval s.graph.outs z s.left.order.items) (sym c.as_slice-current.ensures.value) e.left)
+    d.ensures.found d.ensures.stay e.steps d.ensures.steps
+
+pub returns-in-Ok-nodes_of-clause-steps : goal.returns-in-Ok-nodes_of-clause-steps
+returns-in-Ok-nodes_of-clause-steps g c =
+    let s = c.in-Ok.survey in let e = c.in-Ok.ensures in let d = c.in-Ok-number_all in
+    whole_cost c.args.sub.now c.args.above.now c.args.bound s.found.points.items s.found.rows.items s.found.anys.items s.graph c.as_slice-current.result.now s.left.order.items d.numbers.items.items d.numbers.nexts.items
+    c.args.steps.now c.explore.new.steps c.number_all.new.steps e.found e.built
+    (subst (λ (z : List ℕ). IsRemoval s.graph.outs z s.left.order.items) (sym c.as_slice-current.ensures.value) e.left)
+    d.ensures.found d.ensures.stay e.steps d.ensures.steps
+
+pub number_all-requires-clause-short : goal.number_all-requires-clause-short
+number_all-requires-clause-short g c = λ n. (let s = c.in-Ok.survey in let e = c.in-Ok.ensures in
+    let k = next_few s.found.anys.items s.found.rows.items s.graph c.as_slice-current.result.now 65536 e.built e.short n in omega arith)

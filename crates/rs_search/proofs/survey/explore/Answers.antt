@@ -5,6 +5,7 @@ use Rattle.rs_graph.specs.Removal.{at}
 use Rattle.rs_search.specs.Turns.{nexts_within}
 use Rattle.rs_graph.proofs.Growth.{at_short}
 use Rattle.rs_graph.proofs.Removed.{index_at}
+use Rattle.rs_search.proofs.Costing.{removal_cost}
 use Rattle.rs_search.proofs.Verdicts.{more_than, few_rows, rows_within, moves_few, not_found}
 use Rattle.rs_search.proofs.survey.explore.Goals as goal
 
@@ -29,3 +30,10 @@ returns-then-index-moves-clause-err g c =
     let some : 0 < length c.in-Ok-remove.left.current.items = (let a = c.in-Ok-remove.ensures.removal.size in let b = b2.size in let d = c.in-Ok.ensures.found.all in omega arith) in
     not_found c.args.sub.now c.args.above.now c.args.bound c.in-Ok.found.points.items c.in-Ok.found.rows.items c.in-Ok.found.anys.items c.in-Ok-graph_of.graph c.in-Ok-remove.left.current.items c.in-Ok-remove.left.order.items c.in-Ok.found.cut
     c.in-Ok.ensures.found c.in-Ok.ensures.few c.in-Ok.ensures.anys c.in-Ok.ensures.cut b2 c.in-Ok-remove.ensures.removal (index_at c.in-Ok-remove.left.current.items 0 c.index.result.now some c.index.ensures ∙ c.if-index-moves.true ∙ c.moves.ensures)
+
+pub returns-then-index-moves-clause-cost : goal.returns-then-index-moves-clause-cost
+returns-then-index-moves-clause-cost g c =
+    let b1 : IsBuilt c.in-Ok.found.anys.items c.as_slice-2.result.now (length c.as_slice-2.result.now) c.in-Ok-graph_of.graph = subst (λ (z : List Bool). IsBuilt z c.as_slice-2.result.now (length c.as_slice-2.result.now) c.in-Ok-graph_of.graph) c.as_slice.ensures.value c.in-Ok-graph_of.ensures in
+    let b2 : IsBuilt c.in-Ok.found.anys.items c.in-Ok.found.rows.items (length c.in-Ok.found.rows.items) c.in-Ok-graph_of.graph = subst (λ (z : List (List ℕ)). IsBuilt c.in-Ok.found.anys.items z (length z) c.in-Ok-graph_of.graph) c.as_slice-2.ensures.value b1 in
+    removal_cost c.args.sub.now c.args.above.now c.args.bound c.in-Ok.found.points.items c.in-Ok.found.rows.items c.in-Ok.found.anys.items c.in-Ok-graph_of.graph c.in-Ok-remove.left.current.items c.in-Ok-remove.left.order.items
+    c.args.steps.now c.remove.new.steps c.in-Ok.ensures.found b2 c.in-Ok-remove.ensures.removal c.in-Ok-remove.ensures.steps
