@@ -1,10 +1,11 @@
 -- The headline means one session.
-use Rattle.std.proofs.Common.{◌≡◌, ℕ, List, subst, ap, ◌∙◌}
+use Rattle.std.proofs.Common.{◌≡◌, ℕ, List, length, subst, sym, ap, ◌∙◌}
 use Rattle.rs_project.specs.Numbered.{AreNumberedProjections}
 use Rattle.rs_tool.specs.Data.{Document_data}
 use Rattle.rs_tool.specs.Headline.{SpellsSafeMachines}
 use Rattle.rs_tool.specs.Machines.{machines_of}
 use Rattle.rs_tool.specs.declared.documents.Content.TheVariants as content
+use Rattle.rs_tool.proofs.EachRole.{chosen_size}
 use Rattle.rs_tool.proofs.OneContent.{one_found}
 use Rattle.rs_tool.proofs.Unique.{one_list}
 
@@ -15,3 +16,6 @@ one-session bytes one other =
     let projected = subst (λ (d : Document_data). AreNumberedProjections d.protocol one.projections) same one.projected in
     let projections : one.projections ≡ other.projections = one_list other.document.protocol one.projections other.projections other.well_formed projected other.projected in
     ap (λ (d : Document_data). machines_of d.machines one.projections) same ∙ ap (machines_of other.document.machines) projections
+
+pub one-machine-each : (bytes : List ℕ) (h : SpellsSafeMachines bytes) → length (machines_of h.document.machines h.projections) ≡ h.document.protocol.roles
+one-machine-each bytes h = chosen_size h.document.machines h.projections (h.one_each ∙ sym h.projected.many) ∙ h.projected.many

@@ -5,6 +5,7 @@ use Rattle.rs_global.specs.Spells.{SpellsProtocol}
 use Rattle.rs_global.specs.Trees.{roles_of}
 use Rattle.std.specs.Str.{bytes_eq}
 use Rattle.std.proofs.lemmas.Slice.Eq.{bytes_eq-Decides}
+use Rattle.rs_model.specs.declared.limits.TheConstants.{MOST_ACTS, MOST_LABELS, MOST_ROLES, MOST_TALKS}
 use Rattle.rs_model.specs.Data.{Names_data, Protocol_data, Machine_data}
 use Rattle.rs_text.specs.Lexemes.{Lexeme, Lexed, next_lexeme, is_last, signs_of}
 use Rattle.rs_text.specs.Names.{place_from, place_of, is_among, number_or}
@@ -188,9 +189,9 @@ set_get (y ∷ ys) zero m (suc j) x e = inr e
 set_get (y ∷ ys) (suc k) m zero x e = inr e
 set_get (y ∷ ys) (suc k) m (suc j) x e = set_get ys k m j x e
 
-set_short : (machines : List (Option Machine_data)) (k : ℕ) (m : Machine_data) → AreShort machines → length m.states ≤ 257 → AreShort (slice_set machines k (Some m))
+set_short : (machines : List (Option Machine_data)) (k : ℕ) (m : Machine_data) → AreShort machines → length m.states ≤ MOST_ACTS + 1 → AreShort (slice_set machines k (Some m))
 set_short machines k m short le j x e = elim (set_get machines k m j x e) [
-  | inl same ↦ subst (λ (z : Machine_data). length z.states ≤ 257) (sym same) le
+  | inl same ↦ subst (λ (z : Machine_data). length z.states ≤ MOST_ACTS + 1) (sym same) le
   | inr there ↦ short j x there
 ]
 
@@ -212,7 +213,7 @@ set_in_place machines m placed j x e = elim (set_at machines m.role.0 m j x e) [
 
 -- a machine that was read stands in the document, and the text goes on behind it
 pub add_is : (bytes : List ℕ) (at : ℕ) (old : Document_data) (names : Names_data) (machine : Machine_data) (next : ℕ) → IsReady old → StandsAt bytes at machine_word → twice_of old.names old.machines (second_of bytes at) ≡ None
-    → SpellsMachine bytes at old.names names machine next → IsSound names → names.roles ≡ old.names.roles → length names.labels ≤ 256 → length machine.states ≤ 257 → next ≤ length bytes
+    → SpellsMachine bytes at old.names names machine next → IsSound names → names.roles ≡ old.names.roles → length names.labels ≤ MOST_LABELS → length machine.states ≤ MOST_ACTS + 1 → next ≤ length bytes
     → IsAdded bytes at old (record { names = names; protocol = old.protocol; machines = with_machine old.machines machine }) next
 add_is bytes at old names machine next ready word once spells sound roles labels states within =
     let never = none_twice bytes old.names old.machines at once in
@@ -224,7 +225,7 @@ add_is bytes at old names machine next ready word once spells sound roles labels
       ready = record {
         sound = sound;
         two = subst (λ (x : List (List ℕ)). 2 ≤ length x) (sym roles) ready.two;
-        roles = subst (λ (x : List (List ℕ)). length x ≤ 16) (sym roles) ready.roles;
+        roles = subst (λ (x : List (List ℕ)). length x ≤ MOST_ROLES) (sym roles) ready.roles;
         labels = labels;
         one_each = set_size old.machines machine.role.0 (Some machine) ∙ ready.one_each ∙ ap length (sym roles);
         short = set_short old.machines machine.role.0 machine ready.short states;
@@ -255,7 +256,7 @@ breaks bytes at old k e = Breaks at old.names old.machines (next_lexeme bytes at
 -- the document with the machine that was read
 pub add_by : (bytes : List ℕ) (at : ℕ) (old : Document_data) (before names : Names_data) (protocol : Protocol_data) (own machines : List (Option Machine_data)) (machine : Machine_data) (next : ℕ)
     → before ≡ old.names → protocol ≡ old.protocol → own ≡ old.machines → machines ≡ with_machine own machine → IsReady old → StandsAt bytes at machine_word → twice_of old.names old.machines (second_of bytes at) ≡ None
-    → SpellsMachine bytes at before names machine next → IsSound names → names.roles ≡ before.roles → length names.labels ≤ 256 → length machine.states ≤ 257 → next ≤ length bytes
+    → SpellsMachine bytes at before names machine next → IsSound names → names.roles ≡ before.roles → length names.labels ≤ MOST_LABELS → length machine.states ≤ MOST_ACTS + 1 → next ≤ length bytes
     → IsAdded bytes at old (record { names = names; protocol = protocol; machines = machines }) next
 add_by bytes at old before names protocol own machines machine next b p o m ready word once spells sound roles labels states within =
     let done : IsAdded bytes at old (record { names = names; protocol = old.protocol; machines = with_machine old.machines machine }) next =
@@ -295,7 +296,7 @@ two_roles bytes at names protocol until s =
     omega (arith, e)
 
 -- a document without machines
-pub begin_ready : (names : Names_data) (protocol : Protocol_data) (machines : List (Option Machine_data)) → machines ≡ no_machines names.roles → IsSound names → 2 ≤ length names.roles → length names.roles ≤ 16 → length names.labels ≤ 256 → length protocol.nodes ≤ 1025
+pub begin_ready : (names : Names_data) (protocol : Protocol_data) (machines : List (Option Machine_data)) → machines ≡ no_machines names.roles → IsSound names → 2 ≤ length names.roles → length names.roles ≤ MOST_ROLES → length names.labels ≤ MOST_LABELS → length protocol.nodes ≤ MOST_TALKS + 1
     → IsReady (record { names = names; protocol = protocol; machines = machines })
 begin_ready names protocol machines e s t r l n =
     subst (λ (z : List (Option Machine_data)). IsReady (record { names = names; protocol = protocol; machines = z })) (sym e)

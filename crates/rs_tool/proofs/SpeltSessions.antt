@@ -1,6 +1,7 @@
 -- What a document that a text spells gives to its session: two to sixteen roles, and each machine in its role's place.
 use Rattle.std.proofs.Common.{◌≡◌, ℕ, ◌≤◌, List, length, Option, Some, None, refl, sym, ap, subst, ◌∙◌, arith}
 use Rattle.rs_model.specs.Data.{Names_data, Protocol_data, Machine_data}
+use Rattle.rs_model.specs.declared.limits.TheConstants.{MOST_ROLES}
 use Rattle.rs_global.specs.Spells.{SpellsProtocol}
 use Rattle.rs_global.specs.Trees.{roles_of}
 use Rattle.rs_tool.specs.Data.{Document_data}
@@ -12,7 +13,7 @@ use Rattle.rs_tool.proofs.Parts.{none_there, set_in_place, set_size, size_of_non
 -- the roles are two to sixteen, as many as the protocol has, and each has a place for its machine, which is its own
 pub record IsSpeltSession (d : Document_data) : Type 0 where
   pub two : 2 ≤ length d.names.roles
-  pub few : length d.names.roles ≤ 16
+  pub few : length d.names.roles ≤ MOST_ROLES
   pub roles : length d.names.roles ≡ d.protocol.roles
   pub one_each : length d.machines ≡ length d.names.roles
   pub in_place : AreInPlace d.machines
@@ -40,7 +41,7 @@ spelt_session bytes d h =
     let names = ap (λ (z : Names_data). z.roles) h.protocol.names_are in
     record {
       two = subst (λ (z : List (List ℕ)). 2 ≤ length z) (sym r.0) two;
-      few = subst (λ (z : List (List ℕ)). length z ≤ 16) (sym (r.0 ∙ names)) few;
+      few = subst (λ (z : List (List ℕ)). length z ≤ MOST_ROLES) (sym (r.0 ∙ names)) few;
       roles = (role_names bytes d h).0;
       one_each = r.1.one_each;
       in_place = r.1.in_place;

@@ -1,5 +1,6 @@
 -- How a document is read: token by token behind the protocol, and machine by machine.
-use Rattle.std.specs.Prelude.{◌≡◌, ℕ, ◌<◌, ◌≤◌, suc, List, [], ◌∷◌, length, codes, Bool, true, false, Option, Some, None, slice_get, if◌then◌else◌}
+use Rattle.std.specs.Prelude.{◌+◌, ◌≡◌, ℕ, ◌<◌, ◌≤◌, suc, List, [], ◌∷◌, length, codes, Bool, true, false, Option, Some, None, slice_get, if◌then◌else◌}
+use Rattle.rs_model.specs.declared.limits.TheConstants.{MOST_ACTS, MOST_LABELS, MOST_ROLES, MOST_TALKS}
 use Rattle.rs_model.specs.Data.{Names_data, Machine_data}
 use Rattle.rs_text.specs.Lexemes.{Lexeme}
 use Rattle.rs_text.specs.Names.{place_of}
@@ -8,19 +9,19 @@ use Rattle.rs_text.specs.Signs.{Sign, finish}
 use Rattle.rs_text.specs.Sound.{IsSound}
 use Rattle.rs_tool.specs.Data.{Document_data}
 use Rattle.rs_tool.specs.Documents.{SpellsDocument, StandsAt, derivation_word, is_word, fault_behind, GoesOn, IsBehindProtocol, HasFault}
-use Rattle.rs_tool.specs.declared.documents.Begin.{Begin}
-use Rattle.rs_tool.specs.declared.documents.Begin.TheVariants as begin
+use Rattle.rs_tool.specs.declared.documents.PartBegin.{PartBegin}
+use Rattle.rs_tool.specs.declared.documents.PartBegin.TheVariants as part_begin
 use Rattle.rs_tool.specs.declared.documents.Content.{Content}
 use Rattle.rs_tool.specs.declared.documents.Content.TheVariants as content
 use Rattle.rs_tool.specs.declared.documents.Part.{Part}
 use Rattle.rs_tool.specs.declared.documents.Part.TheVariants as part
 
 -- the token is the end, begins a part, or has this fault
-abbrev pub IsBegin : Sign → Begin → Type 0
-IsBegin sign begin.End = sign ≡ finish
-IsBegin sign begin.Machine = is_word (codes "machine") sign ≡ true
-IsBegin sign begin.Derivation = is_word (codes "derivation") sign ≡ true
-IsBegin sign (begin.Fault kind) = fault_behind sign ≡ Some kind
+abbrev pub IsPartBegin : Sign → PartBegin → Type 0
+IsPartBegin sign part_begin.End = sign ≡ finish
+IsPartBegin sign part_begin.Machine = is_word (codes "machine") sign ≡ true
+IsPartBegin sign part_begin.Derivation = is_word (codes "derivation") sign ≡ true
+IsPartBegin sign (part_begin.Fault kind) = fault_behind sign ≡ Some kind
 
 -- whether the role at the place has a machine
 abbrev pub is_held : Option (Option Machine_data) → Bool
@@ -42,7 +43,7 @@ twice_of names machines l = twice_named (plain_text l.sign) names machines l.fro
 
 -- no machine has more than 257 states
 abbrev pub AreShort : List (Option Machine_data) → Type 0
-AreShort machines = (k : ℕ) (machine : Machine_data) → slice_get machines k ≡ Some (Some machine) → length machine.states ≤ 257
+AreShort machines = (k : ℕ) (machine : Machine_data) → slice_get machines k ≡ Some (Some machine) → length machine.states ≤ MOST_ACTS + 1
 
 -- each stands in its role's place
 abbrev pub AreInPlace : List (Option Machine_data) → Type 0
@@ -52,12 +53,12 @@ AreInPlace machines = (k : ℕ) (machine : Machine_data) → slice_get machines 
 pub record IsReady (d : Document_data) : Type 0 where
   pub sound : IsSound d.names
   pub two : 2 ≤ length d.names.roles
-  pub roles : length d.names.roles ≤ 16
-  pub labels : length d.names.labels ≤ 256
+  pub roles : length d.names.roles ≤ MOST_ROLES
+  pub labels : length d.names.labels ≤ MOST_LABELS
   pub one_each : length d.machines ≡ length d.names.roles
   pub short : AreShort d.machines
   pub in_place : AreInPlace d.machines
-  pub nodes : length d.protocol.nodes ≤ 1025
+  pub nodes : length d.protocol.nodes ≤ MOST_TALKS + 1
 
 -- how many roles have no machine
 abbrev pub free_in : List (Option Machine_data) → ℕ

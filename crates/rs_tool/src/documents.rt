@@ -1,10 +1,11 @@
 //! Documents: a protocol, and machines for some of its roles.
 
 ghost use Rattle.std.specs.Prelude.{◌≡◌, ◌≤◌, ◌<◌, length, IfOk, IfSome, Some, None, slice_get};
+ghost use Rattle.rs_model.specs.declared.limits.TheConstants.{MOST_ROLES};
 ghost use Rattle.rs_text.specs.Lexemes.{sign_of, text_of, next_lexeme, lexeme_of};
 ghost use Rattle.rs_tool.specs.Documents as spec;
 ghost use Rattle.rs_tool.specs.Documents.{StandsAt, is_word, machine_word, with_machine};
-ghost use Rattle.rs_tool.specs.Reading.{GoesOnWith, IsBegin, IsContent, IsInOrder, IsPart, IsReady, is_held, twice_of};
+ghost use Rattle.rs_tool.specs.Reading.{GoesOnWith, IsPartBegin, IsContent, IsInOrder, IsPart, IsReady, is_held, twice_of};
 
 use rs_global::read_protocol;
 use rs_machines::read_machine;
@@ -41,7 +42,7 @@ pub enum Content {
 
 /// What the token begins at a place where a machine may stand.
 #[derive(Clone, Copy)]
-enum Begin {
+enum PartBegin {
     End,
     Machine,
     Derivation,
@@ -69,17 +70,17 @@ fn is_word(bytes: &[u8], token: Token, word: &[u8]) -> bool
     }
 }
 
-fn begin_at(bytes: &[u8], at: usize) -> Begin
+fn part_begin_at(bytes: &[u8], at: usize) -> PartBegin
     requires { at ≤ length bytes.now }
-    ensures { IsBegin (next_lexeme bytes.now at).sign result }
+    ensures { IsPartBegin (next_lexeme bytes.now at).sign result }
 {
     let mut lexer = Lexer::new(bytes, at);
     match lexer.next() {
-        Ok(token) if token.kind == Kind::Finish => Begin::End,
-        Ok(token) if is_word(bytes, token, b"machine") => Begin::Machine,
-        Ok(token) if is_word(bytes, token, b"derivation") => Begin::Derivation,
-        Ok(_) => Begin::Fault(TextKind::Expected(Wanted::PartOrEnd)),
-        Err(fault) => Begin::Fault(TextKind::from(fault.kind)),
+        Ok(token) if token.kind == Kind::Finish => PartBegin::End,
+        Ok(token) if is_word(bytes, token, b"machine") => PartBegin::Machine,
+        Ok(token) if is_word(bytes, token, b"derivation") => PartBegin::Derivation,
+        Ok(_) => PartBegin::Fault(TextKind::Expected(Wanted::PartOrEnd)),
+        Err(fault) => PartBegin::Fault(TextKind::from(fault.kind)),
     }
 }
 
@@ -96,7 +97,7 @@ fn is_held(machines: &[Option<Machine>], place: usize) -> bool
 fn twice_of(document: &Document, bytes: &[u8], token: Token) -> Option<usize>
     requires ordered { token.from ≤ token.until }
     requires within { token.until ≤ length bytes.now }
-    requires roles { length document.now.names.roles ≤ 16 }
+    requires roles { length document.now.names.roles ≤ MOST_ROLES }
     ensures twice { result ≡ twice_of document.now.names document.now.machines (lexeme_of bytes.now token) }
     ensures place { IfSome result (λ offset. offset ≤ length bytes.now) }
 {
@@ -112,7 +113,7 @@ fn twice_of(document: &Document, bytes: &[u8], token: Token) -> Option<usize>
 /// The offset of the second token of a machine, where it is a role that has a machine.
 fn twice_at(document: &Document, bytes: &[u8], at: usize) -> Option<usize>
     requires within { at ≤ length bytes.now }
-    requires roles { length document.now.names.roles ≤ 16 }
+    requires roles { length document.now.names.roles ≤ MOST_ROLES }
     requires machine { StandsAt bytes.now at machine_word }
     ensures twice { result ≡ twice_of document.now.names document.now.machines (next_lexeme bytes.now (next_lexeme bytes.now at).until) }
     ensures place { IfSome result (λ offset. offset ≤ length bytes.now) }
@@ -178,11 +179,11 @@ fn read_part(
     requires ready { IsReady document.old }
     ensures { IfOk result (IsPart bytes.now at document.old document.new) }
 {
-    match begin_at(bytes, at) {
-        Begin::End => Ok(Part::End),
-        Begin::Machine => add_machine(alloc, bytes, at, document),
-        Begin::Derivation => Ok(Part::Derivations),
-        Begin::Fault(kind) => Ok(Part::Fault(TextFault { kind, at })),
+    match part_begin_at(bytes, at) {
+        PartBegin::End => Ok(Part::End),
+        PartBegin::Machine => add_machine(alloc, bytes, at, document),
+        PartBegin::Derivation => Ok(Part::Derivations),
+        PartBegin::Fault(kind) => Ok(Part::Fault(TextFault { kind, at })),
     }
 }
 

@@ -1,6 +1,6 @@
 //! Laws about the definitions: each function does nothing, and its contract is the law.
 
-ghost use Rattle.std.specs.Prelude.{◌≡◌, ◌↔◌, ℕ, List};
+ghost use Rattle.std.specs.Prelude.{◌≡◌, ◌↔◌, ℕ, List, length};
 ghost use Rattle.rs_tool.specs.Answers.{Answers};
 ghost use Rattle.rs_tool.specs.Data.{Answer_data, Document_data};
 ghost use Rattle.rs_tool.specs.Derivations.{AreSearchable};
@@ -41,4 +41,9 @@ pub fn what_is_spelt_is_found()
 /// There is no doubt which machines the headline means: whatever it says of the same bytes, it says of the same machines.
 pub fn headline_means_one_session()
     ensures { (bytes : List ℕ) (one other : SpellsSafeMachines bytes) → machines_of one.document.machines one.projections ≡ machines_of other.document.machines other.projections }
+{}
+
+/// The headline speaks of one machine a role.
+pub fn headline_has_a_machine_a_role()
+    ensures { (bytes : List ℕ) (h : SpellsSafeMachines bytes) → length (machines_of h.document.machines h.projections) ≡ h.document.protocol.roles }
 {}
