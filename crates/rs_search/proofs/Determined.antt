@@ -47,7 +47,7 @@ move-form sub above p makes rs (PaysSend q arm place so st found at sv mk re) =
     inl (rw (st, is p.pending Send q (At place) found, at, eq-eqb arm.label.0 arm.label.0 refl, serve arm.sort so sv) tt)
 move-form sub above p makes rs (SendsBoth q arms theirs st none gt mk both) =
     (let k = both_serve theirs p.pending arms rs both in
-     inl (rw (st, is p.pending Send q Absent none, gt, eq-eqb q.0 q.0 refl, k) (both-single theirs p.pending arms k)))
+    inl (rw (st, is p.pending Send q Absent none, gt, eq-eqb q.0 q.0 refl, k) (both-single theirs p.pending arms k)))
 move-form sub above p makes rs (Guesses q r arms theirs place b st none gt ne g mk re) =
     inr record { peer = r; theirs = theirs; there = gt; due' = rw (st, is p.pending Send q Absent none, gt, ne_eqb r.0 q.0 (λ e. ne (role_is r q (eq-eqb r.0 q.0 e)))) refl }
 move-form sub above p makes rs (SendsAhead q r arms theirs st none gt mk re) = inl (rw (st, is p.pending Send q Absent none, gt) (follow-single p r theirs))
@@ -98,16 +98,19 @@ one_choice sub above bound p rs rs' c c' =
     let t = complete sub above p c.move.makes rs c.move.move in
     let u = complete sub above p c'.move.makes rs' c'.move.move in
     elim (move-form sub above p c.move.makes rs c.move.move) [
-      inl s ↦ (let k : Single t.d.nexts = subst (λ (o : Option Due). SingleDue o) t.is' s in
-        single-is t.d.nexts rs k t.picks ∙ sym (single-is t.d.nexts rs' k (due-nexts sub above p u.d rs' t.d u.is' t.is' u.picks)))
-    | inr g ↦ (let a = chosen-arm sub above bound p rs g c in let b = chosen-arm sub above bound p rs' g c' in
-        elim (cases_lt a.place b.place) [
-          inl lt ↦ absurd (earlier-not sub above bound p rs rs' g a b c c' lt)
-        | inr ge ↦ elim (cases_lt b.place a.place) [
-            inl lt ↦ absurd (earlier-not sub above bound p rs' rs g b a c' c lt)
-          | inr le ↦ (let e : a.place ≡ b.place = omega arith in
-              let m : a.arm ≡ b.arm = same_Some a.arm b.arm (sym a.is ∙ ap (λ (z : ℕ). slice_get g.theirs z) e ∙ b.is) in
-              a.results ∙ ap (λ (z : Arm). owing_send p g.peer z ∷ []) m ∙ sym b.results) ] ]) ]
+      | inl s ↦ (let k : Single t.d.nexts = subst (λ (o : Option Due). SingleDue o) t.is' s in
+          single-is t.d.nexts rs k t.picks ∙ sym (single-is t.d.nexts rs' k (due-nexts sub above p u.d rs' t.d u.is' t.is' u.picks)))
+      | inr g ↦ (let a = chosen-arm sub above bound p rs g c in let b = chosen-arm sub above bound p rs' g c' in
+          elim (cases_lt a.place b.place) [
+            | inl lt ↦ absurd (earlier-not sub above bound p rs rs' g a b c c' lt)
+            | inr ge ↦ elim (cases_lt b.place a.place) [
+              | inl lt ↦ absurd (earlier-not sub above bound p rs' rs g b a c' c lt)
+              | inr le ↦ (let e : a.place ≡ b.place = omega arith in
+                  let m : a.arm ≡ b.arm = same_Some a.arm b.arm (sym a.is ∙ ap (λ (z : ℕ). slice_get g.theirs z) e ∙ b.is) in
+                  a.results ∙ ap (λ (z : Arm). owing_send p g.peer z ∷ []) m ∙ sym b.results)
+            ]
+          ])
+    ]
 
 -- two discoveries by the same choices
 
@@ -180,7 +183,7 @@ worked-same sub above bound xs ys ox oy k known after after' _ _ ag fx fy ex ey 
     let w2 : Worked (suc k) mid rows' after' = subst (λ (m : ℕ). Worked (suc k) m rows' after') (sym s.mids) w' in
     let on : (i : ℕ) → k + suc i ≡ suc k + i = λ i. omega arith in
     let t = worked-same sub above bound xs ys ox oy (suc k) mid after after' rows rows' s.agree
-        (λ i r q a b. fx (suc i) r q a (ap (λ (j : ℕ). slice_get xs j) (on i) ∙ b)) (λ i r q a b. fy (suc i) r q a (ap (λ (j : ℕ). slice_get ys j) (on i) ∙ b)) ex ey (omega arith) (omega arith) w w2 in
+    (λ i r q a b. fx (suc i) r q a (ap (λ (j : ℕ). slice_get xs j) (on i) ∙ b)) (λ i r q a b. fy (suc i) r q a (ap (λ (j : ℕ). slice_get ys j) (on i) ∙ b)) ex ey (omega arith) (omega arith) w w2 in
     record { rows-same = ap (λ (r : List ℕ). r ∷ rows) s.rows ∙ ap (λ (rs : List (List ℕ)). row' ∷ rs) t.rows-same; ends = t.ends; agree = t.agree }
 
 -- two canonical derivations, but for their ranks
@@ -224,13 +227,14 @@ one_canonical sub above bound d e c c' =
     let nd = length-map (λ (m : DNode_data). m.next) d.nodes in
     let ne = length-map (λ (m : DNode_data). m.next) e.nodes in
     let s = worked-same sub above bound (spots d) (spots e) c.once c'.once 0 1 (length d.nodes) (length e.nodes) (nexts d) (nexts e)
-        (λ i lt. let z : i ≡ 0 = omega arith in ap (λ (j : ℕ). slice_get (spots d) j) z ∙ c.first ∙ sym c'.first ∙ ap (λ (j : ℕ). slice_get (spots e) j) (sym z))
-        (follows sub above bound d c) (follows sub above bound e c') (sym ld) (sym le) (omega arith) (omega arith) c.order c'.order in
+    (λ i lt. let z : i ≡ 0 = omega arith in ap (λ (j : ℕ). slice_get (spots d) j) z ∙ c.first ∙ sym c'.first ∙ ap (λ (j : ℕ). slice_get (spots e) j) (sym z))
+    (follows sub above bound d c) (follows sub above bound e c') (sym ld) (sym le) (omega arith) (omega arith) c.order c'.order in
     record {
       spots' = same-list (spots d) (spots e) (let q = s.ends in omega arith) (λ i lt. s.agree i (omega arith));
       nexts' = s.rows-same;
       role = c.role ∙ sym c'.role;
-      bound = c.bound' ∙ sym c'.bound' }
+      bound = c.bound' ∙ sym c'.bound';
+    }
 
 -- edges that keep their head don't depend on ranks
 pub keeps_on : (sub above : Machine_data) (d e : Derivation_data) → Same d e → (i j : ℕ) → KeepsHead sub above d.nodes i j → KeepsHead sub above e.nodes i j
@@ -240,10 +244,14 @@ keeps_on sub above d e s i j h =
     let same : n.0 ≡ m.0 = same_Some n.0 m.0 (sym n.1 ∙ m.1) in
     let next : h.node.next ≡ m.0.next = sym n.2 ∙ ap (λ (z : DNode_data). z.next) same in
     record {
-      node = m.0; is = m.1; makes = h.makes; results = h.results;
+      node = m.0;
+      is = m.1;
+      makes = h.makes;
+      results = h.results;
       move = subst (λ (z : Spot). HasMove sub above z h.makes h.results) (sym m.2) h.move;
       keeps = subst (λ (z : Spot). KeepsItsHead z.pending h.makes) (sym m.2) h.keeps;
-      leads = subst (λ (z : List ℕ). Among z j) next h.leads }
+      leads = subst (λ (z : List ℕ). Among z j) next h.leads;
+    }
 
 same-back : (d e : Derivation_data) → Same d e → Same e d
 same-back d e s = record { spots' = sym s.spots'; nexts' = sym s.nexts'; role = sym s.role; bound = sym s.bound }
@@ -263,14 +271,14 @@ one_answer sub above bound d e f g =
     let s = one_canonical sub above bound d e f.canonical g.canonical in
     let l : length d.nodes ≡ length e.nodes = sym (length-map (λ (m : DNode_data). spot_of m) d.nodes) ∙ ap (λ (z : List Spot). length z) s.spots' ∙ length-map (λ (m : DNode_data). spot_of m) e.nodes in
     let nodes : d.nodes ≡ e.nodes = same-list d.nodes e.nodes l (λ i lt.
-        let n = at_within d.nodes i lt in
-        let m = at_within e.nodes i (omega arith) in
-        let es : spot_of n.0 ≡ spot_of m.0 = same_Some (spot_of n.0) (spot_of m.0) (sym (map-at (λ (x : DNode_data). spot_of x) d.nodes i n.0 n.1) ∙ ap (λ (z : List Spot). slice_get z i) s.spots' ∙ map-at (λ (x : DNode_data). spot_of x) e.nodes i m.0 m.1) in
-        let en : n.0.next ≡ m.0.next = same_Some n.0.next m.0.next (sym (map-at (λ (x : DNode_data). x.next) d.nodes i n.0 n.1) ∙ ap (λ (z : List (List ℕ)). slice_get z i) s.nexts' ∙ map-at (λ (x : DNode_data). x.next) e.nodes i m.0 m.1) in
-        let a = rank-most sub above d e s i n.0.rank m.0.rank (f.ranks i n.0 n.1) (g.ranks i m.0 m.1) in
-        let b = rank-most sub above e d (same-back d e s) i m.0.rank n.0.rank (g.ranks i m.0 m.1) (f.ranks i n.0 n.1) in
-        let er : n.0.rank ≡ m.0.rank = omega arith in
-        n.1 ∙ ap Some (node-same n.0 m.0 es er en) ∙ sym m.1) in
+    let n = at_within d.nodes i lt in
+    let m = at_within e.nodes i (omega arith) in
+    let es : spot_of n.0 ≡ spot_of m.0 = same_Some (spot_of n.0) (spot_of m.0) (sym (map-at (λ (x : DNode_data). spot_of x) d.nodes i n.0 n.1) ∙ ap (λ (z : List Spot). slice_get z i) s.spots' ∙ map-at (λ (x : DNode_data). spot_of x) e.nodes i m.0 m.1) in
+    let en : n.0.next ≡ m.0.next = same_Some n.0.next m.0.next (sym (map-at (λ (x : DNode_data). x.next) d.nodes i n.0 n.1) ∙ ap (λ (z : List (List ℕ)). slice_get z i) s.nexts' ∙ map-at (λ (x : DNode_data). x.next) e.nodes i m.0 m.1) in
+    let a = rank-most sub above d e s i n.0.rank m.0.rank (f.ranks i n.0 n.1) (g.ranks i m.0 m.1) in
+    let b = rank-most sub above e d (same-back d e s) i m.0.rank n.0.rank (g.ranks i m.0 m.1) (f.ranks i n.0 n.1) in
+    let er : n.0.rank ≡ m.0.rank = omega arith in
+    n.1 ∙ ap Some (node-same n.0 m.0 es er en) ∙ sym m.1) in
     make s.role s.bound nodes
   where
     make : d.role ≡ e.role → d.bound ≡ e.bound → d.nodes ≡ e.nodes → d ≡ e
@@ -279,15 +287,19 @@ one_answer sub above bound d e f g =
 -- the start of a canonical derivation survives
 pub starts_survive : (sub above : Machine_data) (bound : ℕ) (d : Derivation_data) → IsCanonical sub above bound d → Survives sub above bound (begin sub above)
 starts_survive sub above bound d c = record {
-    set = spots d;
-    stand = record {
-      candidates = λ p m. (let i = at_in (spots d) p m in let n = map-of (λ (x : DNode_data). spot_of x) d.nodes i.0 p i.1 in
+  set = spots d;
+  stand = record {
+    candidates = λ p m. (let i = at_in (spots d) p m in let n = map-of (λ (x : DNode_data). spot_of x) d.nodes i.0 p i.1 in
         subst (λ (z : Spot). IsCandidate sub above bound z) n.2 (nodes_are_candidates sub above bound d c i.0 n.0 n.1));
-      each = λ p m. (let i = at_in (spots d) p m in let n = map-of (λ (x : DNode_data). spot_of x) d.nodes i.0 p i.1 in let f = c.each i.0 n.0 n.1 in
+    each = λ p m. (let i = at_in (spots d) p m in let n = map-of (λ (x : DNode_data). spot_of x) d.nodes i.0 p i.1 in let f = c.each i.0 n.0 n.1 in
         subst (λ (z : Spot). IsSupported sub above bound (spots d) z) n.2 record {
-          results = f.results; move = f.chosen.move;
-          all = λ r k. (let a = names_at (spots d) n.0.next f.results f.names r k in in_at (spots d) a.0 r a.1) }) };
-    among = in_at (spots d) 0 (begin sub above) c.first }
+          results = f.results;
+          move = f.chosen.move;
+          all = λ r k. (let a = names_at (spots d) n.0.next f.results f.names r k in in_at (spots d) a.0 r a.1);
+        });
+  };
+  among = in_at (spots d) 0 (begin sub above) c.first;
+}
 
 -- ranks leave no cycle
 walk-join : (E : ℕ → ℕ → Type 0) (i j k n m : ℕ) → Walk E i n j → Walk E j m k → Walk E i (n + m) k
@@ -349,10 +361,12 @@ not_both_ways sub above bound d NoMemory i r = refl
 
 pub few_nodes : (sub above : Machine_data) (bound : ℕ) (d : Derivation_data) → IsFound sub above bound d → length d.nodes ≤ 65536
 few_nodes sub above bound d f = elim (cases_lt 65536 (length d.nodes)) [
-    inl lt ↦ absurd (f.few record {
-      spots = spots d;
-      each = λ p m. (let i = at_in (spots d) p m in let n = map-of (λ (x : DNode_data). spot_of x) d.nodes i.0 p i.1 in
+  | inl lt ↦ absurd (f.few record {
+    spots = spots d;
+    each = λ p m. (let i = at_in (spots d) p m in let n = map-of (λ (x : DNode_data). spot_of x) d.nodes i.0 p i.1 in
         subst (λ (z : Spot). IsCandidate sub above bound z) n.2 (nodes_are_candidates sub above bound d f.canonical i.0 n.0 n.1));
-      once = f.canonical.once;
-      many = (let l = length-map (λ (m : DNode_data). spot_of m) d.nodes in omega arith) })
-  | inr le ↦ le ]
+    once = f.canonical.once;
+    many = (let l = length-map (λ (m : DNode_data). spot_of m) d.nodes in omega arith);
+  })
+  | inr le ↦ le
+]

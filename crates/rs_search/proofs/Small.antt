@@ -11,16 +11,20 @@ use Rattle.rs_search.specs.Survives.{Survives, IsSupported}
 
 pub ends_survive : (bound : ℕ) → Survives ended ended bound (begin ended ended)
 ends_survive bound = record {
-    set = begin ended ended ∷ [];
-    stand = record {
-      candidates = λ p m. elim m [ inl e ↦ subst (λ (z : Spot). IsCandidate ended ended bound z) e Start | inr h ↦ absurd h ];
-      each = λ p m. elim m [
-          inl e ↦ subst (λ (z : Spot). IsSupported ended ended bound (begin ended ended ∷ []) z) e record {
-            results = [];
-            move = record { makes = None; move = Stops refl refl refl refl refl; short = λ r h. absurd h };
-            all = λ r h. absurd h }
-        | inr h ↦ absurd h ] };
-    among = inl refl }
+  set = begin ended ended ∷ [];
+  stand = record {
+    candidates = λ p m. elim m [ inl e ↦ subst (λ (z : Spot). IsCandidate ended ended bound z) e Start | inr h ↦ absurd h ];
+    each = λ p m. elim m [
+      | inl e ↦ subst (λ (z : Spot). IsSupported ended ended bound (begin ended ended ∷ []) z) e record {
+        results = [];
+        move = record { makes = None; move = Stops refl refl refl refl refl; short = λ r h. absurd h };
+        all = λ r h. absurd h;
+      }
+      | inr h ↦ absurd h
+    ];
+  };
+  among = inl refl;
+}
 
 no-move : (makes : Option ℕ) (rs : List Spot) → HasMove ended waiting (begin ended waiting) makes rs → ⊥
 no-move makes rs (Stops st pe gt mk re) = cc
