@@ -143,8 +143,8 @@ into_edge outs intos n p r inn inp inr' i =
             ])
             | inr e ↦ old (i.from m x (subst (λ (z : List Move). Among z m) e.1 h))
           ]);
-    count = (let a = end-count intos r (record { node = n; place = p }) inr2 in let b = edge-count outs n p r inn inp in let c = i.count in omega arith);
-  }
+      count = (let a = end-count intos r (record { node = n; place = p }) inr2 in let b = edge-count outs n p r inn inp in let c = i.count in omega arith);
+    }
 
 pub fill_none : (g : Graph_data) (n : ℕ) → get_or g.outs n [] ≡ [] → IsInto g.outs g.intos → IsFilled g g n []
 fill_none g n e i = record { size = refl; here = e; others = λ k ne. refl; into = i }
@@ -241,8 +241,8 @@ built_none anys rows g eo ei =
         to = λ m r h. (let z : get_or (get_or g.outs m.node []) m.place [] ≡ [] = ap (λ (y : List (List ℕ)). get_or y m.place []) (o m.node) in let bad : Among [] r = subst (λ (y : List ℕ). Among y r) z h in absurd bad);
         from = λ m r h. (let bad : Among [] m = subst (λ (y : List Move). Among y m) (q r) h in absurd bad);
         count = (let a = sum_by-replicate (λ (row : List Move). length row) (length rows) [] in let b = sum_by-replicate (λ (moves : List (List ℕ)). sum_by (λ (results : List ℕ). length results) moves) (length rows) [] in
-          let c : sum_by (λ (row : List Move). length row) g.intos ≡ sum_by (λ (row : List Move). length row) (replicate (length rows) []) = ap (sum_by (λ (row : List Move). length row)) ei in
-          let d : edges_in g.outs ≡ edges_in (replicate (length rows) []) = ap edges_in eo in omega arith);
+            let c : sum_by (λ (row : List Move). length row) g.intos ≡ sum_by (λ (row : List Move). length row) (replicate (length rows) []) = ap (sum_by (λ (row : List Move). length row)) ei in
+            let d : edges_in g.outs ≡ edges_in (replicate (length rows) []) = ap edges_in eo in omega arith);
       };
     }
 

@@ -72,14 +72,17 @@ both-few xs ys outs ox oy apart wx wy =
     split [] bs n h = inr h
     split (a ∷ as') bs n (inl e) = inl (inl e)
     split (a ∷ as') bs n (inr h) = elim (split as' bs n h) [ inl k ↦ inl (inr k) | inr k ↦ inr k ]
+
     at-append : (as' bs : List ℕ) (i n : ℕ) → slice_get (as' ++ bs) i ≡ Some n → (slice_get as' i ≡ Some n) ⊎ ((j : ℕ) × (i ≡ length as' + j) × (slice_get bs j ≡ Some n))
     at-append [] bs i n e = inr (i, omega arith, e)
     at-append (a ∷ as') bs zero n e = inl e
     at-append (a ∷ as') bs (suc i) n e = elim (at-append as' bs i n e) [ inl k ↦ inl k | inr k ↦ inr (k.0, (let q = k.1 in omega arith), k.2) ]
+
     both-once : (as' bs : List ℕ) → Once as' → Once bs → ((n : ℕ) → Among as' n → Among bs n → ⊥) → Once (as' ++ bs)
     both-once as' bs oa ob none i j x ei ej = elim (at-append as' bs i x ei) [
-        inl a ↦ elim (at-append as' bs j x ej) [ inl b ↦ oa i j x a b | inr b ↦ absurd (none x (in_at as' i x a) (in_at bs b.0 x b.2)) ]
-      | inr a ↦ elim (at-append as' bs j x ej) [ inl b ↦ absurd (none x (in_at as' j x b) (in_at bs a.0 x a.2)) | inr b ↦ (let q = ob a.0 b.0 x a.2 b.2 in let r = a.1 in let s = b.1 in omega arith) ] ]
+      | inl a ↦ elim (at-append as' bs j x ej) [ inl b ↦ oa i j x a b | inr b ↦ absurd (none x (in_at as' i x a) (in_at bs b.0 x b.2)) ]
+      | inr a ↦ elim (at-append as' bs j x ej) [ inl b ↦ absurd (none x (in_at as' j x b) (in_at bs a.0 x a.2)) | inr b ↦ (let q = ob a.0 b.0 x a.2 b.2 in let r = a.1 in let s = b.1 in omega arith) ]
+    ]
 
 pub removal_fits : (outs : List (List (List ℕ))) (intos : List (List Move)) (current order : List ℕ) → IsInto outs intos → IsRemoval outs current order → sum_by (λ (n : ℕ). cost_of intos n) order ≤ 2 * edges_in outs + length outs
 removal_fits outs intos current order into rem =

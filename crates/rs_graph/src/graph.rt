@@ -286,12 +286,7 @@ impl Graph {
 
     /// The nth edge that ends at the node, by the node and the place of its move, in order of addition; none where
     /// there are fewer. One step.
-    pub fn into<L: Ledger>(
-        &self,
-        node: u32,
-        nth: u64,
-        steps: &mut Steps<L>,
-    ) -> Option<(u32, u32)>
+    pub fn into<L: Ledger>(&self, node: u32, nth: u64, steps: &mut Steps<L>) -> Option<(u32, u32)>
         requires { node < length self.now.outs }
         ensures value { result ≡ pair_of (slice_get (slice_index_or self.now.intos node []) nth) }
         ensures step { steps.new ≡ steps.old + 1 }

@@ -237,15 +237,15 @@ edge_from sub above bound w kept a i j h =
     got (map (is_keeping sub above bound) w.found) n.0.number (is_keeping sub above bound n.0.point) false (map-at (is_keeping sub above bound) w.found n.0.number n.0.point n.0.at_number) ∙ is in
     subst (λ (z : List ℕ). Among z j) (sym (got kept i _ [] r)) (edge-kept _ n.0.row j is' (subst (λ (z : DNode_data). Among z.next j) (sym n.1) h.leads))
 
-walk-on : (E F : ℕ → ℕ → Type 0) → ((i j : ℕ) → E i j → F i j) → (i n k : ℕ) → Walk E i n k → Walk F i n k
-walk-on E F on i _ _ (Here _) = Here i
-walk-on E F on i _ k (Further _ j _ n e w) = Further i j k n (on i j e) (walk-on E F on j n k w)
+pub walk_on : (E F : ℕ → ℕ → Type 0) → ((i j : ℕ) → E i j → F i j) → (i n k : ℕ) → Walk E i n k → Walk F i n k
+walk_on E F on i _ _ (Here _) = Here i
+walk_on E F on i _ k (Further _ j _ n e w) = Further i j k n (on i j e) (walk_on E F on j n k w)
 
 rank-on : (E F : ℕ → ℕ → Type 0) → ((i j : ℕ) → E i j → F i j) → ((i j : ℕ) → F i j → E i j) → (i rank : ℕ) → IsRank E i rank → IsRank F i rank
-rank-on E F to from i rank r = record { end = r.end; walk = walk-on E F to i rank r.end r.walk; most = λ n k w. r.most n k (walk-on F E from i n k w) }
+rank-on E F to from i rank r = record { end = r.end; walk = walk_on E F to i rank r.end r.walk; most = λ n k w. r.most n k (walk_on F E from i n k w) }
 
-least-on : (E F : ℕ → ℕ → Type 0) → ((i j : ℕ) → E i j → F i j) → ((i j : ℕ) → F i j → E i j) → (i : ℕ) → IsLeastOnCycle E i → IsLeastOnCycle F i
-least-on E F to from i c = record { cycle = (c.cycle.0, walk-on E F to i (suc c.cycle.0) i c.cycle.1); least = λ k d. c.least k (d.0, walk-on F E from k (suc d.0) k d.1) }
+pub least_on : (E F : ℕ → ℕ → Type 0) → ((i j : ℕ) → E i j → F i j) → ((i j : ℕ) → F i j → E i j) → (i : ℕ) → IsLeastOnCycle E i → IsLeastOnCycle F i
+least_on E F to from i c = record { cycle = (c.cycle.0, walk_on E F to i (suc c.cycle.0) i c.cycle.1); least = λ k d. c.least k (d.0, walk_on F E from k (suc d.0) k d.1) }
 
 few-are : (sub above : Machine_data) (bound : ℕ) (w : Worked_out sub above bound) → AreMoreThan sub above bound 65536 → ⊥
 few-are sub above bound w m = not_both (nexts_within sub above bound) (begin sub above) w.found w.rows 65536 w.discovery w.few (less_than sub above bound 65536 m)
@@ -266,7 +266,7 @@ forgets sub above bound w kept node a c = record {
   few = few-are sub above bound w;
   derivation = record { role = sub.role; bound = bound; nodes = w.nodes };
   canonical = canonical sub above bound w;
-  cycle = least-on (Edge kept) (KeepsHead sub above w.nodes) (edge_to sub above bound w kept a) (edge_from sub above bound w kept a) node c;
+  cycle = least_on (Edge kept) (KeepsHead sub above w.nodes) (edge_to sub above bound w kept a) (edge_from sub above bound w kept a) node c;
 }
 
 -- nodes whose ranks are all 0, where there are no ranks

@@ -98,7 +98,7 @@ follow-level p q [] r h = absurd h
 follow-level p q (b ∷ theirs) r (inl e) = ap (λ (z : Spot). length z.pending) (sym e) ∙ push-length p (act.Takes q b.label b.sort)
 follow-level p q (b ∷ theirs) r (inr h) = follow-level p q theirs r h
 
-follow-single : (p : Spot) (q : Role) (theirs : List Arm) → Single (map (λ b. owing_receive p q b ∷ []) theirs)
+pub follow-single : (p : Spot) (q : Role) (theirs : List Arm) → Single (map (λ b. owing_receive p q b ∷ []) theirs)
 follow-single p q [] = tt
 follow-single p q (b ∷ theirs) = follow-single p q theirs
 
@@ -108,7 +108,7 @@ simple_guesses p q theirs = record { form = inr (map (λ b. owing_send p q b) th
 simple_follows : (p : Spot) (q : Role) (theirs : List Arm) → Simple (length p.pending) (follows p q theirs)
 simple_follows p q theirs = record { form = inl (follow-single p q theirs); level = record { owes = suc (length p.pending); all = follow-level p q theirs; few = omega arith } }
 
-both-single : (theirs : List Arm) (pending : List Act) (arms : List Arm) → all_serve theirs arms ≡ true → Single (map (λ a. both_at pending a (arm_of theirs a.label)) arms)
+pub both-single : (theirs : List Arm) (pending : List Act) (arms : List Arm) → all_serve theirs arms ≡ true → Single (map (λ a. both_at pending a (arm_of theirs a.label)) arms)
 both-single theirs pending [] e = tt
 both-single theirs pending (a ∷ arms) e =
     let k = and_parts (serves_some a (arm_of theirs a.label)) (all_serve theirs arms) e in
@@ -186,7 +186,7 @@ single-chosen ([] ∷ ds) h = absurd h
 single-chosen ((r ∷ []) ∷ ds) h = ((zero, refl), single-chosen ds h)
 single-chosen ((r ∷ s ∷ ss) ∷ ds) h = absurd h
 
-single-is : (ds : List (List Spot)) (rs : List Spot) → Single ds → Chosen ds rs → rs ≡ concat ds
+pub single-is : (ds : List (List Spot)) (rs : List Spot) → Single ds → Chosen ds rs → rs ≡ concat ds
 single-is [] [] h c = refl
 single-is [] (r ∷ rs) h c = absurd c
 single-is ([] ∷ ds) rs h c = absurd h

@@ -201,6 +201,14 @@ fn either(a: bool, b: bool) -> bool
     a || b
 }
 
+// How many buckets there are: some for each state of either machine.
+fn bucket_count(sub: &Machine, above: &Machine) -> usize
+    ensures some { 0 < result }
+    ensures few { result < 2 ^ 32 }
+{
+    (sub.states.len().min(2_000) + above.states.len().min(2_000)) * 16 + 1
+}
+
 // Empty buckets.
 fn empty_buckets(alloc: Global, size: usize) -> Result<Vec<Row>, Fault>
     ensures ok { IfOk result (λ v. v.items ≡ replicate size []) }
@@ -234,7 +242,7 @@ pub fn find_all(
     ensures large { IfErr result (λ e. e ≡ TooLarge → MoreThan limit (nexts_within sub.now above.now bound) (begin sub.now above.now)) }
 {
     let start = start_of(alloc, sub, above);
-    let mut buckets = empty_buckets(alloc, 65_537)?;
+    let mut buckets = empty_buckets(alloc, bucket_count(sub, above))?;
     file(&mut buckets, &start, 0)?;
     let mut points = Vec::new(alloc);
     points.push(start)?;

@@ -16,11 +16,12 @@ use Rattle.rs_search.proofs.found.find_all.Goals as goal
 pub loop-alloc-init : goal.loop-alloc-init
 loop-alloc-init c =
     let e : c.push.new.self.items ≡ begin c.args.sub.now c.args.above.now ∷ [] = search (rules, c.in_ok-push.ensures.items, c.new-points.ensures.items, c.start_of-start.ensures) in
-    let z : length (replicate {A = List ℕ} 65537 []) ≡ 65537 = length-replicate {A = List ℕ} 65537 [] in
-    let l : length c.in_ok-buckets.buckets.items ≡ 65537 = ap (λ (w : List (List ℕ)). length w) c.in_ok-buckets.ensures.ok ∙ z in
-    let f = c.in_ok-file.ensures.filed [] refl (filed_none (bucket_of (length c.in_ok-buckets.buckets.items)) c.in_ok-buckets.buckets.items 65537 c.in_ok-buckets.ensures.ok) in
-    let f' : Filed (bucket_of 65537) (begin c.args.sub.now c.args.above.now ∷ []) c.file.new.buckets.items = subst (λ (w : ℕ). Filed (bucket_of w) (begin c.args.sub.now c.args.above.now ∷ []) c.file.new.buckets.items) l (rw (← c.start_of-start.ensures) f) in
-    rw (e, c.new-rows.ensures.items, c.new-anys.ensures.items, c.new-keeps.ensures.items) (growing_begin (nexts_within c.args.sub.now c.args.above.now c.args.bound) (begin c.args.sub.now c.args.above.now), c.requires.some, c.in_ok-file.ensures.size ∙ l, f', refl, refl, refl, λ n. omega arith)
+    let z : length (replicate {A = List ℕ} c.bucket_count.result []) ≡ c.bucket_count.result = length-replicate {A = List ℕ} c.bucket_count.result [] in
+    let l : length c.in_ok-buckets.buckets.items ≡ c.bucket_count.result = ap (λ (w : List (List ℕ)). length w) c.in_ok-buckets.ensures.ok ∙ z in
+    let f = c.in_ok-file.ensures.filed [] refl (filed_none (bucket_of (length c.in_ok-buckets.buckets.items)) c.in_ok-buckets.buckets.items c.bucket_count.result c.in_ok-buckets.ensures.ok) in
+    let s = c.in_ok-file.ensures.size in
+    let f' : Filed (bucket_of (length c.file.new.buckets.items)) (begin c.args.sub.now c.args.above.now ∷ []) c.file.new.buckets.items = subst (λ (w : ℕ). Filed (bucket_of w) (begin c.args.sub.now c.args.above.now ∷ []) c.file.new.buckets.items) (sym s) (rw (← c.start_of-start.ensures) f) in
+    rw (e, c.new-rows.ensures.items, c.new-anys.ensures.items, c.new-keeps.ensures.items) (growing_begin (nexts_within c.args.sub.now c.args.above.now c.args.bound) (begin c.args.sub.now c.args.above.now), c.requires.some, ((let b = c.bucket_count.ensures.some in omega arith), (let b = c.bucket_count.ensures.few in omega arith)), f', refl, refl, refl, λ n. omega arith)
 
 pub loop-alloc-preserved : goal.loop-alloc-preserved
 loop-alloc-preserved c =
@@ -32,8 +33,8 @@ loop-alloc-preserved c =
     let m : length c.push-in-loop-alloc-3.new.self.items ≡ length c.loop-alloc.rows.items + 1 = rw c.in_ok-push-4.ensures.items (let l = length-append c.loop-alloc.rows.items (c.in-Ok.row ∷ []) in omega arith) in (
       rw c.in_ok-push-4.ensures.items (growing_on (nexts_within c.args.sub.now c.args.above.now c.args.bound) (begin c.args.sub.now c.args.above.now) c.loop-alloc.points.items c.loop-alloc.rows.items c.index.result.now c.name_all.new.found.items c.in-Ok.row i.0 h gr na c.in-Ok.ensures.numbered c.name_all.ensures.longer),
       c.in-Ok.ensures.few,
-      c.in-Ok.ensures.size ∙ i.2,
-      subst (λ (w : ℕ). Filed (bucket_of w) c.name_all.new.found.items c.name_all.new.buckets.items) i.2 c.in-Ok.ensures.filed,
+      ((let s = c.in-Ok.ensures.size in let b = i.2.0 in omega arith), (let s = c.in-Ok.ensures.size in let b = i.2.1 in omega arith)),
+      subst (λ (w : ℕ). Filed (bucket_of w) c.name_all.new.found.items c.name_all.new.buckets.items) (sym c.in-Ok.ensures.size) c.in-Ok.ensures.filed,
       map_next (is_any c.args.sub.now c.args.above.now c.args.bound) c.loop-alloc.points.items c.name_all.new.found.items (length c.loop-alloc.rows.items) (length c.push-in-loop-alloc-3.new.self.items) c.index.result.now c.loop-alloc.anys.items c.push-in-loop-alloc.new.self.items c.turn.inside.any gr.kept h m i.4 (ap (λ (t : Turn_data). t.any) (c.turn.view_is ∙ c.in_ok-turn.ensures.turn)) c.in_ok-push-2.ensures.items,
       map_next (is_keeping c.args.sub.now c.args.above.now c.args.bound) c.loop-alloc.points.items c.name_all.new.found.items (length c.loop-alloc.rows.items) (length c.push-in-loop-alloc-3.new.self.items) c.index.result.now c.loop-alloc.keeps.items c.push-in-loop-alloc-2.new.self.items c.turn.inside.keeps gr.kept h m i.5 (ap (λ (t : Turn_data). t.keeps) (c.turn.view_is ∙ c.in_ok-turn.ensures.turn)) c.in_ok-push-3.ensures.items,
       any_next (is_cut c.args.sub.now c.args.above.now c.args.bound) c.loop-alloc.points.items c.name_all.new.found.items (length c.loop-alloc.rows.items) (length c.push-in-loop-alloc-3.new.self.items) c.index.result.now c.loop-alloc.cut c.turn.inside.cut c.either-cut.result gr.kept h m i.6 (ap (λ (t : Turn_data). t.cut) (c.turn.view_is ∙ c.in_ok-turn.ensures.turn)) c.either-cut.ensures,

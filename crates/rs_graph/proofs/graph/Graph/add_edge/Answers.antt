@@ -29,7 +29,7 @@ returns-then-is_err-clause-err c =
     let p : c.index_mut-then-is_err.result.now ≡ c.push.new.self = c.index_mut-then-is_err.ensures.value ∙ get_or-set_same intos c.args.target c.push.new.self c.index_mut-then-is_err.result.now hi in
     let q : c.pop.new.self ≡ c.index_mut.result.now = c.pop.ensures (record { node = c.args.node; place = c.args.place }) c.index_mut.result.now (p ∙ b) in
     let i : slice_set (slice_set intos c.args.target c.push.new.self) c.args.target c.pop.new.self ≡ intos =
-        set_again intos c.args.target c.push.new.self c.pop.new.self ∙ ap (λ (z : List Move). slice_set intos c.args.target z) q ∙ set_back intos c.args.target c.index_mut.result.now hi c.index_mut.ensures.value in
+    set_again intos c.args.target c.push.new.self c.pop.new.self ∙ ap (λ (z : List Move). slice_set intos c.args.target z) q ∙ set_back intos c.args.target c.index_mut.result.now hi c.index_mut.ensures.value in
     let x : (record { outs = slice_set outs c.args.node c.push_at.new.self; intos = slice_set (slice_set intos c.args.target c.push.new.self) c.args.target c.pop.new.self }) ≡ c.args.self.now =
-        ap (λ (z : List (List (List ℕ))). mk z (slice_set (slice_set intos c.args.target c.push.new.self) c.args.target c.pop.new.self)) o ∙ ap (λ (z : List (List Move)). mk outs z) i ∙ c.self.view_is in
+    ap (λ (z : List (List (List ℕ))). mk z (slice_set (slice_set intos c.args.target c.push.new.self) c.args.target c.pop.new.self)) o ∙ ap (λ (z : List (List Move)). mk outs z) i ∙ c.self.view_is in
     x
