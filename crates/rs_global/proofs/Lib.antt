@@ -1,13 +1,9 @@
-pub mod Bindings
-pub mod Standing
 pub mod FaultRuns
 pub mod FaultPlaces
 pub mod FaultCuts
 pub mod FaultSteps
 pub mod FirstFaults
 pub mod OneFault
-pub mod Refusals
-pub mod Fitting
 pub mod Answers
 pub mod Sounding
 pub mod Examples
@@ -27,7 +23,6 @@ pub mod CanonNumbers
 pub mod CanonWhole
 pub mod ShapeSteps
 pub mod ShapeGoes
-pub mod PlainNames
 pub mod ShapeGrown
 pub mod ShapeWhole
 pub mod PrintedTrees

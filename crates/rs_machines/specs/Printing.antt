@@ -8,9 +8,10 @@ use Rattle.rs_model.specs.declared.graph.Role.{Role}
 use Rattle.rs_machines.specs.declared.marks.Mark.{Mark}
 use Rattle.rs_machines.specs.declared.marks.Mark.TheVariants as mark
 use Rattle.rs_machines.specs.declared.printing.Target.{Target}
-use Rattle.rs_machines.specs.Canonical.{name_of_state, shown_sort, IsGoneBackTo}
-use Rattle.rs_machines.specs.Tables.{name_at}
-use Rattle.rs_machines.specs.Texts.{arm_text, mark_text}
+use Rattle.rs_machines.specs.Canonical.{name_of_state, IsGoneBackTo}
+use Rattle.rs_machines.specs.Texts.{mark_text}
+use Rattle.rs_text.specs.Arms.{shown_sort, arm_text}
+use Rattle.rs_text.specs.Names.{name_at}
 
 -- ---- which acts are gone back to
 

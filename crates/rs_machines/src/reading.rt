@@ -5,87 +5,17 @@ ghost use Rattle.rs_text.specs.Names.{bound_to};
 ghost use Rattle.rs_text.specs.Seen.{plain_text, word_text};
 ghost use Rattle.rs_machines.specs.Drafts.{names_read};
 ghost use Rattle.rs_machines.specs.Feeding as spec;
-ghost use Rattle.rs_machines.specs.Feeding.{Fails};
+ghost use Rattle.rs_text.specs.Readings.{Fails};
 
 use crate::drafts::{Draft, DraftArm, add_arm};
 use crate::marks::Mark;
-use rs_model::{Label, Name, NoMemory, Role, Sort};
-use rs_text::{Fault, Kind, Lexer, TextFault, TextKind, Token, Wanted, find, seen};
-use std::alloc::{AllocError, AllocFailed, Global};
+use rs_model::{Label, MOST_ACTS, MOST_LABELS, MOST_NESTING, Name, Role, Sort};
+use rs_text::{
+    Binding, Kind, Lexer, Stop, TextKind, Token, Wanted, bound_number, expected, fault, find, seen,
+    unbind,
+};
+use std::alloc::Global;
 use std::marker::Model;
-
-const DEEPEST: u32 = 200;
-
-const MOST_ACTS: usize = 256;
-
-const MOST_LABELS: usize = 256;
-
-/// Why the reading stopped.
-#[derive(Clone, Copy, Debug, PartialEq, Eq)]
-pub(crate) enum Stop {
-    Memory,
-    Fault(TextFault),
-}
-
-impl From<NoMemory> for Stop {
-    ghost use Rattle.std.specs.Prelude.{◌≡◌};
-    ghost use Rattle.rs_machines.specs.declared.reading.Stop.TheVariants as stops;
-
-    ghost from_gives = { λ _ e. e ≡ stops.Memory };
-
-    fn from(_refused: NoMemory) -> Self {
-        Stop::Memory
-    }
-}
-
-impl From<AllocError> for Stop {
-    ghost use Rattle.std.specs.Prelude.{◌≡◌};
-    ghost use Rattle.rs_machines.specs.declared.reading.Stop.TheVariants as stops;
-
-    ghost from_gives = { λ _ e. e ≡ stops.Memory };
-
-    fn from(_error: AllocError) -> Self {
-        Stop::Memory
-    }
-}
-
-impl<T: Drop> From<AllocFailed<T>> for Stop {
-    ghost use Rattle.std.specs.Prelude.{◌≡◌};
-    ghost use Rattle.rs_machines.specs.declared.reading.Stop.TheVariants as stops;
-
-    ghost from_gives = { λ _ e. e ≡ stops.Memory };
-
-    fn from(_refused: AllocFailed<T>) -> Self {
-        Stop::Memory
-    }
-}
-
-impl From<Fault> for Stop {
-    ghost use Rattle.std.specs.Prelude.{◌≡◌};
-    ghost use Rattle.rs_text.specs.Faults.{kind_of};
-    ghost use Rattle.rs_machines.specs.declared.reading.Stop.TheVariants as stops;
-
-    ghost from_gives = { λ fault e. e ≡ stops.Fault (record { kind = kind_of fault.kind; at = fault.at }) };
-
-    fn from(fault: Fault) -> Self {
-        Stop::Fault(TextFault::from(fault))
-    }
-}
-
-/// A recursion name, and the number of the first act of its body.
-#[derive(Drop, Debug)]
-pub(crate) struct Binding<'a> {
-    pub name: &'a [u8],
-    pub act: u32,
-}
-
-impl<'a> Model for Binding<'a> {
-    ghost use Rattle.std.specs.Prelude.{ℕ, List};
-
-    ghost Value = { List ℕ × ℕ };
-
-    ghost view = { λ b. (b.name.now, b.act) };
-}
 
 /// An open brace: its act, the count of names bound round it, and the nesting within it.
 #[derive(Clone, Copy, Debug, PartialEq, Eq)]
@@ -152,18 +82,6 @@ impl<'a> Model for Reader<'a> {
     ghost invariant = { λ r. (length r.roles.now ≤ 16) × ((length r.labels.items ≤ 256) × (length r.drafts.items ≤ 256)) };
 }
 
-fn fault(kind: TextKind, at: usize) -> Result<(), Stop>
-    ensures { result ≡ Err (Stop.Fault (record { kind = kind; at = at })) }
-{
-    Err(Stop::Fault(TextFault { kind, at }))
-}
-
-fn expected(wanted: Wanted, at: usize) -> Result<(), Stop>
-    ensures { result ≡ Err (Stop.Fault (record { kind = TextKind.Expected wanted; at = at })) }
-{
-    fault(TextKind::Expected(wanted), at)
-}
-
 /// What is wanted at a label; right behind a mark a brace may stand too.
 fn label_wanted(brace: bool) -> Wanted
     ensures { result ≡ spec.label_wanted brace }
@@ -173,20 +91,6 @@ fn label_wanted(brace: bool) -> Wanted
     } else {
         Wanted::Label
     }
-}
-
-/// The number of the act that the name is bound to, by the nearest `rec`.
-#[tactic(auto, using(crate::proofs::Bindings::nearest))]
-fn found(bound: &[Binding], name: &[u8]) -> Option<u32>
-    ensures { result ≡ bound_to name.now (reverse bound.now) }
-{
-    let mut act = None;
-    for binding in bound {
-        if binding.name == name {
-            act = Some(binding.act);
-        }
-    }
-    act
 }
 
 impl<'a> Reader<'a> {
@@ -331,7 +235,7 @@ impl<'a> Reader<'a> {
             return expected(Wanted::Name, token.from);
         };
         let act = self.drafts.len() as u32;
-        self.bound.push(Binding { name, act })?;
+        self.bound.push(Binding { name, number: act })?;
         self.mode = Mode::RecDot { from };
         Ok(())
     }
@@ -386,7 +290,7 @@ impl<'a> Reader<'a> {
         ensures err { IfErr result (λ e. Fails e (spec.feed_brace act at self.old)) }
         ensures kept { OnErr result (names_read self.new ≡ names_read self.old) }
     {
-        if self.depth >= DEEPEST {
+        if self.depth as usize >= MOST_NESTING {
             return fault(TextKind::TooDeep, at);
         }
         let depth = self.depth + 1;
@@ -543,11 +447,10 @@ impl<'a> Reader<'a> {
     }
 
     /// Names and nesting are again as they were where the brace was opened.
-    #[tactic(auto, using(crate::proofs::Bindings::cut_short))]
     fn restore(&mut self, frame: Frame)
         ensures { self.new ≡ spec.restored frame self.old }
     {
-        self.bound.truncate(frame.bound);
+        unbind(&mut self.bound, frame.bound);
         self.depth = frame.depth;
     }
 
@@ -605,7 +508,7 @@ impl<'a> Reader<'a> {
         ensures err { IfErr result (λ e. Fails e (spec.feed_rec from at self.old)) }
         ensures kept { OnErr result (names_read self.new ≡ names_read self.old) }
     {
-        if self.depth >= DEEPEST {
+        if self.depth as usize >= MOST_NESTING {
             return fault(TextKind::TooDeep, at);
         }
         self.depth += 1;
@@ -637,7 +540,7 @@ impl<'a> Reader<'a> {
                 self.met_by(from, peer, token.from)
             }
             _ => {
-                let act = found(self.bound.as_slice(), word);
+                let act = bound_number(self.bound.as_slice(), word);
                 self.named(from, act, token.from)
             }
         }

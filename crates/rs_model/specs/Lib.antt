@@ -4,3 +4,4 @@ pub mod Faults
 pub mod Sorts
 pub mod Talks
 pub mod WellFormed
+pub mod FirstFailed

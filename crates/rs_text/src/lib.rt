@@ -1,20 +1,24 @@
 //! Texts: their tokens, places, names and faults, and the buffer that texts are written into.
 #![tactic(auto)]
 
+mod bound;
 mod faults;
 pub mod laws;
 mod lexing;
 mod names;
 mod output;
 mod places;
+mod reading;
 pub mod seen;
 #[cfg(test)]
 mod tests;
 mod tokens;
 
+pub use bound::{Binding, bound_number, unbind};
 pub use faults::{TextFault, TextKind, Wanted};
 pub use lexing::{Lexer, number};
 pub use names::{add, find, is_role_word, is_word, sound};
 pub use output::Text;
 pub use places::place;
+pub use reading::{Stop, expected, fault};
 pub use tokens::{Fault, FaultKind, Kind, Token};

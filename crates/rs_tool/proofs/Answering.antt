@@ -12,7 +12,10 @@ use Rattle.rs_project.specs.Data.{Projection_data}
 use Rattle.rs_project.specs.Numbered.{AreNumberedProjections}
 use Rattle.rs_project.specs.declared.projecting.ProjFault.{ProjFault}
 use Rattle.rs_project.specs.declared.projecting.ProjFault.TheVariants as proj
-use Rattle.rs_safety.specs.Accepting.{AreSame, FirstOther}
+use Rattle.rs_derive.specs.Data.{Derivation_data}
+use Rattle.rs_search.specs.declared.faults.SearchFault.{SearchFault}
+use Rattle.rs_search.specs.declared.faults.SearchFault.TheVariants as search
+use Rattle.rs_tool.specs.Derivations.{AreCanonical, IsUnderivable}
 use Rattle.rs_text.specs.declared.faults.TextFault.{TextFault}
 use Rattle.rs_wellformed.specs.Faults.{first_fault}
 use Rattle.rs_wellformed.specs.declared.checks.WfFault.{WfFault}
@@ -28,15 +31,14 @@ use Rattle.rs_tool.specs.Checks as checks
 use Rattle.rs_tool.specs.Checks.{Checks, HasMachines}
 use Rattle.rs_tool.specs.Data.{Answer_data, Document_data}
 use Rattle.rs_tool.specs.Reading.{IsContent}
-use Rattle.rs_tool.specs.RefusalTexts.{not_built, too_large, fault_answer, wf_answer, proj_answer, machine_answer}
-use Rattle.rs_tool.specs.Report.{report, too_many_for}
+use Rattle.rs_tool.specs.RefusalTexts.{too_large, fault_answer, wf_answer, proj_answer, machine_answer, search_answer}
+use Rattle.rs_tool.specs.Report.{report}
 use Rattle.rs_tool.specs.Sessions.{Refuses, first_refusal, machines_of}
 use Rattle.rs_tool.specs.Statuses.{status_of}
 use Rattle.rs_tool.specs.Tables as tables
 use Rattle.rs_tool.specs.Tables.{Projects}
 use Rattle.rs_tool.specs.Texts.{joined}
 use Rattle.rs_tool.specs.Words.{reads, task_of}
-use Rattle.rs_tool.proofs.EachRole.{not_same}
 
 -- an answer that was made is the one that is meant
 meant : (P : Answer_data → Type 0) (r : Result Answer_data NoMemory) (a : Answer_data) → IfOk r (λ m. m ≡ a) → ((m : Answer_data) → m ≡ a → P m) → IfOk r P
@@ -63,22 +65,18 @@ ill_machine d ps ms role f r none h e s is =
     meant (Checks d) r (machine_answer d.names role f) is
     (λ m x. checks.HasIllMachine ps (record { well_formed = none; projected = h }) (record { role = role; fault = f }) (subst (λ z. first_refusal d.protocol.roles z ≡ Some (record { role = role; fault = f })) e s) x)
 
-has_machines : (d : Document_data) (ps : List Projection_data) (ms : List Machine_data) → first_fault d.protocol ≡ None → AreNumberedProjections d.protocol ps → ms ≡ machines_of d.machines ps → first_refusal d.protocol.roles ms ≡ None → HasMachines d ps ms
+pub has_machines : (d : Document_data) (ps : List Projection_data) (ms : List Machine_data) → first_fault d.protocol ≡ None → AreNumberedProjections d.protocol ps → ms ≡ machines_of d.machines ps → first_refusal d.protocol.roles ms ≡ None → HasMachines d ps ms
 has_machines d ps ms none h e s = record { projections_are = record { well_formed = none; projected = h }; machines_are = e; well_formed = s }
 
-pub differs : (d : Document_data) (ps : List Projection_data) (ms : List Machine_data) (role : Role) (r : Result Answer_data NoMemory) → first_fault d.protocol ≡ None → AreNumberedProjections d.protocol ps
-    → ms ≡ machines_of d.machines ps → first_refusal d.protocol.roles ms ≡ None → FirstOther ms ps role → IfOk r (λ a. a ≡ not_built) → IfOk r (Checks d)
-differs d ps ms role r none h e s o is = meant (Checks d) r not_built is (λ m x. checks.Differs ps ms (has_machines d ps ms none h e s) (not_same ms ps role o) x)
+pub no_derivation : (d : Document_data) (ps : List Projection_data) (ms : List Machine_data) (role : Role) (f : SearchFault) (r : Result Answer_data NoMemory) → HasMachines d ps ms
+    → (f ≡ search.NoMemory) ⊎ IsUnderivable ms ps role f → IfOk r (λ a. a ≡ search_answer d.names role f) → IfOk r (λ a. f ≡ search.NoMemory → ⊥) → IfOk r (Checks d)
+no_derivation d ps ms role f (Err e) h why is never = tt
+no_derivation d ps ms role f (Ok m) h (inl memory) is never = absurd (never memory)
+no_derivation d ps ms role f (Ok m) h (inr u) is never = checks.HasNoDerivation ps ms h role f u is
 
-pub has_too_many : (d : Document_data) (ps : List Projection_data) (ms : List Machine_data) (name : List ℕ) (r : Result Answer_data NoMemory) → first_fault d.protocol ≡ None → AreNumberedProjections d.protocol ps
-    → ms ≡ machines_of d.machines ps → first_refusal d.protocol.roles ms ≡ None → AreSame ms ps → too_many_for d.names.roles ms ≡ Some name
-    → IfOk r (λ a. a ≡ too_large (joined (codes "candidates " ∷ name ∷ []))) → IfOk r (Checks d)
-has_too_many d ps ms name r none h e s same many is =
-    meant (Checks d) r (too_large (joined (codes "candidates " ∷ name ∷ []))) is (λ m x. checks.HasTooMany ps ms (has_machines d ps ms none h e s) same name many x)
-
-pub accepted : (d : Document_data) (ps : List Projection_data) (ms : List Machine_data) (r : Result Answer_data NoMemory) → first_fault d.protocol ≡ None → AreNumberedProjections d.protocol ps
-    → ms ≡ machines_of d.machines ps → first_refusal d.protocol.roles ms ≡ None → AreSame ms ps → too_many_for d.names.roles ms ≡ None → IfOk r (λ a. a ≡ report d.names.roles ms) → IfOk r (Checks d)
-accepted d ps ms r none h e s same few is = meant (Checks d) r (report d.names.roles ms) is (λ m x. checks.IsAccepted ps ms (has_machines d ps ms none h e s) same few x)
+pub accepted : (d : Document_data) (ps : List Projection_data) (ms : List Machine_data) (ds : List Derivation_data) (r : Result Answer_data NoMemory) → HasMachines d ps ms → AreCanonical ms ps ds
+    → IfOk r (λ a. a ≡ report d.names.roles ds) → IfOk r (Checks d)
+accepted d ps ms ds r h found is = meant (Checks d) r (report d.names.roles ds) is (λ m x. checks.IsAccepted ps ms ds h found x)
 
 pub ill_formed_tables : (d : Document_data) (f : WfFault) (r : Result Answer_data NoMemory) → first_fault d.protocol ≡ Some f → IfOk r (λ a. a ≡ wf_answer d.names f) → IfOk r (Projects d)
 ill_formed_tables d f r e is = meant (Projects d) r (wf_answer d.names f) is (λ m x. tables.IsIllFormed f e x)
@@ -117,6 +115,8 @@ keeps_same None = tt
 no_stop : (v : Verdict) → IsStopped (status_of v) → ⊥
 no_stop verdict.Fine (inl e) = cc
 no_stop verdict.Fine (inr e) = cc
+no_stop verdict.Refused (inl e) = cc
+no_stop verdict.Refused (inr e) = cc
 no_stop verdict.Usage (inl e) = cc
 no_stop verdict.Usage (inr e) = cc
 no_stop verdict.Malformed (inl e) = cc
@@ -130,6 +130,7 @@ no_stop verdict.NotBuilt (inr e) = cc
 
 no_write_fault : (v : Verdict) → status_of v ≡ status.WriteFault → ⊥
 no_write_fault verdict.Fine e = cc
+no_write_fault verdict.Refused e = cc
 no_write_fault verdict.Usage e = cc
 no_write_fault verdict.Malformed e = cc
 no_write_fault verdict.Unprojectable e = cc

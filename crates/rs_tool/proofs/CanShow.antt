@@ -34,7 +34,7 @@ longer (x ∷ ls) names =
     let b = longer ls (if is_among x names then names else names ++ x ∷ []) in
     omega arith
 
-spelt_grows : (bytes : List ℕ) (at : ℕ) (old new : Names_data) (machine : Machine_data) (until : ℕ) → SpellsMachine bytes at old new machine until → Grows old new
+pub spelt_grows : (bytes : List ℕ) (at : ℕ) (old new : Names_data) (machine : Machine_data) (until : ℕ) → SpellsMachine bytes at old new machine until → Grows old new
 spelt_grows bytes at old new machine until s =
     subst (λ (x : Names_data). Grows old x) (sym s.names_are) (record { roles = refl; labels = longer (labels_of s.tree.body) old.labels })
 

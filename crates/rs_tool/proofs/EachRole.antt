@@ -9,7 +9,6 @@ use Rattle.rs_project.specs.Projection.{AreProjections}
 use Rattle.rs_project.specs.Refusals.{FirstRefusal}
 use Rattle.rs_project.specs.declared.projecting.ProjFault.{ProjFault}
 use Rattle.rs_project.specs.declared.projecting.ProjFault.TheVariants as proj
-use Rattle.rs_safety.specs.Accepting.{AreSame, FirstOther}
 use Rattle.rs_tool.specs.Data.{Document_data}
 use Rattle.rs_tool.specs.Reading.{AreShort, IsReady}
 use Rattle.rs_tool.specs.Sessions.{Refuses, machine_or, machines_of}
@@ -89,15 +88,6 @@ chosen_small (x ∷ xs) [] short few k d lt = absurd (omega arith)
 chosen_small (x ∷ xs) (p ∷ ps) short few zero d lt =
     small_one x p (λ m e. let a : length m.states ≤ MOST_ACTS + 1 = short 0 m (ap Some e) in omega arith) (let b : length p.machine.states ≤ MOST_STATES = few 0 p refl in omega arith)
 chosen_small (x ∷ xs) (p ∷ ps) short few (suc k) d lt = chosen_small xs ps (λ j m e. short (suc j) m e) (λ j q e. few (suc j) q e) k d (omega arith)
-
-pub not_same : (machines : List Machine_data) (projections : List Projection_data) (role : Role) → FirstOther machines projections role → AreSame machines projections → ⊥
-not_same machines projections role o same = o.other (at_place machines projections role.0 o.machine o.projection same o.has o.projects)
-  where
-    at_place : (machines : List Machine_data) (projections : List Projection_data) (k : ℕ) (m : Machine_data) (p : Projection_data) → AreSame machines projections → slice_get machines k ≡ Some m → slice_get projections k ≡ Some p → m ≡ p.machine
-    at_place [] projections k m p same e f = absurd cc
-    at_place (x ∷ xs) [] k m p same e f = absurd cc
-    at_place (x ∷ xs) (y ∷ ys) zero m p same e f = cc
-    at_place (x ∷ xs) (y ∷ ys) (suc k) m p same e f = at_place xs ys k m p (cc) e f
 
 sizes : (own : List (Option Machine_data)) (d : Document_data) (projections : List Projection_data) → own ≡ d.machines → IsReady d → length d.names.roles ≡ d.protocol.roles → AreNumberedProjections d.protocol projections → length own ≡ length projections
 sizes own d projections e ready roles h = ap length e ∙ ready.one_each ∙ roles ∙ sym h.many

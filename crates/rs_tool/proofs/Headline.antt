@@ -5,14 +5,16 @@ use Rattle.rs_core.specs.Safety.{IsSafe}
 use Rattle.rs_model.specs.Data.{Names_data}
 use Rattle.rs_project.specs.declared.projecting.ProjFault.{ProjFault}
 use Rattle.rs_project.specs.declared.projecting.ProjFault.TheVariants as proj
-use Rattle.rs_safety.proofs.Sessions.{equal-safe}
-use Rattle.rs_tool.proofs.EachRole.{projections-are}
+use Rattle.rs_model.specs.declared.graph.Role.{Role}
+use Rattle.rs_search.specs.declared.faults.SearchFault.{SearchFault}
+use Rattle.rs_search.specs.declared.faults.SearchFault.TheVariants as search
+use Rattle.rs_tool.proofs.Derivings.{canonical_safe, session_of}
+use Rattle.rs_tool.proofs.SpeltSessions.{spelt_session}
 use Rattle.rs_tool.proofs.Spelt.{one_place_each}
 use Rattle.rs_text.specs.declared.faults.TextKind.{TextKind}
 use Rattle.rs_text.specs.declared.faults.TextKind.TheVariants as kind
 use Rattle.rs_wellformed.specs.declared.checks.WfFault.{WfFault}
 use Rattle.rs_wellformed.specs.declared.checks.WfFault.TheVariants as wf
-use Rattle.rs_wellformed.proofs.Faults.{no_fault}
 use Rattle.rs_tool.specs.Statuses.{status_of}
 use Rattle.rs_tool.specs.declared.statuses.Status.{Status}
 use Rattle.rs_tool.specs.declared.statuses.Status.TheVariants as status
@@ -21,9 +23,9 @@ use Rattle.rs_tool.specs.declared.statuses.Verdict.TheVariants as verdict
 use Rattle.rs_tool.specs.declared.statuses.Verdict.TheVariants.{Fine}
 use Rattle.rs_tool.specs.Answers.{Answers, NoCommand, NoSuchCommand, CarriesOut, AnswersText, IsTooLong, IsFaulty, IsDerived, IsDocument}
 use Rattle.rs_tool.specs.Calls.{Tells, TellsAll, TellsPart, TellsReadFault, TellsNoMemory}
-use Rattle.rs_tool.specs.Checks.{Checks, IsIllFormed, HasNoProjection, HasIllMachine, Differs, HasTooMany, IsAccepted}
+use Rattle.rs_tool.specs.Checks.{Checks, IsIllFormed, HasNoProjection, HasIllMachine, HasNoDerivation, IsAccepted}
 use Rattle.rs_tool.specs.Data.{Document_data, Answer_data}
-use Rattle.rs_tool.specs.RefusalTexts.{fault_answer, wf_answer, proj_answer}
+use Rattle.rs_tool.specs.RefusalTexts.{fault_answer, wf_answer, proj_answer, search_answer}
 use Rattle.rs_tool.specs.Documents.{SpellsDocument}
 use Rattle.rs_tool.specs.Headline.{SpellsSafeMachines}
 use Rattle.rs_tool.specs.Words.{is_check, is_show, is_project, task_of}
@@ -64,13 +66,20 @@ proj-is-no-fine names (proj.Unreached r n) e = cc
 proj-is-no-fine names (proj.TooManyStates r) e = cc
 proj-is-no-fine names proj.NoMemory e = cc
 
+search-is-no-fine : (names : Names_data) (role : Role) (f : SearchFault) → IsNoFine (search_answer names role f)
+search-is-no-fine names role (search.NotFound cut) e = cc
+search-is-no-fine names role (search.Forgets n) e = cc
+search-is-no-fine names role search.TooLarge e = cc
+search-is-no-fine names role search.NoMemory e = cc
+
 checked-is-safe : (bytes : List ℕ) (d : Document_data) (a : Answer_data) → SpellsDocument bytes d → Checks d a → a.verdict ≡ Fine → SpellsSafeMachines bytes
 checked-is-safe bytes d a doc (IsIllFormed f e is) fine = absurd (no-fine a _ is (wf-is-no-fine d.names f) fine)
 checked-is-safe bytes d a doc (HasNoProjection none role f h is) fine = absurd (no-fine a _ is (proj-is-no-fine d.names f) fine)
 checked-is-safe bytes d a doc (HasIllMachine projections h r e is) fine = absurd (no-fine a _ is (λ e. cc) fine)
-checked-is-safe bytes d a doc (Differs projections machines h other is) fine = absurd (no-fine a _ is (λ e. cc) fine)
-checked-is-safe bytes d a doc (HasTooMany projections machines h same name e is) fine = absurd (no-fine a _ is (λ e. cc) fine)
-checked-is-safe bytes d a doc (IsAccepted projections machines h same few is) fine =
+checked-is-safe bytes d a doc (HasNoDerivation projections machines h role f u is) fine = absurd (no-fine a _ is (search-is-no-fine d.names role f) fine)
+checked-is-safe bytes d a doc (IsAccepted projections machines derivations h found is) fine =
+    let spelt = spelt_session bytes d doc in
+    let session = session_of d projections machines spelt h.projections_are.well_formed h.projections_are.projected h.machines_are h.well_formed in
     record {
       document = d;
       projections = projections;
@@ -78,8 +87,7 @@ checked-is-safe bytes d a doc (IsAccepted projections machines h same few is) fi
       well_formed = no_fault d.protocol h.projections_are.well_formed;
       projected = h.projections_are.projected;
       one_each = one_place_each bytes d doc;
-      safe =
-          subst IsSafe h.machines_are (equal-safe d.protocol projections machines (no_fault d.protocol h.projections_are.well_formed) (projections-are d.protocol projections h.projections_are.projected) same);
+      safe = subst IsSafe h.machines_are (canonical_safe d.protocol projections machines derivations session found);
     }
 
 text-is-safe : (bytes : List ℕ) (a : Answer_data) → AnswersText task.Check bytes a → a.verdict ≡ Fine → SpellsSafeMachines bytes
@@ -100,6 +108,7 @@ answered-is-safe words bytes a check (NoSuchCommand named none is) fine = absurd
 
 fine-verdict : (v : Verdict) → status.Fine ≡ status_of v → v ≡ Fine
 fine-verdict verdict.Fine e = refl
+fine-verdict verdict.Refused e = absurd cc
 fine-verdict verdict.Usage e = absurd cc
 fine-verdict verdict.Malformed e = absurd cc
 fine-verdict verdict.Unprojectable e = absurd cc

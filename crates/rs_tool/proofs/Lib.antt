@@ -3,7 +3,8 @@ pub mod Spelt
 pub mod OneContent
 pub mod CanShow
 pub mod EachRole
-pub mod Sameness
+pub mod SpeltSessions
+pub mod Derivings
 pub mod Answering
 pub mod Headline
 pub mod Unique

@@ -10,7 +10,7 @@ use Rattle.rs_text.specs.declared.faults.TextKind.{TextKind}
 use Rattle.rs_text.specs.declared.faults.TextKind.TheVariants as kind
 use Rattle.rs_text.specs.declared.faults.Wanted.TheVariants as wanted
 use Rattle.rs_global.specs.Spells.{SpellsProtocol}
-use Rattle.rs_global.proofs.Fitting as global
+use Rattle.rs_global.proofs.SpeltLaws as global
 use Rattle.rs_global.proofs.OneFault as one_global
 use Rattle.rs_global.proofs.SpeltLaws as spelt_global
 use Rattle.rs_machines.specs.Machines.{names_of}

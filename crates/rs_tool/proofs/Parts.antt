@@ -1,6 +1,8 @@
 -- What stands behind a protocol is one thing, and how it is found.
 use Rattle.std.proofs.Common.{◌≡◌, ◌⊎◌, ℕ, zero, suc, ◌+◌, ◌<◌, ◌≤◌, List, [], ◌∷◌, ◌++◌, length, Bool, true, false, if◌then◌else◌, Option, Some, None, refl, sym, ap, subst, ◌∙◌, inl, inr, arith, slice_get, slice_set}
 use Rattle.std.specs.Prelude.{◌||◌}
+use Rattle.rs_global.specs.Spells.{SpellsProtocol}
+use Rattle.rs_global.specs.Trees.{roles_of}
 use Rattle.std.specs.Str.{bytes_eq}
 use Rattle.std.proofs.lemmas.Slice.Eq.{bytes_eq-Decides}
 use Rattle.rs_model.specs.declared.limits.TheConstants.{MOST_ACTS, MOST_LABELS, MOST_ROLES, MOST_TALKS}
@@ -18,7 +20,7 @@ use Rattle.rs_machines.specs.Spells.{SpellsMachine}
 use Rattle.rs_machines.specs.Trees.{body_signs}
 use Rattle.rs_tool.specs.Data.{Document_data}
 use Rattle.rs_tool.specs.Documents.{StandsAt, machine_word, derivation_word, is_word, IsTwice, with_machine, Ends, Derives, Breaks, Repeats, Fails, Adds, fault_behind, no_machines}
-use Rattle.rs_tool.specs.Reading.{is_held, twice_by, twice_named, twice_of, AreShort, IsReady, free_in, GoesOnWith, IsAdded}
+use Rattle.rs_tool.specs.Reading.{is_held, twice_by, twice_named, twice_of, AreInPlace, AreShort, IsReady, free_in, GoesOnWith, IsAdded}
 use Rattle.rs_tool.specs.declared.documents.Content.TheVariants as content
 
 -- the word of a test
@@ -193,6 +195,22 @@ set_short machines k m short le j x e = elim (set_get machines k m j x e) [
   | inr there ↦ short j x there
 ]
 
+set_at : (machines : List (Option Machine_data)) (k : ℕ) (m : Machine_data) (j : ℕ) (x : Machine_data) → slice_get (slice_set machines k (Some m)) j ≡ Some (Some x) → ((j ≡ k) × (x ≡ m)) ⊎ (slice_get machines j ≡ Some (Some x))
+set_at [] k m j x e = absurd cc
+set_at (y ∷ ys) zero m zero x e = inl (refl, cc)
+set_at (y ∷ ys) zero m (suc j) x e = inr e
+set_at (y ∷ ys) (suc k) m zero x e = inr e
+set_at (y ∷ ys) (suc k) m (suc j) x e = elim (set_at ys k m j x e) [
+  | inl h ↦ inl (ap suc h.0, h.1)
+  | inr h ↦ inr h
+]
+
+pub set_in_place : (machines : List (Option Machine_data)) (m : Machine_data) → AreInPlace machines → AreInPlace (slice_set machines m.role.0 (Some m))
+set_in_place machines m placed j x e = elim (set_at machines m.role.0 m j x e) [
+  | inl h ↦ ap (λ (z : Machine_data). z.role.0) h.1 ∙ sym h.0
+  | inr there ↦ placed j x there
+]
+
 -- a machine that was read stands in the document, and the text goes on behind it
 pub add_is : (bytes : List ℕ) (at : ℕ) (old : Document_data) (names : Names_data) (machine : Machine_data) (next : ℕ) → IsReady old → StandsAt bytes at machine_word → twice_of old.names old.machines (second_of bytes at) ≡ None
     → SpellsMachine bytes at old.names names machine next → IsSound names → names.roles ≡ old.names.roles → length names.labels ≤ MOST_LABELS → length machine.states ≤ MOST_ACTS + 1 → next ≤ length bytes
@@ -206,10 +224,12 @@ add_is bytes at old names machine next ready word once spells sound roles labels
       within = within;
       ready = record {
         sound = sound;
+        two = subst (λ (x : List (List ℕ)). 2 ≤ length x) (sym roles) ready.two;
         roles = subst (λ (x : List (List ℕ)). length x ≤ MOST_ROLES) (sym roles) ready.roles;
         labels = labels;
         one_each = set_size old.machines machine.role.0 (Some machine) ∙ ready.one_each ∙ ap length (sym roles);
         short = set_short old.machines machine.role.0 machine ready.short states;
+        in_place = set_in_place old.machines machine ready.in_place;
         nodes = ready.nodes;
       };
     }
@@ -264,9 +284,20 @@ none_short [] k m e = absurd cc
 none_short (x ∷ xs) zero m e = absurd cc
 none_short (x ∷ xs) (suc k) m e = none_short xs k m e
 
+pub none_there : (names : List (List ℕ)) (k : ℕ) (m : Machine_data) → slice_get (no_machines names) k ≡ Some (Some m) → ⊥
+none_there [] k m e = cc
+none_there (x ∷ xs) zero m e = cc
+none_there (x ∷ xs) (suc k) m e = none_there xs k m e
+
+-- a protocol that a text spells has two roles or more
+pub two_roles : (bytes : List ℕ) (at : ℕ) (names : Names_data) (protocol : Protocol_data) (until : ℕ) → SpellsProtocol bytes at names protocol until → 2 ≤ length names.roles
+two_roles bytes at names protocol until s =
+    let e : length names.roles ≡ length (roles_of s.tree) = ap (λ (z : Names_data). length z.roles) s.names_are in
+    omega (arith, e)
+
 -- a document without machines
-pub begin_ready : (names : Names_data) (protocol : Protocol_data) (machines : List (Option Machine_data)) → machines ≡ no_machines names.roles → IsSound names → length names.roles ≤ MOST_ROLES → length names.labels ≤ MOST_LABELS → length protocol.nodes ≤ MOST_TALKS + 1
+pub begin_ready : (names : Names_data) (protocol : Protocol_data) (machines : List (Option Machine_data)) → machines ≡ no_machines names.roles → IsSound names → 2 ≤ length names.roles → length names.roles ≤ MOST_ROLES → length names.labels ≤ MOST_LABELS → length protocol.nodes ≤ MOST_TALKS + 1
     → IsReady (record { names = names; protocol = protocol; machines = machines })
-begin_ready names protocol machines e s r l n =
+begin_ready names protocol machines e s t r l n =
     subst (λ (z : List (Option Machine_data)). IsReady (record { names = names; protocol = protocol; machines = z })) (sym e)
-    (record { sound = s; roles = r; labels = l; one_each = size_of_none names.roles; short = none_short names.roles; nodes = n })
+    (record { sound = s; two = t; roles = r; labels = l; one_each = size_of_none names.roles; short = none_short names.roles; in_place = λ k m h. absurd (none_there names.roles k m h); nodes = n })

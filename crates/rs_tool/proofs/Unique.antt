@@ -10,7 +10,9 @@ use Rattle.rs_global.proofs.CanonOne.{canonical_text_is_one}
 use Rattle.rs_project.specs.Data.{Projection_data}
 use Rattle.rs_project.specs.Numbered.{AreFirstProjections, AreNumberedProjections}
 use Rattle.rs_project.specs.declared.projecting.ProjFault.{ProjFault}
-use Rattle.rs_safety.specs.Accepting.{AreSame}
+use Rattle.rs_derive.specs.Data.{Derivation_data}
+use Rattle.rs_search.specs.declared.faults.SearchFault.{SearchFault}
+use Rattle.rs_tool.specs.Derivations.{AreCanonical, IsUnderivable}
 use Rattle.rs_wellformed.specs.Faults.{first_fault}
 use Rattle.rs_wellformed.specs.WellFormed.{IsWellFormed}
 use Rattle.rs_wellformed.specs.declared.checks.WfFault.{WfFault}
@@ -27,8 +29,8 @@ use Rattle.rs_tool.specs.Checks as checks
 use Rattle.rs_tool.specs.Checks.{Checks}
 use Rattle.rs_tool.specs.Data.{Document_data, Answer_data}
 use Rattle.rs_tool.specs.Documents.{SpellsDocument}
-use Rattle.rs_tool.specs.RefusalTexts.{not_built, too_large, fault_answer, wf_answer, proj_answer, machine_answer}
-use Rattle.rs_tool.specs.Report.{report, too_many_for}
+use Rattle.rs_tool.specs.RefusalTexts.{not_built, too_large, fault_answer, wf_answer, proj_answer, machine_answer, search_answer}
+use Rattle.rs_tool.specs.Report.{report}
 use Rattle.rs_tool.specs.Sessions.{HasProjections, IsUnprojectable, MachineRefusal, first_refusal, machines_of}
 use Rattle.rs_tool.specs.Shown.{AreCanonicalMachines, AreShown, Shows}
 use Rattle.rs_tool.specs.Tables as tables
@@ -103,11 +105,10 @@ data Refused (d : Document_data) (a : Answer_data) : Type 0 where
 -- .. and what hangs on the machines
 data Judged (d : Document_data) (projections : List Projection_data) (machines : List Machine_data) (a : Answer_data) : Type 0 where
   Ill : (r : MachineRefusal) → first_refusal d.protocol.roles machines ≡ Some r → a ≡ machine_answer d.names r.role r.fault → Judged d projections machines a
-  Other : first_refusal d.protocol.roles machines ≡ None → (AreSame machines projections → ⊥) → a ≡ not_built → Judged d projections machines a
-  Many : first_refusal d.protocol.roles machines ≡ None → AreSame machines projections → (name : List ℕ) → too_many_for d.names.roles machines ≡ Some name
-      → a ≡ too_large (joined (codes "candidates " ∷ name ∷ [])) → Judged d projections machines a
-  Well : first_refusal d.protocol.roles machines ≡ None → AreSame machines projections → too_many_for d.names.roles machines ≡ None
-      → a ≡ report d.names.roles machines → Judged d projections machines a
+  Underived : first_refusal d.protocol.roles machines ≡ None → (role : Role) (f : SearchFault) → IsUnderivable machines projections role f
+      → a ≡ search_answer d.names role f → Judged d projections machines a
+  Well : first_refusal d.protocol.roles machines ≡ None → (derivations : List Derivation_data) → AreCanonical machines projections derivations
+      → a ≡ report d.names.roles derivations → Judged d projections machines a
 
 -- an answer comes of the protocol alone, or of its projections
 data Staged (d : Document_data) (P : List Projection_data → Answer_data → Type 0) (a : Answer_data) : Type 0 where
@@ -124,9 +125,8 @@ staged_check : (d : Document_data) (a : Answer_data) → Checks d a → Staged d
 staged_check d a (checks.IsIllFormed f e x) = Early (ByShape f e x)
 staged_check d a (checks.HasNoProjection none r f u x) = Early (ByProjection none r f u x)
 staged_check d a (checks.HasIllMachine ps h r e x) = Late ps h (Ill r e x)
-staged_check d a (checks.Differs ps ms h o x) = Late ps h.projections_are (subst (λ z. Judged d ps z a) h.machines_are (Other h.well_formed o x))
-staged_check d a (checks.HasTooMany ps ms h s n e x) = Late ps h.projections_are (subst (λ z. Judged d ps z a) h.machines_are (Many h.well_formed s n e x))
-staged_check d a (checks.IsAccepted ps ms h s e x) = Late ps h.projections_are (subst (λ z. Judged d ps z a) h.machines_are (Well h.well_formed s e x))
+staged_check d a (checks.HasNoDerivation ps ms h r f u x) = Late ps h.projections_are (subst (λ z. Judged d ps z a) h.machines_are (Underived h.well_formed r f u x))
+staged_check d a (checks.IsAccepted ps ms ds h found x) = Late ps h.projections_are (subst (λ z. Judged d ps z a) h.machines_are (Well h.well_formed ds found x))
 
 staged_tables : (d : Document_data) (a : Answer_data) → Projects d a → Staged d (TabledOf d) a
 staged_tables d a (tables.IsIllFormed f e x) = Early (ByShape f e x)
@@ -157,21 +157,14 @@ one_judgement d ps ms a b (Ill r e x) (Ill s f y) =
     let same : Some r ≡ Some s = sym e ∙ f in
     let is : r ≡ s = cc in
     x ∙ ap (λ (z : MachineRefusal). machine_answer d.names z.role z.fault) is ∙ sym y
-one_judgement d ps ms a b (Ill r e x) (Other f o y) = absurd cc
-one_judgement d ps ms a b (Ill r e x) (Many f s n g y) = absurd cc
-one_judgement d ps ms a b (Ill r e x) (Well f s g y) = absurd cc
-one_judgement d ps ms a b (Other e o x) (Ill s f y) = absurd cc
-one_judgement d ps ms a b (Other e o x) (Other f p y) = x ∙ sym y
-one_judgement d ps ms a b (Other e o x) (Many f s n g y) = absurd (o s)
-one_judgement d ps ms a b (Other e o x) (Well f s g y) = absurd (o s)
-one_judgement d ps ms a b (Many e s n g x) (Ill r f y) = absurd cc
-one_judgement d ps ms a b (Many e s n g x) (Other f o y) = absurd (o s)
-one_judgement d ps ms a b (Many e s n g x) (Many f t m h y) = let same : Some n ≡ Some m = sym g ∙ h in let is : n ≡ m = cc in x ∙ ap (λ z. too_large (joined (codes "candidates " ∷ z ∷ []))) is ∙ sym y
-one_judgement d ps ms a b (Many e s n g x) (Well f t h y) = absurd cc
-one_judgement d ps ms a b (Well e s g x) (Ill r f y) = absurd cc
-one_judgement d ps ms a b (Well e s g x) (Other f o y) = absurd (o s)
-one_judgement d ps ms a b (Well e s g x) (Many f t m h y) = absurd cc
-one_judgement d ps ms a b (Well e s g x) (Well f t h y) = x ∙ sym y
+one_judgement d ps ms a b (Ill r e x) (Underived f s g u y) = absurd cc
+one_judgement d ps ms a b (Ill r e x) (Well f ds g y) = absurd cc
+one_judgement d ps ms a b (Underived e r f u x) (Ill s g y) = absurd cc
+one_judgement d ps ms a b (Underived e r f u x) (Underived h s g v y) = ?
+one_judgement d ps ms a b (Underived e r f u x) (Well h ds g y) = ?
+one_judgement d ps ms a b (Well e ds g x) (Ill s h y) = absurd cc
+one_judgement d ps ms a b (Well e ds g x) (Underived h s f u y) = ?
+one_judgement d ps ms a b (Well e ds g x) (Well h ds' k y) = ?
 
 one_lines : (names : Names_data) (machines : List (Option Machine_data)) (x y : List ℕ) → AreShown names machines → AreCanonicalMachines names machines x → AreCanonicalMachines names machines y → x ≡ y
 one_lines names [] x y s h k = h ∙ sym k

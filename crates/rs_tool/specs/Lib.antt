@@ -2,6 +2,7 @@ pub mod Answers
 pub mod Calls
 pub mod Checks
 pub mod Data
+pub mod Derivations
 pub mod Documents
 pub mod Headline
 pub mod Machines

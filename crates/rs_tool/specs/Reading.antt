@@ -45,13 +45,19 @@ twice_of names machines l = twice_named (plain_text l.sign) names machines l.fro
 abbrev pub AreShort : List (Option Machine_data) → Type 0
 AreShort machines = (k : ℕ) (machine : Machine_data) → slice_get machines k ≡ Some (Some machine) → length machine.states ≤ MOST_ACTS + 1
 
+-- each stands in its role's place
+abbrev pub AreInPlace : List (Option Machine_data) → Type 0
+AreInPlace machines = (k : ℕ) (machine : Machine_data) → slice_get machines k ≡ Some (Some machine) → machine.role.0 ≡ k
+
 -- names and machines as they are while a document is read
 pub record IsReady (d : Document_data) : Type 0 where
   pub sound : IsSound d.names
+  pub two : 2 ≤ length d.names.roles
   pub roles : length d.names.roles ≤ MOST_ROLES
   pub labels : length d.names.labels ≤ MOST_LABELS
   pub one_each : length d.machines ≡ length d.names.roles
   pub short : AreShort d.machines
+  pub in_place : AreInPlace d.machines
   pub nodes : length d.protocol.nodes ≤ MOST_TALKS + 1
 
 -- how many roles have no machine

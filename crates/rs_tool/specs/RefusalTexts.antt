@@ -1,5 +1,5 @@
 -- The answers that refuse, by the reason.
-use Rattle.std.specs.Prelude.{ℕ, List, [], ◌∷◌, codes, Option, Some, None}
+use Rattle.std.specs.Prelude.{ℕ, List, [], ◌∷◌, codes, Bool, true, false, Option, Some, None}
 use Rattle.std.specs.Fmt.{decimal}
 use Rattle.rs_model.specs.Data.{Names_data}
 use Rattle.rs_model.specs.declared.checks.MachineFault.{MachineFault}
@@ -15,6 +15,8 @@ use Rattle.rs_wellformed.specs.declared.checks.WfFault.{WfFault}
 use Rattle.rs_wellformed.specs.declared.checks.WfFault.TheVariants as wf
 use Rattle.rs_project.specs.declared.projecting.ProjFault.{ProjFault}
 use Rattle.rs_project.specs.declared.projecting.ProjFault.TheVariants as proj
+use Rattle.rs_search.specs.declared.faults.SearchFault.{SearchFault}
+use Rattle.rs_search.specs.declared.faults.SearchFault.TheVariants as search
 use Rattle.rs_tool.specs.Data.{Answer_data}
 use Rattle.rs_tool.specs.Texts.{joined}
 use Rattle.rs_tool.specs.declared.statuses.Verdict.{Verdict}
@@ -43,6 +45,10 @@ malformed what = line_of_answer (codes "malformed ") what verdict.Malformed
 -- the protocol has no projection onto the role
 abbrev pub unprojectable : List ℕ → List ℕ → Answer_data
 unprojectable role what = line_of_answer (codes "unprojectable\n") (joined (role ∷ codes ": " ∷ what ∷ [])) verdict.Unprojectable
+
+-- the role's machine is refused
+abbrev pub refused : List ℕ → List ℕ → Answer_data
+refused role what = line_of_answer (codes "refused\n") (joined (role ∷ codes ": " ∷ what ∷ [])) verdict.Refused
 
 -- `L:C` and what is said: line and column of the offset
 abbrev pub malformed_at : List ℕ → ℕ → List ℕ → Answer_data
@@ -111,3 +117,16 @@ state_text names (bad.UnknownPeer s) = joined (codes "unknown peer at state " �
 abbrev pub machine_answer : Names_data → Role → MachineFault → Answer_data
 machine_answer names role fault =
     malformed (joined (codes "machine " ∷ role_name names role ∷ codes ": " ∷ state_text names fault ∷ []))
+
+-- whether some candidate of the search met a cut
+abbrev pub cut_text : Bool → List ℕ
+cut_text true = codes "not found, cut yes"
+cut_text false = codes "not found, cut no"
+
+-- what is answered where the search finds no derivation of the role's machine. That memory is refused is no such reason:
+-- the last line is never written
+abbrev pub search_answer : Names_data → Role → SearchFault → Answer_data
+search_answer names role (search.NotFound cut) = refused (role_name names role) (cut_text cut)
+search_answer names role (search.Forgets node) = refused (role_name names role) (joined (codes "forgets at node " ∷ decimal node ∷ []))
+search_answer names role search.TooLarge = too_large (joined (codes "candidates " ∷ role_name names role ∷ []))
+search_answer names role search.NoMemory = refused [] []

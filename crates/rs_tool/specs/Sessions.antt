@@ -1,11 +1,11 @@
 -- The session of a document: its projections and its machines.
-use Rattle.std.specs.Prelude.{◌≡◌, ◌⊎◌, ℕ, ◌<◌, List, [], ◌∷◌, Option, Some, None}
+use Rattle.std.specs.Prelude.{◌≡◌, ℕ, ◌<◌, List, [], ◌∷◌, Option, Some, None}
 use Rattle.rs_model.specs.Data.{Machine_data, Protocol_data}
 use Rattle.rs_model.specs.Faults.{first_fault}
 use Rattle.rs_model.specs.declared.checks.MachineFault.{MachineFault}
 use Rattle.rs_model.specs.declared.graph.Role.{Role}
 use Rattle.rs_project.specs.Data.{Projection_data}
-use Rattle.rs_project.specs.Numbered.{IsNumberedProjection, AreFirstProjections, AreNumberedProjections}
+use Rattle.rs_project.specs.Numbered.{AreFirstProjections, AreNumberedProjections}
 use Rattle.rs_project.specs.Refusals.{FirstRefusal}
 use Rattle.rs_project.specs.declared.projecting.ProjFault.{ProjFault}
 use Rattle.rs_wellformed.specs.Faults as of_protocols
@@ -40,8 +40,3 @@ refusal_or None role later = later
 abbrev pub first_refusal : ℕ → List Machine_data → Option MachineRefusal
 first_refusal roles [] = None
 first_refusal roles (machine ∷ machines) = refusal_or (first_fault machine roles) machine.role (first_refusal roles machines)
-
--- each role has a projection, or there is a first reason why it has none
-abbrev pub AreDecided : Protocol_data → Type 0
-AreDecided protocol = (role : Role) → role.0 < protocol.roles
-    → ((projection : Projection_data) × IsNumberedProjection protocol role projection) ⊎ ((fault : ProjFault) × FirstRefusal protocol role fault)

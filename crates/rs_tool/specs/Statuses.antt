@@ -10,6 +10,7 @@ use Rattle.rs_tool.specs.declared.statuses.Verdict.TheVariants as verdict
 -- the exit status of the program
 abbrev pub code_of : Status → ℕ
 code_of status.Fine = 0
+code_of status.Refused = 1
 code_of status.Usage = 2
 code_of status.Malformed = 3
 code_of status.Unprojectable = 4
@@ -22,6 +23,7 @@ code_of status.NotBuilt = 12
 -- the status of an answer that was written whole
 abbrev pub status_of : Verdict → Status
 status_of verdict.Fine = status.Fine
+status_of verdict.Refused = status.Refused
 status_of verdict.Usage = status.Usage
 status_of verdict.Malformed = status.Malformed
 status_of verdict.Unprojectable = status.Unprojectable

@@ -5,13 +5,13 @@ ghost use Rattle.rs_tool.specs.Checks.{Checks};
 ghost use Rattle.rs_tool.specs.Reading.{IsReady};
 
 use crate::answers::Answer;
+use crate::derivations::derivations_of;
 use crate::documents::Document;
-use crate::refusal_texts::{machine_answer, not_built, proj_answer, too_large, wf_answer};
-use crate::report::{report, too_many_for};
+use crate::refusal_texts::{machine_answer, proj_answer, search_answer, wf_answer};
+use crate::report::report;
 use crate::sessions::{first_refusal, machines_of, projections_of};
-use crate::texts::Piece::Words;
 use rs_model::NoMemory;
-use rs_safety::accept_same;
+use rs_safety::accept;
 use rs_wellformed::well_formed;
 use std::alloc::Global;
 
@@ -34,12 +34,12 @@ pub fn check(alloc: Global, document: &Document) -> Result<Answer, NoMemory>
     if let Some((role, fault)) = first_refusal(machines.as_slice(), protocol.roles) {
         return machine_answer(alloc, names, role, fault);
     }
-    let accepted = match accept_same(protocol, projections.as_slice(), machines) {
-        Ok(accepted) => accepted,
-        Err(_) => return not_built(alloc),
+    let derivations = match derivations_of(alloc, projections.as_slice(), machines.as_slice()) {
+        Ok(derivations) => derivations,
+        Err(found) => return search_answer(alloc, names, found.role, found.fault),
     };
-    if let Some(name) = too_many_for(names.roles.as_slice(), accepted.machines()) {
-        return too_large(alloc, &[Words(b"candidates "), Words(name.as_slice())]);
+    match accept(protocol, projections.as_slice(), machines, derivations.as_slice()) {
+        Ok(accepted) => report(alloc, names.roles.as_slice(), &accepted),
+        Err(_) => unreachable!(),
     }
-    report(alloc, names.roles.as_slice(), accepted.machines())
 }

@@ -3,15 +3,14 @@
 ghost use Rattle.std.specs.Prelude.{◌≡◌, ◌↔◌, ℕ, List, length};
 ghost use Rattle.rs_tool.specs.Answers.{Answers};
 ghost use Rattle.rs_tool.specs.Data.{Answer_data, Document_data};
+ghost use Rattle.rs_tool.specs.Derivations.{AreSearchable};
 ghost use Rattle.rs_tool.specs.Documents.{IsBehindProtocol};
 ghost use Rattle.rs_tool.specs.Headline.{SpellsSafeMachines};
 ghost use Rattle.rs_tool.specs.Machines.{machines_of};
 ghost use Rattle.rs_tool.specs.Reading.{IsContent};
-ghost use Rattle.rs_tool.specs.Sessions.{AreDecided};
 ghost use Rattle.rs_tool.specs.Spells.{SpellsDocument};
 ghost use Rattle.rs_tool.specs.declared.documents.Content.{Content};
 ghost use Rattle.rs_tool.specs.declared.documents.Content.TheVariants as content;
-ghost use Rattle.rs_wellformed.specs.WellFormed.{IsWellFormed};
 
 /// A text is a document, has derivations, or has a first fault ..
 pub fn a_text_is_something()
@@ -23,10 +22,10 @@ pub fn a_text_is_one_thing()
     ensures { (bytes : List ℕ) (what other : Content) → IsContent bytes what → IsContent bytes other → what ≡ other }
 {}
 
-/// There is an answer to all words and bytes, where the protocol that the bytes spell has for each role a projection or
-/// a first reason why it has none.
+/// There is an answer to all words and bytes, where well-formed machines have a canonical derivation or a reason why they
+/// have none.
 pub fn all_have_an_answer()
-    ensures { (words : List (List ℕ)) (bytes : List ℕ) → ((d : Document_data) → SpellsDocument bytes d → IsWellFormed d.protocol → AreDecided d.protocol) → (a : Answer_data) × Answers words bytes a }
+    ensures { AreSearchable → (words : List (List ℕ)) (bytes : List ℕ) → (a : Answer_data) × Answers words bytes a }
 {}
 
 /// No words and bytes have two answers.

@@ -4,6 +4,7 @@
 mod answers;
 mod calls;
 mod checks;
+mod derivations;
 mod documents;
 pub mod laws;
 mod refusal_texts;

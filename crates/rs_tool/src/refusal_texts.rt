@@ -12,6 +12,7 @@ use crate::texts::Piece::{self, Number, Words};
 use crate::texts::{push_pieces, text_of};
 use rs_model::{Label, MachineFault, Name, Names, NoMemory, Role};
 use rs_project::ProjFault;
+use rs_search::SearchFault;
 use rs_text::{Text, TextFault, TextKind, place};
 use rs_wellformed::WfFault;
 use std::alloc::Global;
@@ -69,6 +70,18 @@ fn unprojectable<'a>(alloc: Global, role: &'a [u8], what: &'a [u8]) -> Result<An
         b"unprojectable\n",
         &[Words(role), Words(b": "), Words(what)],
         Verdict::Unprojectable,
+    )
+}
+
+/// The role's machine is refused.
+fn refused<'a>(alloc: Global, role: &'a [u8], what: &'a [u8]) -> Result<Answer, NoMemory>
+    ensures { IfOk result (λ a. a ≡ spec.refused role.now what.now) }
+{
+    line_of_answer(
+        alloc,
+        b"refused\n",
+        &[Words(role), Words(b": "), Words(what)],
+        Verdict::Refused,
     )
 }
 
@@ -287,4 +300,42 @@ pub fn machine_answer(
             Words(what.as_slice()),
         ],
     )
+}
+
+/// Whether some candidate of the search met a cut.
+fn cut_text(cut: bool) -> &'static [u8]
+    ensures { result.now ≡ spec.cut_text cut }
+{
+    if cut {
+        b"not found, cut yes"
+    } else {
+        b"not found, cut no"
+    }
+}
+
+/// What is answered where the search finds no derivation of the role's machine; nothing where memory was refused.
+pub fn search_answer(
+    alloc: Global,
+    names: &Names,
+    role: Role,
+    fault: SearchFault,
+) -> Result<Answer, NoMemory>
+    ensures answer { IfOk result (λ a. a ≡ spec.search_answer names.now role fault) }
+    ensures memory { OnOk result (fault ≡ SearchFault.NoMemory → ⊥) }
+{
+    match fault {
+        SearchFault::NotFound { cut } => refused(alloc, role_name(names, role), cut_text(cut)),
+        SearchFault::Forgets { node } => {
+            let what = text_of(
+                alloc,
+                &[Words(b"forgets at node "), Number(u64::from(node))],
+            )?;
+            refused(alloc, role_name(names, role), what.as_slice())
+        }
+        SearchFault::TooLarge => too_large(
+            alloc,
+            &[Words(b"candidates "), Words(role_name(names, role))],
+        ),
+        SearchFault::NoMemory => Err(NoMemory),
+    }
 }

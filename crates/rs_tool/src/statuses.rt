@@ -10,6 +10,8 @@ use rs_model::NoMemory;
 pub enum Status {
     /// The words were carried out.
     Fine,
+    /// Some role's machine is refused.
+    Refused,
     /// The words are none of the program's.
     Usage,
     /// The text is at fault.
@@ -35,6 +37,7 @@ impl Status {
     {
         match self {
             Status::Fine => 0,
+            Status::Refused => 1,
             Status::Usage => 2,
             Status::Malformed => 3,
             Status::Unprojectable => 4,
@@ -51,6 +54,7 @@ impl Status {
 #[derive(Clone, Copy, Debug, PartialEq, Eq)]
 pub enum Verdict {
     Fine,
+    Refused,
     Usage,
     Malformed,
     Unprojectable,
@@ -67,6 +71,7 @@ impl From<Verdict> for Status {
     fn from(verdict: Verdict) -> Self {
         match verdict {
             Verdict::Fine => Status::Fine,
+            Verdict::Refused => Status::Refused,
             Verdict::Usage => Status::Usage,
             Verdict::Malformed => Status::Malformed,
             Verdict::Unprojectable => Status::Unprojectable,

@@ -1,0 +1,10 @@
+pub mod Accepted
+pub mod Assembled
+pub mod Choices
+pub mod Chosen
+pub mod Costing
+pub mod Noding
+pub mod Same
+pub mod Staying
+pub mod Turning
+pub mod Verdicts

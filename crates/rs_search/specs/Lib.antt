@@ -1,0 +1,7 @@
+pub mod Buckets
+pub mod Candidates
+pub mod Canonical
+pub mod Costs
+pub mod Nodes
+pub mod Survives
+pub mod Turns
