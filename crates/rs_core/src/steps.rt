@@ -36,7 +36,8 @@ struct Unsent {
 }
 
 impl Core {
-    /// The session at its start.
+    /// The session at its start: each machine stands in its start state, and every queue is empty. The one error is that
+    /// memory was refused.
     pub fn begin(alloc: Global, machines: Vec<Machine>) -> Result<Core, NoMemory>
         requires safe { IsSafe machines.items }
         requires well_formed { AreWellFormed machines.items }
@@ -55,7 +56,10 @@ impl Core {
         })
     }
 
-    /// Makes the step, or tells the first thing that is wrong with the event and hands it back.
+    /// Makes the step of the event. There is no fault for a message that isn't taken, since the machines are safe.
+    ///
+    /// The error is the first of [`StepFault`] that holds, the event comes back with it, and nothing changes; memory can
+    /// be refused at a send alone.
     pub fn step(&mut self, event: Event) -> Result<Stepped, Refused>
         requires there { role_of event < length self.old.machines }
         ensures step { IfOk result (λ s. HasStepped self.old.machines (configuration_of self.old) event (configuration_of self.new) s) }

@@ -34,12 +34,14 @@ impl Model for Transcript {
 }
 
 impl Transcript {
+    /// The transcript with these entries.
     pub fn of(list: Vec<Entry>) -> Transcript
         ensures { result ≡ list.items }
     {
         Transcript { entries: list }
     }
 
+    /// The entries, the first act first.
     pub fn as_slice(&self) -> &[Entry]
         ensures { result.now ≡ self.now }
     {
@@ -85,12 +87,14 @@ impl Model for Transcripts {
 }
 
 impl Transcripts {
+    /// These transcripts, the first one that of role 0.
     pub fn of(list: Vec<Transcript>) -> Transcripts
         ensures { result ≡ list.items }
     {
         Transcripts { items: list }
     }
 
+    /// The transcripts, in role order.
     pub fn as_slice(&self) -> &[Transcript]
         ensures { result.now ≡ self.now }
     {

@@ -1,11 +1,14 @@
-ghost use Rattle.std.specs.Prelude.{◌≡◌, ◌∷◌, [], length, IfOk};
+ghost use Rattle.std.specs.Prelude.{◌≡◌, ◌<◌, ◌∷◌, [], length, IfOk};
 ghost use Rattle.rs_core.specs.Choices.{AreWellFormed};
 ghost use Rattle.rs_model.specs.declared.machines.State.TheVariants.{Puts, Takes};
+ghost use Rattle.rs_core.specs.Configurations.{role_of};
 ghost use Rattle.rs_core.specs.Safety.{IsSafe};
+ghost use Rattle.rs_core.specs.declared.messages.Event.TheVariants.{Send};
 ghost use Rattle.rs_safety.specs.Buffering.{copy, kernel_ahead, machines_of_buffering, projection_for_sink, projection_for_source, ready, stop};
 
 use rs_core::{
-    Core, Entry, Event, Outcome, RunFault, SeededActor, StepFault, Stepped, run_bounded, run_plain,
+    Core, Entry, Event, Outcome, Run, RunFault, SeededActor, StepFault, Stepped, run_bounded,
+    run_plain,
 };
 use rs_model::{Arm, Arms, Label, Machine, NoMemory, Role, Sort, State, Value};
 use rs_text::Text;
@@ -195,8 +198,9 @@ const WANTED: [&str; 3] = [
 #[test]
 fn double_buffering_ends(rt: HostRuntime) -> Result<(), Fail> {
     let alloc = rt.alloc();
-    let run = run_plain(alloc, buffering(alloc)?, actors(alloc)?, 100)?;
-    match run.outcome {
+    let Run { outcome, actors } = run_plain(alloc, buffering(alloc)?, actors(alloc)?, 100)?;
+    assert_eq!(rt; actors.len(), 3);
+    match outcome {
         Outcome::Ended(transcripts) => {
             assert_eq!(rt; transcripts.as_slice().len(), 3);
             for (transcript, wanted) in transcripts.as_slice().iter().zip(&WANTED) {
@@ -207,6 +211,16 @@ fn double_buffering_ends(rt: HostRuntime) -> Result<(), Fail> {
         Outcome::Stopped(role) => assert!(rt; false, "stopped {}", role.0),
     }
     Ok(())
+}
+
+fn bounded_outcome(alloc: Global, capacity: usize) -> Result<Outcome, NoMemory> {
+    match run_bounded(alloc, buffering(alloc)?, actors(alloc)?, capacity, 100) {
+        Ok(run) => {
+            let Run { outcome, .. } = run;
+            Ok(outcome)
+        }
+        Err(_) => Err(NoMemory),
+    }
 }
 
 #[test]
@@ -226,18 +240,15 @@ fn bounded_runs(rt: HostRuntime) -> Result<(), Fail> {
         Ok(_) => assert!(rt; false, "nothing can be sent"),
     }
     for capacity in [1, 2, 16] {
-        match run_bounded(alloc, buffering(alloc)?, actors(alloc)?, capacity, 100) {
-            Ok(run) => match run.outcome {
-                Outcome::Ended(transcripts) => {
-                    assert_eq!(rt; transcripts.as_slice().len(), 3);
-                    for (transcript, wanted) in transcripts.as_slice().iter().zip(&WANTED) {
-                        let text = text_of(alloc, transcript.as_slice())?;
-                        assert_eq!(rt; text.as_slice(), wanted.as_bytes(), "with {capacity}");
-                    }
+        match bounded_outcome(alloc, capacity)? {
+            Outcome::Ended(transcripts) => {
+                assert_eq!(rt; transcripts.as_slice().len(), 3);
+                for (transcript, wanted) in transcripts.as_slice().iter().zip(&WANTED) {
+                    let text = text_of(alloc, transcript.as_slice())?;
+                    assert_eq!(rt; text.as_slice(), wanted.as_bytes(), "with {capacity}");
                 }
-                Outcome::Stopped(role) => assert!(rt; false, "stopped {}", role.0),
-            },
-            Err(_) => assert!(rt; false, "a refusal with {capacity}"),
+            }
+            Outcome::Stopped(role) => assert!(rt; false, "stopped {}", role.0),
         }
     }
     Ok(())
@@ -246,51 +257,48 @@ fn bounded_runs(rt: HostRuntime) -> Result<(), Fail> {
 #[test]
 fn limits_stop(rt: HostRuntime) -> Result<(), Fail> {
     let alloc = rt.alloc();
-    match run_plain(alloc, buffering(alloc)?, actors(alloc)?, 3)?.outcome {
+    let Run { outcome, .. } = run_plain(alloc, buffering(alloc)?, actors(alloc)?, 3)?;
+    match outcome {
         Outcome::Stopped(role) => assert_eq!(rt; role, Role(0)),
         Outcome::Ended(_) => assert!(rt; false, "ended"),
     }
     Ok(())
 }
 
+fn send(role: u8, arm: u16, value: Value) -> Event
+    ensures { result ≡ Send (record { 0 = role }) arm value }
+{
+    Event::Send {
+        role: Role(role),
+        arm,
+        value,
+    }
+}
+
+fn fault_of(core: &mut Core, event: Event) -> Option<StepFault>
+    requires { role_of event < length core.old.machines }
+    ensures { core.new.machines ≡ core.old.machines }
+{
+    match core.step(event) {
+        Ok(_) => None,
+        Err(refused) => Some(refused.fault),
+    }
+}
+
 #[test]
 fn steps_are_made_or_refused(rt: HostRuntime) -> Result<(), Fail> {
     let alloc = rt.alloc();
     let mut core = Core::begin(alloc, buffering(alloc)?)?;
-    let refused = [
-        (
-            Event::Send {
-                role: Role(1),
-                arm: 0,
-                value: Value::Unit,
-            },
-            StepFault::NotSending,
-        ),
-        (
-            Event::Send {
-                role: Role(0),
-                arm: 1,
-                value: Value::Unit,
-            },
-            StepFault::NoArm,
-        ),
-        (
-            Event::Send {
-                role: Role(0),
-                arm: 0,
-                value: Value::Flag(true),
-            },
-            StepFault::WrongSort,
-        ),
-        (Event::Receive { role: Role(0) }, StepFault::NotReceiving),
-        (Event::Receive { role: Role(1) }, StepFault::QueueEmpty),
-    ];
-    for (event, fault) in refused {
-        match core.step(event) {
-            Err(refused) => assert_eq!(rt; refused.fault, fault),
-            Ok(_) => assert!(rt; false, "no fault"),
-        }
-    }
+    let silent = fault_of(&mut core, send(1, 0, Value::Unit));
+    assert_eq!(rt; silent, Some(StepFault::NotSending));
+    let armless = fault_of(&mut core, send(0, 1, Value::Unit));
+    assert_eq!(rt; armless, Some(StepFault::NoArm));
+    let unfit = fault_of(&mut core, send(0, 0, Value::Flag(true)));
+    assert_eq!(rt; unfit, Some(StepFault::WrongSort));
+    let deaf = fault_of(&mut core, Event::Receive { role: Role(0) });
+    assert_eq!(rt; deaf, Some(StepFault::NotReceiving));
+    let early = fault_of(&mut core, Event::Receive { role: Role(1) });
+    assert_eq!(rt; early, Some(StepFault::QueueEmpty));
     let sent = core.step(Event::Send {
         role: Role(0),
         arm: 0,

@@ -20,6 +20,7 @@ use Rattle.rs_safety.specs.Sessions.{AreDerivations, AreOneEach, IsSession}
 use Rattle.rs_safety.proofs.Accepts.{accepted-safe, gets, machine-proper, projection-proper}
 use Rattle.rs_safety.proofs.Sessions.{no-machine, no-projection}
 use Rattle.rs_search.proofs.Accepted.{accepted, derives, remembers}
+use Rattle.rs_search.proofs.Determined.{few_nodes}
 use Rattle.rs_search.specs.Canonical.{IsFound, Refuses}
 use Rattle.rs_search.specs.declared.faults.SearchFault.{SearchFault}
 use Rattle.rs_search.specs.declared.faults.SearchFault.TheVariants as search
@@ -164,7 +165,7 @@ derivations_are pr ps ms ds s h = record {
       let f = h.each p m j d hm hj hd in
       let ours = machine-proper pr ps ms s p m hm in
       let theirs = projection-proper pr ps ms s p j hj in
-      (derives m j.machine DEFAULT_BOUND d ours theirs f, remembers m j.machine DEFAULT_BOUND d ours theirs f));
+      (derives m j.machine DEFAULT_BOUND d ours theirs f.canonical, remembers m j.machine DEFAULT_BOUND d f));
 }
 
 -- what was found for the roles can be tested
@@ -195,3 +196,4 @@ ours_proper pr ps ms s place m h e = machine-proper pr ps ms s place m (gets ms 
 -- a projection stands at each place of a machine
 pub projects_at : (pr : Protocol_data) (ps : List Projection_data) (ms : List Machine_data) → IsSession pr ps ms → (place : ℕ) (j : Projection_data) → place < length ms → j ≡ get_or ps place j → slice_get ps place ≡ Some j
 projects_at pr ps ms s place j h e = gets ps place j (omega (arith, h, s.a_machine_each, s.projected.many)) e
+

@@ -3,6 +3,7 @@ use Rattle.std.proofs.Common.{◌≡◌, ◌⊎◌, ℕ, zero, suc, ◌≤◌, �
 use Rattle.std.specs.Prelude.{codes, ◌||◌}
 use Rattle.std.specs.Str.{bytes_eq}
 use Rattle.std.proofs.lemmas.Bool.Decides.{leb_tells}
+use Rattle.std.proofs.lemmas.Option.{slice_get_within, same_Some}
 use Rattle.rs_model.specs.Data.{Names_data, Protocol_data, Machine_data}
 use Rattle.rs_model.specs.declared.graph.Role.{Role}
 use Rattle.rs_model.specs.declared.limits.TheConstants.{MOST_BYTES}
@@ -11,8 +12,12 @@ use Rattle.rs_project.specs.Data.{Projection_data}
 use Rattle.rs_project.specs.Numbered.{AreFirstProjections, AreNumberedProjections}
 use Rattle.rs_project.specs.declared.projecting.ProjFault.{ProjFault}
 use Rattle.rs_derive.specs.Data.{Derivation_data}
+use Rattle.rs_search.specs.Canonical.{Refuses}
 use Rattle.rs_search.specs.declared.faults.SearchFault.{SearchFault}
-use Rattle.rs_tool.specs.Derivations.{AreCanonical, IsUnderivable}
+use Rattle.rs_search.proofs.Determined.{not_both_ways}
+use Rattle.rs_search.proofs.Determined as searched
+use Rattle.rs_tool.specs.Derivations.{AreCanonical, AreFirstCanonical, IsUnderivable}
+use Rattle.rs_tool.specs.declared.derivations.TheConstants.{DEFAULT_BOUND}
 use Rattle.rs_wellformed.specs.Faults.{first_fault}
 use Rattle.rs_wellformed.specs.WellFormed.{IsWellFormed}
 use Rattle.rs_wellformed.specs.declared.checks.WfFault.{WfFault}
@@ -57,7 +62,7 @@ at_found content.Derivations = 0
 at_found (content.Document d) = 0
 
 -- projections
-same_list : (xs ys : List Projection_data) → length xs ≡ length ys → ((p : ℕ) (x y : Projection_data) → slice_get xs p ≡ Some x → slice_get ys p ≡ Some y → x ≡ y) → xs ≡ ys
+same_list : {A : Type 0} (xs ys : List A) → length xs ≡ length ys → ((p : ℕ) (x y : A) → slice_get xs p ≡ Some x → slice_get ys p ≡ Some y → x ≡ y) → xs ≡ ys
 same_list [] [] size h = refl
 same_list [] (y ∷ ys) size h = absurd cc
 same_list (x ∷ xs) [] size h = absurd cc
@@ -68,7 +73,7 @@ pub one_list : (protocol : Protocol_data) (xs ys : List Projection_data) → IsW
 one_list protocol xs ys w h k =
     same_list xs ys (h.many ∙ sym k.many) (λ p x y e f. one-projection protocol (record { 0 = p }) x y w (h.each p x e) (k.each p y f))
 
-get_some : (xs : List Projection_data) (k : ℕ) → k < length xs → (x : Projection_data) × (slice_get xs k ≡ Some x)
+get_some : {A : Type 0} (xs : List A) (k : ℕ) → k < length xs → (x : A) × (slice_get xs k ≡ Some x)
 get_some [] k lt = absurd (omega arith)
 get_some (x ∷ xs) zero lt = (x, refl)
 get_some (x ∷ xs) (suc k) lt = get_some xs k (omega arith)
@@ -152,19 +157,67 @@ one_staged d P a b one (Late xs h x) (Early r) = absurd (not_refused d xs b h r)
 one_staged d P a b one (Early r) (Late ys k y) = absurd (not_refused d ys a k r)
 one_staged d P a b one (Early r) (Early s) = one_refusal d a b r s
 
-one_judgement : (d : Document_data) (ps : List Projection_data) (ms : List Machine_data) (a b : Answer_data) → Judged d ps ms a → Judged d ps ms b → a ≡ b
-one_judgement d ps ms a b (Ill r e x) (Ill s f y) =
+-- a role whose machine has a derivation isn't one whose machine has none
+derived_before : (ms : List Machine_data) (ps : List Projection_data) (count : ℕ) (ds : List Derivation_data) (role : Role) (fault : SearchFault) → AreFirstCanonical ms ps count ds → role.0 < count → IsUnderivable ms ps role fault → ⊥
+derived_before ms ps count ds role fault h lt u =
+    let many = h.many in
+    let d = get_some ds role.0 (omega (arith, many, lt)) in
+    let found = h.each role.0 u.machine u.projection d.0 u.runs u.projects d.1 in
+    u.cause (not_both_ways u.machine u.projection.machine DEFAULT_BOUND d.0 fault found u.refused)
+
+not_derived : (ms : List Machine_data) (ps : List Projection_data) (ds : List Derivation_data) (role : Role) (fault : SearchFault) → AreCanonical ms ps ds → IsUnderivable ms ps role fault → ⊥
+not_derived ms ps ds role fault h u = derived_before ms ps (length ms) ds role fault h (slice_get_within ms role.0 u.machine u.runs) u
+
+one_underivable : (ms : List Machine_data) (ps : List Projection_data) (r s : Role) (f g : SearchFault) → IsUnderivable ms ps r f → IsUnderivable ms ps s g → (r ≡ s) × (f ≡ g)
+one_underivable ms ps r s f g u v = elim (leb_tells (suc r.0) s.0) [
+  | inl less ↦ absurd (derived_before ms ps s.0 v.earlier r f v.derived less.1 u)
+  | inr more ↦ elim (leb_tells (suc s.0) r.0) [
+    | inl less ↦ absurd (derived_before ms ps r.0 u.earlier s g u.derived less.1 v)
+    | inr other ↦
+        let m1 = more.1 in
+        let m2 = other.1 in
+        let place : r.0 ≡ s.0 = omega (arith, m1, m2) in
+        let same : r ≡ s = same_role r s place in
+        let machine : u.machine ≡ v.machine = same_Some u.machine v.machine (sym u.runs ∙ ap (λ z. slice_get ms z) place ∙ v.runs) in
+        let projection : u.projection ≡ v.projection = same_Some u.projection v.projection (sym u.projects ∙ ap (λ z. slice_get ps z) place ∙ v.projects) in
+        let P : Machine_data → Type 0 = λ z. Refuses z u.projection.machine DEFAULT_BOUND f in
+        let Q : Projection_data → Type 0 = λ z. Refuses v.machine z.machine DEFAULT_BOUND f in
+        let refused : Refuses v.machine v.projection.machine DEFAULT_BOUND f = subst Q projection (subst P machine u.refused) in
+        (same, searched.one_refusal v.machine v.projection.machine DEFAULT_BOUND f g u.cause v.cause refused v.refused)
+  ]
+]
+
+-- the session's derivations are one list
+one_derived : (ms : List Machine_data) (ps : List Projection_data) (ds es : List Derivation_data) → length ms ≤ length ps → AreCanonical ms ps ds → AreCanonical ms ps es → ds ≡ es
+one_derived ms ps ds es few h k =
+    same_list ds es (h.many ∙ sym k.many) (λ p d e hd he.
+      let within = slice_get_within ds p d hd in
+      let many = h.many in
+      let m = get_some ms p (omega (arith, within, many)) in
+      let j = get_some ps p (omega (arith, within, many, few)) in
+      searched.one_answer m.0 j.0.machine DEFAULT_BOUND d e (h.each p m.0 j.0 d m.1 j.1 hd) (k.each p m.0 j.0 e m.1 j.1 he))
+
+one_judgement : (d : Document_data) (ps : List Projection_data) (ms : List Machine_data) (a b : Answer_data) → length ms ≤ length ps → Judged d ps ms a → Judged d ps ms b → a ≡ b
+one_judgement d ps ms a b few (Ill r e x) (Ill s f y) =
     let same : Some r ≡ Some s = sym e ∙ f in
     let is : r ≡ s = cc in
     x ∙ ap (λ (z : MachineRefusal). machine_answer d.names z.role z.fault) is ∙ sym y
-one_judgement d ps ms a b (Ill r e x) (Underived f s g u y) = absurd cc
-one_judgement d ps ms a b (Ill r e x) (Well f ds g y) = absurd cc
-one_judgement d ps ms a b (Underived e r f u x) (Ill s g y) = absurd cc
-one_judgement d ps ms a b (Underived e r f u x) (Underived h s g v y) = ?
-one_judgement d ps ms a b (Underived e r f u x) (Well h ds g y) = ?
-one_judgement d ps ms a b (Well e ds g x) (Ill s h y) = absurd cc
-one_judgement d ps ms a b (Well e ds g x) (Underived h s f u y) = ?
-one_judgement d ps ms a b (Well e ds g x) (Well h ds' k y) = ?
+one_judgement d ps ms a b few (Ill r e x) (Underived f s g u y) = absurd cc
+one_judgement d ps ms a b few (Ill r e x) (Well f ds g y) = absurd cc
+one_judgement d ps ms a b few (Underived e r f u x) (Ill s g y) = absurd cc
+one_judgement d ps ms a b few (Underived e r f u x) (Underived h s g v y) =
+    let same = one_underivable ms ps r s f g u v in
+    x ∙ ap (λ z. search_answer d.names z f) same.0 ∙ ap (λ z. search_answer d.names s z) same.1 ∙ sym y
+one_judgement d ps ms a b few (Underived e r f u x) (Well h ds g y) = absurd (not_derived ms ps ds r f g u)
+one_judgement d ps ms a b few (Well e ds g x) (Ill s h y) = absurd cc
+one_judgement d ps ms a b few (Well e ds g x) (Underived h s f u y) = absurd (not_derived ms ps ds s f g u)
+one_judgement d ps ms a b few (Well e ds g x) (Well h ds' k y) = x ∙ ap (λ z. report d.names.roles z) (one_derived ms ps ds ds' few g k) ∙ sym y
+
+few_machines : (own : List (Option Machine_data)) (ps : List Projection_data) → length (machines_of own ps) ≤ length ps
+few_machines [] [] = omega arith
+few_machines [] (j ∷ js) = omega arith
+few_machines (x ∷ xs) [] = omega arith
+few_machines (x ∷ xs) (j ∷ js) = let few = few_machines xs js in omega (arith, few)
 
 one_lines : (names : Names_data) (machines : List (Option Machine_data)) (x y : List ℕ) → AreShown names machines → AreCanonicalMachines names machines x → AreCanonicalMachines names machines y → x ≡ y
 one_lines names [] x y s h k = h ∙ sym k
@@ -181,7 +234,7 @@ one_show bytes d a b doc h k =
     ap (λ z. record { text = z; verdict = a.verdict }) text ∙ ap (λ z. record { text = b.text; verdict = z }) (h.fine ∙ sym k.fine)
 
 one_of_document : (t : Task) (bytes : List ℕ) (d : Document_data) (a b : Answer_data) → SpellsDocument bytes d → AnswersDocument t d a → AnswersDocument t d b → a ≡ b
-one_of_document task.Check bytes d a b doc h k = one_staged d (JudgedOf d) a b (λ ps x y. one_judgement d ps (machines_of d.machines ps) a b x y) (staged_check d a h) (staged_check d b k)
+one_of_document task.Check bytes d a b doc h k = one_staged d (JudgedOf d) a b (λ ps x y. one_judgement d ps (machines_of d.machines ps) a b (few_machines d.machines ps) x y) (staged_check d a h) (staged_check d b k)
 one_of_document task.Show bytes d a b doc h k = one_show bytes d a b doc h k
 one_of_document task.Project bytes d a b doc h k = one_staged d (TabledOf d) a b (λ ps x y. x ∙ sym y) (staged_tables d a h) (staged_tables d b k)
 
