@@ -6,3 +6,6 @@ pub mod Nexts
 pub mod Naming
 pub mod Numbers
 pub mod Written
+pub mod Leading
+pub mod Standing
+pub mod Judging

@@ -80,7 +80,7 @@ nonempty : (p : ℕ → Bool) (text : List ℕ) → begins p text ≡ true → 0
 nonempty p [] h = absurd (cc h)
 nonempty p (b ∷ bs) h = omega arith
 
-takes_up : (s : Sign) (text behind : List ℕ) → IsToken s text behind → is_last s ≡ false → 0 < length text
+pub takes_up : (s : Sign) (text behind : List ℕ) → IsToken s text behind → is_last s ≡ false → 0 < length text
 takes_up rec_word text behind t h = nonempty is_letter text t.0.first
 takes_up end_word text behind t h = nonempty is_letter text t.0.first
 takes_up (plain name) text behind t h = nonempty is_letter text t.0.first

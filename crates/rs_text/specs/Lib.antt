@@ -10,4 +10,6 @@ pub mod Sound
 pub mod Faults
 pub mod Arms
 pub mod Seen
+pub mod FirstFaults
+pub mod Readings
 pub mod Writing

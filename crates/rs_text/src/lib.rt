@@ -7,6 +7,7 @@ mod lexing;
 mod names;
 mod output;
 mod places;
+mod reading;
 pub mod seen;
 #[cfg(test)]
 mod tests;
@@ -17,4 +18,5 @@ pub use lexing::{Lexer, number};
 pub use names::{add, find, is_role_word, is_word, sound};
 pub use output::Text;
 pub use places::place;
+pub use reading::{Stop, expected, fault};
 pub use tokens::{Fault, FaultKind, Kind, Token};
