@@ -5,4 +5,5 @@ pub mod Greatest
 pub mod Loops
 pub mod Order
 pub mod Rows
+pub mod Ruled
 pub mod Whole

@@ -83,7 +83,7 @@ unfolding first_fault
 in_order d sub above =
     test_or (starts sub above d.nodes) _ _ BadStart (nodes_told d sub above d.nodes 0)
 
--- the rows of the code
+-- a node that stands at states, and owes no more than the bound
 
 pub node_row : (d : Derivation_data) (sub above : Machine_data) (i : ℕ) (n : DNode_data) (s t : State) (nodes : List DNode_data)
     → nodes ≡ d.nodes → slice_get sub.states n.state ≡ Some s → slice_get above.states n.above ≡ Some t → length n.pending ≤ d.bound
@@ -97,8 +97,3 @@ node_row d sub above i n s t nodes e gs gt h =
       gt,
       e,
     ) refl
-
-pub guess_row : (nodes : List DNode_data) (i : ℕ) (n : DNode_data) (q : Role) (arms : List Arm) (there : State) (r : Role) (theirs arms' : List Arm) (keeps : Bool) (rank i' : ℕ)
-    → i' ≡ i → rank ≡ n.rank → keeps ≡ ltb 0 (length n.pending) → arms' ≡ theirs → there ≡ Puts r theirs → (r.0 ≡ q.0 → ⊥)
-    → nexts_fault nodes keeps rank i' (map (λ b. owing_send (spot_of n) r b) arms' ∷ []) n.next 0 ≡ move_fault nodes i n (sends_past (spot_of n) q arms (Some there))
-guess_row nodes i n q arms there r theirs arms' keeps rank i' ei er ek ea et ne = rw (ei, er, ek, ea, et, ne_eqb r.0 q.0 ne) refl

@@ -5,4 +5,5 @@ pub mod Due
 pub mod Faults
 pub mod Figures
 pub mod Moves
+pub mod Rules
 pub mod Within

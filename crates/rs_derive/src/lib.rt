@@ -6,6 +6,7 @@ mod derivations;
 mod faults;
 pub mod laws;
 mod nexts;
+mod rules;
 mod targets;
 #[cfg(test)]
 mod tests;
@@ -13,3 +14,4 @@ mod tests;
 pub use checks::check;
 pub use derivations::{DNode, Derivation, longest, top_rank};
 pub use faults::DeriveFault;
+pub use rules::{Rule, arm_of, arms_at, rule_at};

@@ -7,9 +7,10 @@ ghost use Rattle.rs_derive.specs.Moves.{arm_of, owing_send, owing_receive};
 ghost use Rattle.rs_derive.specs.Within.{IsWithin, IsOnce};
 ghost use Rattle.rs_derive.specs.declared.faults.DeriveFault.TheVariants.{WrongNext};
 
+use crate::rules::arm_of;
 use crate::targets::{Change, Target, is_guessed, is_target};
 use crate::{DNode, DeriveFault};
-use rs_model::{Act, Arm, Label, Role};
+use rs_model::{Act, Arm, Role};
 
 // The node that edges leave, by its number, and whether these edges keep its head.
 #[derive(Clone, Copy)]
@@ -99,19 +100,6 @@ pub fn both_fault(
         }
     }
     count_fault(source, due as u32, arms.len(), node.next.len())
-}
-
-// The first arm with the label.
-pub fn arm_of(arms: &[Arm], label: Label) -> Option<Arm>
-    ensures arm { result ≡ arm_of arms.now label }
-    ensures label { label.0 < 2 ^ 16 }
-{
-    for arm in arms {
-        if arm.label.0 == label.0 {
-            return Some(*arm);
-        }
-    }
-    None
 }
 
 // The next for that arm of the projection's receive. No label stands at two arms, so there are at most 65,536 arms.
