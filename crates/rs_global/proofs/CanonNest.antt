@@ -1,5 +1,5 @@
 -- The canonical text of a protocol nests no deeper than a text that spells it.
-use Rattle.std.proofs.Common.{◌≡◌, ◌≢◌, ℕ, zero, suc, ◌+◌, ◌<◌, ◌≤◌, List, [], ◌∷◌, ◌++◌, length, Bool, true, false, ◌==◌, ◌&&◌, ◌||◌, if◌then◌else◌, nat_lt, Option, Some, None, inl, inr, refl, sym, ap, ◌∙◌, subst, arith, slice_get, append_assoc, length-append}
+use Rattle.std.proofs.Common.{◌≡◌, ◌≢◌, ℕ, zero, suc, ◌+◌, ◌<◌, ◌≤◌, List, [], ◌∷◌, ◌++◌, length, Bool, true, false, ◌==◌, ◌&&◌, ◌||◌, if◌then◌else◌, nat_lt, Option, Some, None, inl, inr, refl, sym, ap, ◌∙◌, subst, arith, slice_get, length-append}
 use Rattle.std.specs.Str.{bytes_eq}
 use Rattle.std.proofs.lemmas.Bool.{ltb-true, lt-ltb, eq-eqb, le-ltb}
 use Rattle.std.proofs.lemmas.Bool.Decides.{eqb_tells}
@@ -7,19 +7,18 @@ use Rattle.rs_model.specs.Data.{Protocol_data}
 use Rattle.rs_model.specs.declared.graph.Arm.{Arm}
 use Rattle.rs_model.specs.declared.graph.Node.{Node}
 use Rattle.rs_model.specs.declared.graph.Node.TheVariants.{Finished, Talk}
-use Rattle.rs_model.specs.declared.graph.Role.{Role}
 use Rattle.rs_model.specs.declared.values.Sort.{Sort}
 use Rattle.rs_text.proofs.Gaps.{true_or_false}
 use Rattle.rs_text.proofs.Naming.{grown_append}
 use Rattle.rs_text.specs.Names.{Bound, bound_to, number_or, grown, is_among}
 use Rattle.rs_global.specs.Trees.{Body, ends, again, binds, talks, offers, Branches, one, more}
-use Rattle.rs_global.specs.Graph.{labels_of, labels_of_arms, talks_in, talks_in_arms, Numbering, first_node, arm_of, arms_of, talk_of, nodes_of, nodes_of_arms, finish_of}
+use Rattle.rs_global.specs.Graph.{labels_of, labels_of_arms, talks_in, talks_in_arms, Numbering, first_node, arm_of, arms_of, nodes_of, nodes_of_arms, finish_of}
 use Rattle.rs_global.specs.Scenes.{Scene, with_label, in_talk, in_braces, in_rec, behind}
 use Rattle.rs_global.specs.Spells.{is_guarded, has_room_for, body_fits, arms_fit}
 use Rattle.rs_global.specs.Canonical.{name_of_node, IsGoneBackTo}
 use Rattle.rs_global.specs.Shapes.{deeper}
-use Rattle.rs_global.proofs.CanonForms.{goes_back, Writing, role_as, label_as, sort_as, wrapped, offered, canon, canon_arms, Named, NamedArms, Low, low_rec, low_up, both}
-use Rattle.rs_global.proofs.CanonSame.{Leads, Fine, FineArms, Inv, InvAll, inv_rec, inv_talk, inv_all, opened_for, canon_talks, canon_labels}
+use Rattle.rs_global.proofs.CanonForms.{goes_back, Writing, role_as, label_as, sort_as, wrapped, canon, canon_arms, Named, NamedArms, Low, low_rec, low_up, both}
+use Rattle.rs_global.proofs.CanonSame.{Leads, Fine, FineArms, Inv, InvAll, inv_rec, inv_talk, inv_all, opened_for, canon_talks}
 use Rattle.rs_global.proofs.Existence.{nodes_length}
 
 -- ---- a rec stands right in front of each talk that is gone back to

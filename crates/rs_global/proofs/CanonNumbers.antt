@@ -1,26 +1,22 @@
 -- The names of a canonical tree have the numbers of those that were read.
-use Rattle.std.proofs.Common.{◌≡◌, ◌≢◌, ℕ, zero, suc, ◌+◌, ◌<◌, ◌≤◌, List, [], ◌∷◌, ◌++◌, length, map, take, Bool, true, false, ◌&&◌, ◌||◌, if◌then◌else◌, Option, Some, None, ◌⊎◌, inl, inr, refl, sym, ap, ◌∙◌, subst, arith, slice_get, append_assoc, length-append}
+use Rattle.std.proofs.Common.{◌≡◌, ℕ, zero, suc, ◌+◌, ◌<◌, List, [], ◌∷◌, ◌++◌, length, map, take, Bool, true, false, ◌&&◌, ◌||◌, if◌then◌else◌, Option, Some, None, ◌⊎◌, inl, inr, refl, sym, ap, ◌∙◌, subst, arith, slice_get, append_assoc, length-append}
 use Rattle.std.proofs.lemmas.List.{map-append}
 use Rattle.std.proofs.lemmas.List.Folds.{list_any-append}
-use Rattle.std.proofs.lemmas.Option.{slice_get-map}
 use Rattle.std.proofs.lemmas.Slice.Eq.{bytes_eq-Decides}
 use Rattle.std.specs.Str.{bytes_eq}
 use Rattle.std.specs.List.{list_all}
 use Rattle.rs_model.specs.Data.{Protocol_data, Names_data}
 use Rattle.rs_model.specs.declared.graph.Arm.{Arm}
 use Rattle.rs_model.specs.declared.graph.Node.{Node}
-use Rattle.rs_model.specs.declared.graph.Role.{Role}
-use Rattle.rs_model.specs.declared.graph.Label.{Label}
-use Rattle.rs_model.specs.declared.values.Sort.{Sort}
 use Rattle.rs_text.proofs.Gaps.{true_or_false}
 use Rattle.rs_text.proofs.Naming.{grown_among, grown_differ, place_stands, decides_sound}
 use Rattle.rs_text.specs.Names.{Bound, number_or, grown, is_among, place_of, place_from}
 use Rattle.rs_text.specs.Sound.{differ, IsSound}
 use Rattle.rs_text.specs.Words.{is_word, is_role_word}
 use Rattle.rs_global.specs.Trees.{Body, ends, again, binds, talks, offers, Branches, one, more, ProtocolTree, roles_of}
-use Rattle.rs_global.specs.Graph.{labels_of, labels_of_arms, talks_in, has_end, Numbering, role_of, label_of, first_node, arm_of, arms_of, talk_of, nodes_of, nodes_of_arms, numbering, graph_of, names_of, finish_of}
-use Rattle.rs_global.proofs.CanonForms.{any_stands, stands_any, Writing, role_as, label_as, or_empty, both}
-use Rattle.rs_global.proofs.Existence.{AreEnough, RolesStand, roles_stand, label_stands, one_longer, at_seam, nodes_length, writing_of}
+use Rattle.rs_global.specs.Graph.{labels_of, labels_of_arms, talks_in, has_end, Numbering, role_of, label_of, first_node, arm_of, arms_of, talk_of, nodes_of, nodes_of_arms, numbering, graph_of, finish_of}
+use Rattle.rs_global.proofs.CanonForms.{any_stands, stands_any, role_as, label_as, or_empty, both}
+use Rattle.rs_global.proofs.Existence.{AreEnough, roles_stand, label_stands, one_longer, at_seam, nodes_length, writing_of}
 
 -- ---- places of names that differ
 

@@ -1,5 +1,5 @@
 -- A protocol that some text spells has one canonical tree at most.
-use Rattle.std.proofs.Common.{◌≡◌, ◌≢◌, ℕ, zero, suc, ◌+◌, ◌<◌, ◌≤◌, List, [], ◌∷◌, ◌++◌, length, Bool, true, false, ◌&&◌, Option, Some, None, refl, sym, ap, ◌∙◌, subst, arith, slice_get}
+use Rattle.std.proofs.Common.{◌≡◌, ℕ, zero, suc, ◌+◌, ◌<◌, ◌≤◌, List, [], ◌∷◌, ◌++◌, length, Bool, true, false, ◌&&◌, Option, Some, refl, sym, ap, ◌∙◌, subst, arith, slice_get}
 use Rattle.std.proofs.lemmas.List.Folds.{list_all-append}
 use Rattle.std.specs.List.{list_all}
 use Rattle.rs_model.specs.Data.{Protocol_data, Names_data}
@@ -12,7 +12,7 @@ use Rattle.rs_text.specs.Names.{Bound}
 use Rattle.rs_global.specs.Texts.{protocol_text}
 use Rattle.rs_global.specs.Trees.{Body, ends, again, binds, talks, offers, Branches, one, more, ProtocolTree, roles_of}
 use Rattle.rs_global.specs.Graph.{talks_in, has_end, Numbering, nodes_of, nodes_of_arms, numbering, graph_of, finish_of}
-use Rattle.rs_global.specs.Canonical.{IsTextShaped, name_of_node, shown_sort, IsGoneBackTo, IsTalkOf, IsArmOf, IsOneArm, AreArms, Draws, DrawsTalk, DrawsArms, IsCanonical, IsCanonicalText}
+use Rattle.rs_global.specs.Canonical.{IsTextShaped, IsTalkOf, IsArmOf, IsOneArm, AreArms, Draws, DrawsTalk, DrawsArms, IsCanonical, IsCanonicalText}
 
 -- ---- the end stands behind all talks
 

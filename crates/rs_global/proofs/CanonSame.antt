@@ -1,19 +1,16 @@
 -- The canonical form of a body has the same graph.
-use Rattle.std.proofs.Common.{◌≡◌, ◌≢◌, ℕ, zero, suc, ◌+◌, ◌-◌, ◌<◌, ◌≤◌, ◌^◌, List, [], ◌∷◌, ◌++◌, length, map, Bool, true, false, ◌||◌, if◌then◌else◌, nat_lt, Option, Some, None, inl, inr, refl, sym, ap, ◌∙◌, subst, arith, slice_get, append_assoc, append-nil, length-append}
+use Rattle.std.proofs.Common.{◌≡◌, ◌≢◌, ℕ, suc, ◌+◌, ◌<◌, ◌≤◌, ◌^◌, List, [], ◌∷◌, ◌++◌, length, map, Bool, true, false, ◌||◌, if◌then◌else◌, Option, Some, None, refl, sym, ap, ◌∙◌, arith, slice_get, append_assoc, length-append}
 use Rattle.std.specs.Fmt.{decimal}
-use Rattle.std.specs.Prelude.{codes}
 use Rattle.std.specs.Str.{bytes_eq}
 use Rattle.std.proofs.lemmas.Bool.{ltb-true}
 use Rattle.std.proofs.lemmas.List.{map-append}
 use Rattle.std.proofs.lemmas.Slice.Eq.{bytes_eq-Decides}
-use Rattle.rs_model.specs.Data.{Protocol_data, Names_data}
+use Rattle.rs_model.specs.Data.{Protocol_data}
 use Rattle.rs_model.specs.declared.graph.Arm.{Arm}
 use Rattle.rs_model.specs.declared.graph.Node.{Node}
-use Rattle.rs_model.specs.declared.graph.Node.TheVariants.{Finished, Talk}
-use Rattle.rs_model.specs.declared.graph.Role.{Role}
+use Rattle.rs_model.specs.declared.graph.Node.TheVariants.{Talk}
 use Rattle.rs_model.specs.declared.values.Sort.{Sort}
 use Rattle.rs_model.specs.declared.values.Sort.TheVariants as sort
-use Rattle.rs_text.proofs.Gaps.{true_or_false}
 use Rattle.rs_text.proofs.Values.{decimal_reads}
 use Rattle.rs_text.specs.Arms.{sort_or_unit}
 use Rattle.rs_text.specs.Lexemes.{value_of}
@@ -21,8 +18,8 @@ use Rattle.rs_text.specs.Names.{Bound, bound_to, number_or}
 use Rattle.rs_global.specs.Trees.{Body, ends, again, binds, talks, offers, Branches, one, more}
 use Rattle.rs_global.specs.Graph.{labels_of, labels_of_arms, talks_in, talks_in_arms, has_end, has_end_arms, Numbering, role_of, label_of, first_node, arm_of, arms_of, talk_of, nodes_of, nodes_of_arms}
 use Rattle.rs_global.specs.Spells.{is_guarded}
-use Rattle.rs_global.specs.Canonical.{name_of_node, shown_sort, IsGoneBackTo}
-use Rattle.rs_global.proofs.CanonForms.{goes_back, back_is, is_back, seam, Writing, role_as, label_as, sort_as, wrapped, offered, canon, canon_arms, Named, NamedArms, Low, low_rec, low_up, Ins, ins_rec}
+use Rattle.rs_global.specs.Canonical.{name_of_node, shown_sort}
+use Rattle.rs_global.proofs.CanonForms.{goes_back, is_back, Writing, role_as, label_as, sort_as, wrapped, offered, canon, canon_arms, Named, NamedArms, Low, low_rec, low_up, Ins, ins_rec}
 use Rattle.rs_global.proofs.Existence.{one_longer, at_seam, nodes_length}
 
 -- ---- the names of nodes differ

@@ -1,15 +1,13 @@
 -- What the canonical tree of a protocol spells, and that it is read and printed again.
-use Rattle.std.proofs.Common.{◌≡◌, ◌≢◌, ℕ, zero, suc, ◌+◌, ◌<◌, ◌≤◌, List, [], ◌∷◌, ◌++◌, length, map, take, Bool, true, false, ◌&&◌, ◌||◌, if◌then◌else◌, Option, Some, None, inl, inr, refl, sym, ap, ◌∙◌, subst, arith, slice_get}
+use Rattle.std.proofs.Common.{◌≡◌, ℕ, zero, suc, ◌+◌, ◌<◌, ◌≤◌, List, [], ◌∷◌, ◌++◌, length, map, take, Bool, true, false, ◌||◌, Option, Some, None, refl, sym, ap, ◌∙◌, subst, arith, slice_get}
 use Rattle.std.proofs.lemmas.List.{length-map}
 use Rattle.std.proofs.lemmas.List.Folds.{list_any-append}
-use Rattle.std.proofs.lemmas.Slice.Eq.{bytes_eq-Decides}
-use Rattle.std.specs.List.{list_all, All}
+use Rattle.std.specs.List.{All}
 use Rattle.rs_text.proofs.Naming.{grown_among}
 use Rattle.std.specs.Str.{bytes_eq}
 use Rattle.rs_model.specs.Data.{Protocol_data, Names_data}
 use Rattle.rs_model.specs.declared.graph.Arm.{Arm}
 use Rattle.rs_model.specs.declared.graph.Node.{Node}
-use Rattle.rs_model.specs.declared.graph.Role.{Role}
 use Rattle.rs_model.specs.declared.values.Sort.{Sort}
 use Rattle.rs_text.specs.Names.{Bound, bound_to, number_or, grown, is_among, place_of}
 use Rattle.rs_text.specs.Sound.{differ, IsSound}
@@ -17,16 +15,16 @@ use Rattle.rs_text.specs.Words.{is_word, is_role_word}
 use Rattle.rs_global.specs.Enough.{AreEnough}
 use Rattle.rs_global.specs.Texts.{protocol_text}
 use Rattle.rs_global.specs.Trees.{Body, ends, again, binds, talks, offers, Branches, one, more, ProtocolTree, roles_of}
-use Rattle.rs_global.specs.Graph.{labels_of, labels_of_arms, talks_in, talks_in_arms, has_end, Numbering, role_of, label_of, first_node, nodes_of, numbering, graph_of, names_of, finish_of}
+use Rattle.rs_global.specs.Graph.{labels_of, labels_of_arms, talks_in, talks_in_arms, has_end, role_of, label_of, first_node, nodes_of, numbering, graph_of, names_of, finish_of}
 use Rattle.rs_global.specs.Scenes.{first_scene}
-use Rattle.rs_global.specs.Spells.{body_fits, Fits, SpellsProtocol}
+use Rattle.rs_global.specs.Spells.{Fits, SpellsProtocol}
 use Rattle.rs_global.specs.Writable.{AreWords, AreWordsIn, AreWordsInArms}
-use Rattle.rs_global.specs.Canonical.{IsTextShaped, name_of_node, IsGoneBackTo, IsTalkOf, IsArmOf, IsOneArm, AreArms, Draws, DrawsTalk, DrawsArms, IsCanonical, IsCanonicalText, with_labels}
-use Rattle.rs_global.proofs.CanonForms.{goes_back, back_is, Writing, role_as, label_as, sort_as, wrapped, offered, canon, canon_arms, Named, fits_named, Low, low_rec, low_up}
+use Rattle.rs_global.specs.Canonical.{IsTextShaped, IsTalkOf, IsOneArm, AreArms, Draws, DrawsTalk, DrawsArms, IsCanonical, IsCanonicalText, with_labels}
+use Rattle.rs_global.proofs.CanonForms.{goes_back, back_is, Writing, role_as, label_as, sort_as, wrapped, canon, canon_arms, Named, fits_named, Low, low_rec, low_up}
 use Rattle.rs_global.proofs.CanonOne.{canonical_tree_is_one}
 use Rattle.rs_global.proofs.CanonSame.{Fine, fine, Same, same, SameNumbers, canon_talks, canon_end, canon_labels}
 use Rattle.rs_global.proofs.CanonNest.{Recs, tree_recs, canon_fits, fits_labels, fits_talks}
-use Rattle.rs_global.proofs.CanonNumbers.{place_at, at_among, among_at, tree_labels_few, labels_read, label_at, labels_written, labels_taken, label_number, role_number, role_known, Sound, sound_parts, all_at, bytes_same}
+use Rattle.rs_global.proofs.CanonNumbers.{place_at, among_at, tree_labels_few, labels_read, labels_written, labels_taken, label_number, role_number, role_known, Sound, sound_parts, all_at, bytes_same}
 use Rattle.rs_global.proofs.Existence as existence
 use Rattle.rs_global.proofs.Existence.{roles_stand, label_stands, roles_with, writing_of, canonical_tree, canonical_of}
 use Rattle.rs_global.proofs.NodeNames.{node_name_law}

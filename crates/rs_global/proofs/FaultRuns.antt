@@ -1,5 +1,5 @@
 -- Where the tokens of a body lead the reader, if at all: no token of it is unexpected.
-use Rattle.std.proofs.Common.{◌≡◌, ℕ, suc, ◌+◌, ◌-◌, List, [], ◌∷◌, ◌++◌, length, drop, codes, Bool, true, false, if◌then◌else◌, nat_le, nat_lt, Option, Some, None, Ok, Err, refl, sym, ap, ◌∙◌, subst, arith, append_assoc, length-append, slice_get}
+use Rattle.std.proofs.Common.{◌≡◌, ℕ, suc, ◌+◌, ◌-◌, List, [], ◌∷◌, ◌++◌, length, drop, codes, Bool, true, false, if◌then◌else◌, nat_le, nat_lt, Option, Some, None, Ok, refl, sym, ap, ◌∙◌, subst, arith, append_assoc, length-append, slice_get}
 use Rattle.std.proofs.lemmas.List.{length-set}
 use Rattle.std.proofs.Math.Seq.{drop-append_seam}
 use Rattle.std.proofs.lemmas.Slice.Eq.{bytes_eq-Decides}
@@ -9,10 +9,7 @@ use Rattle.rs_model.specs.declared.graph.Label.{Label}
 use Rattle.rs_model.specs.declared.values.Sort.{Sort}
 use Rattle.rs_model.specs.declared.values.Sort.TheVariants as sort
 use Rattle.rs_text.specs.declared.tokens.FaultKind.{FaultKind}
-use Rattle.rs_text.specs.declared.tokens.FaultKind.TheVariants as faulty
-use Rattle.rs_text.specs.declared.faults.TextKind.{TextKind}
 use Rattle.rs_text.specs.declared.faults.TextKind.TheVariants as kind
-use Rattle.rs_text.specs.Faults.{kind_of}
 use Rattle.rs_text.specs.Lexemes.{Lexeme}
 use Rattle.rs_text.specs.Names.{place_of, grown, Bound, bound_to}
 use Rattle.rs_text.specs.Signs.{Sign, rec_word, end_word, plain, arrow, colon, dot, comma, open_brace, close_brace, open_paren, close_paren, broken, word_sign}
@@ -27,36 +24,13 @@ use Rattle.rs_global.specs.Data.{Reader_data, Draft_data}
 use Rattle.rs_global.specs.Drafts.{with_arm}
 use Rattle.rs_global.specs.Trees.{Body, ends, again, binds, talks, offers, Branches, one, more, body_signs, branch_signs, ends_a_name}
 use Rattle.rs_global.specs.Graph.{labels_of, labels_of_arms, talks_in, talks_in_arms}
-use Rattle.rs_global.specs.Feeding.{Fed, fault, in_mode, linked, linked_root, linked_drafts, sent_by, named, feed_word, placed, met_by, opened, label_of_number, labelled_by, feed_sign}
-
-abbrev pub NotExpected : TextKind → Type 0
-NotExpected (kind.Expected w) = ⊥
-NotExpected _ = Unit {0}
-
--- the token is taken and leads to such a reader, or it is at fault, but not unexpected
-abbrev pub Lands : Fed → (Reader_data → Type 0) → Type 0
-Lands (Ok d) Q = Q d
-Lands (Err e) Q = NotExpected e.kind
-
-abbrev pub sign_behind : List Sign → Sign → Sign
-sign_behind [] u = u
-sign_behind (t ∷ ts) u = t
-
-abbrev pub lexeme : Sign → ℕ → ℕ → Lexeme
-lexeme s from until = record { sign = s; from = from; until = until }
-
--- the tokens lead from r to such a reader, wherever they stand; u is the token behind them
-abbrev pub Leads : List Sign → Sign → (Reader_data → Type 0) → Reader_data → Type 0
-Leads [] u Q r = Q r
-Leads (t ∷ ts) u Q r = (at from until : ℕ) → Lands (feed_sign t at (lexeme (sign_behind ts u) from until) r) (λ d. Leads ts u Q d)
+use Rattle.rs_global.specs.Feeding.{Fed, in_mode, linked, linked_root, linked_drafts, sent_by, named, feed_word, placed, met_by, opened, label_of_number, labelled_by, feeding}
+use Rattle.rs_text.specs.Readings.{fault, feed_sign}
+use Rattle.rs_text.proofs.Leading.{sign_behind, Lands, Leads, faulty_calm, lands_if}
 
 abbrev pub IsAfter : Sign → Type 0
 IsAfter arrow = ⊥
 IsAfter _ = Unit {0}
-
-pub lands_if : (c : Bool) (k : TextKind) (at : ℕ) (x : Fed) (Q : Reader_data → Type 0) → NotExpected k → Lands x Q → Lands (if c then fault k at else x) Q
-lands_if true k at x Q n h = n
-lands_if false k at x Q n h = h
 
 pub sent_lands : (found : Option ℕ) (from : Link) (at : ℕ) (r : Reader_data) (Q : Reader_data → Type 0) → ((s : Role) → Q (record r { mode = mode.Arrow from s })) → Lands (sent_by found from at r) Q
 sent_lands None from at r Q h = tt
@@ -79,11 +53,6 @@ pub by_name : (v : Sign) (from : Link) (word : List ℕ) (at next : ℕ) (r : Re
 by_name arrow from word at next r h = cc
 by_name (broken k) from word at next r h = cc
 by_name _ from word at next r h = refl
-
-pub faulty_calm : (k : FaultKind) → NotExpected (kind_of k)
-faulty_calm faulty.BadByte = tt
-faulty_calm faulty.NumberTooLarge = tt
-faulty_calm faulty.NameTooLong = tt
 
 -- what stands behind a word
 pub data Follower : Sign → Type 0 where
@@ -119,12 +88,12 @@ placed_length from s q r = length-append (linked_drafts from (Some (length r.dra
 -- ---- arms
 
 label_if : (a b : Bool) (l : List ℕ) (node at : ℕ) (n : Lexeme) (r : Reader_data) → (a ≡ true → l ≡ codes "rec") → (b ≡ true → l ≡ codes "end")
-    → feed_sign (if a then rec_word else if b then end_word else plain l) at n (record r { mode = mode.AtLabel node }) ≡ labelled_by (place_of l r.labels) node l at (record r { mode = mode.AtLabel node })
+    → feed_sign feeding (if a then rec_word else if b then end_word else plain l) at n (record r { mode = mode.AtLabel node }) ≡ labelled_by (place_of l r.labels) node l at (record r { mode = mode.AtLabel node })
 label_if true b l node at n r e f = ap (λ z. labelled_by (place_of z r.labels) node z at (record r { mode = mode.AtLabel node })) (sym (e refl))
 label_if false true l node at n r e f = ap (λ z. labelled_by (place_of z r.labels) node z at (record r { mode = mode.AtLabel node })) (sym (f refl))
 label_if false false l node at n r e f = refl
 
-pub label_fed : (l : List ℕ) (node at : ℕ) (n : Lexeme) (r : Reader_data) → feed_sign (word_sign l) at n (record r { mode = mode.AtLabel node }) ≡ labelled_by (place_of l r.labels) node l at (record r { mode = mode.AtLabel node })
+pub label_fed : (l : List ℕ) (node at : ℕ) (n : Lexeme) (r : Reader_data) → feed_sign feeding (word_sign l) at n (record r { mode = mode.AtLabel node }) ≡ labelled_by (place_of l r.labels) node l at (record r { mode = mode.AtLabel node })
 label_fed l node at n r = label_if (bytes_eq l (codes "rec")) (bytes_eq l (codes "end")) l node at n r (λ h. (bytes_eq-Decides l (codes "rec")).0 h) (λ h. (bytes_eq-Decides l (codes "end")).0 h)
 
 labelled_lands : (found : Option ℕ) (l : List ℕ) (node at : ℕ) (r : Reader_data) (Q : Reader_data → Type 0) → place_of l r.labels ≡ found
@@ -135,12 +104,12 @@ labelled_lands None l node at r Q e h =
     (h (label_of_number (length r.labels)) (r.labels ++ l ∷ []) (sym (ap (λ z. if z then r.labels else r.labels ++ l ∷ []) (not_among r.labels l 0 e))))
 
 pub label_lands : (l : List ℕ) (node at : ℕ) (n : Lexeme) (r : Reader_data) (Q : Reader_data → Type 0) → ((k : Label) → Q (record r { labels = grown r.labels (l ∷ []); mode = mode.Paren node k }))
-    → Lands (feed_sign (word_sign l) at n (record r { mode = mode.AtLabel node })) Q
+    → Lands (feed_sign feeding (word_sign l) at n (record r { mode = mode.AtLabel node })) Q
 label_lands l node at n r Q h = subst (λ (x : Fed). Lands x Q) (sym (label_fed l node at n r))
     (labelled_lands (place_of l r.labels) l node at r Q refl (λ k labels e. subst (λ (z : List (List ℕ)). Q (record r { labels = z; mode = mode.Paren node k })) (sym e) (h k)))
 
-pub sort_passes : (s : Option Sort) (node : ℕ) (label : Label) (r : Reader_data) (ts : List Sign) (u : Sign) (Q : Reader_data → Type 0) → ((s : Sort) → Leads ts u Q (record r { mode = mode.Body (link.OfArm node label s) }))
-    → Leads (open_paren ∷ ((sort_signs s ++ close_paren ∷ dot ∷ []) ++ ts)) u Q (record r { mode = mode.Paren node label })
+pub sort_passes : (s : Option Sort) (node : ℕ) (label : Label) (r : Reader_data) (ts : List Sign) (u : Sign) (Q : Reader_data → Type 0) → ((s : Sort) → Leads feeding ts u Q (record r { mode = mode.Body (link.OfArm node label s) }))
+    → Leads feeding (open_paren ∷ ((sort_signs s ++ close_paren ∷ dot ∷ []) ++ ts)) u Q (record r { mode = mode.Paren node label })
 sort_passes None node label r ts u Q h = λ a f n. λ a f n. λ a f n. h sort.Unit
 sort_passes (Some sort.Unit) node label r ts u Q h = λ a f n. λ a f n. λ a f n. λ a f n. h sort.Unit
 sort_passes (Some sort.Flag) node label r ts u Q h = λ a f n. λ a f n. λ a f n. λ a f n. h sort.Flag
@@ -150,8 +119,8 @@ sort_passes (Some sort.Octets) node label r ts u Q h = λ a f n. λ a f n. λ a 
 sort_passes (Some sort.Numbers) node label r ts u Q h = λ a f n. λ a f n. λ a f n. λ a f n. h sort.Numbers
 
 pub arm_passes : (l : List ℕ) (s : Option Sort) (node : ℕ) (r : Reader_data) (ts : List Sign) (u : Sign) (Q : Reader_data → Type 0)
-    → ((k : Label) (s : Sort) → Leads ts u Q (record r { labels = grown r.labels (l ∷ []); mode = mode.Body (link.OfArm node k s) })) → Leads (arm_signs l s ++ ts) u Q (record r { mode = mode.AtLabel node })
-arm_passes l s node r ts u Q h = λ a f n. label_lands l node a _ r (λ d. Leads (open_paren ∷ ((sort_signs s ++ close_paren ∷ dot ∷ []) ++ ts)) u Q d)
+    → ((k : Label) (s : Sort) → Leads feeding ts u Q (record r { labels = grown r.labels (l ∷ []); mode = mode.Body (link.OfArm node k s) })) → Leads feeding (arm_signs l s ++ ts) u Q (record r { mode = mode.AtLabel node })
+arm_passes l s node r ts u Q h = λ a f n. label_lands l node a _ r (λ d. Leads feeding (open_paren ∷ ((sort_signs s ++ close_paren ∷ dot ∷ []) ++ ts)) u Q d)
     (λ k. sort_passes s node k (record r { labels = grown r.labels (l ∷ []) }) ts u Q (h k))
 
 -- ---- bodies
@@ -175,36 +144,36 @@ grown_one : (names xs : List (List ℕ)) (l : List ℕ) → grown (grown names (
 grown_one names xs l = refl
 
 mutual
-  pub passes : (b : Body) (from : Link) (r : Reader_data) (ts : List Sign) (u : Sign) (Q : Reader_data → Type 0) → IsAfter (sign_behind ts u) → Goes (labels_of b) (talks_in b) r (λ e. Leads ts u Q e) → Leads (body_signs b ++ ts) u Q (record r { mode = mode.Body from })
+  pub passes : (b : Body) (from : Link) (r : Reader_data) (ts : List Sign) (u : Sign) (Q : Reader_data → Type 0) → IsAfter (sign_behind ts u) → Goes (labels_of b) (talks_in b) r (λ e. Leads feeding ts u Q e) → Leads feeding (body_signs b ++ ts) u Q (record r { mode = mode.Body from })
   passes ends from r ts u Q h k = λ at f n. k r.labels (linked_drafts from None r.drafts) (linked_root from None r.root) true r.bound [] r.depth refl (linked_length from None r.drafts ∙ omega arith) refl
-  passes (again name) from r ts u Q h k = λ at f n. name_lands (sign_behind ts u) from name at f (record r { mode = mode.Body from }) (λ e. Leads ts u Q e) h
+  passes (again name) from r ts u Q h k = λ at f n. name_lands (sign_behind ts u) from name at f (record r { mode = mode.Body from }) (λ e. Leads feeding ts u Q e) h
       (λ e j. k r.labels (linked_drafts from (Some j) r.drafts) (linked_root from (Some j) r.root) r.ended r.bound [] r.depth refl (linked_length from (Some j) r.drafts ∙ omega arith) refl)
-  passes (binds name body) from r ts u Q h k = λ at f n. lands_if (nat_le 200 r.depth) kind.TooDeep at (Ok (record r { depth = suc r.depth; mode = mode.RecName from })) (λ e. Leads (plain name ∷ dot ∷ (body_signs body ++ ts)) u Q e) tt
+  passes (binds name body) from r ts u Q h k = λ at f n. lands_if (nat_le 200 r.depth) kind.TooDeep at (Ok (record r { depth = suc r.depth; mode = mode.RecName from })) (λ e. Leads feeding (plain name ∷ dot ∷ (body_signs body ++ ts)) u Q e) tt
       (λ a f n. λ a f n. passes body from (record r { depth = suc r.depth; bound = (name, length r.drafts) ∷ r.bound }) ts u Q h
       (λ labels drafts root ended bound inner depth l d b. k labels drafts root ended bound (inner ++ (name, length r.drafts) ∷ []) depth l d (b ∙ sym (append_assoc inner ((name, length r.drafts) ∷ []) r.bound))))
-  passes (talks x y l s body) from r ts u Q h k = λ at f n. sent_lands (place_of x r.roles) from at (record r { mode = mode.Body from }) (λ e. Leads (arrow ∷ plain y ∷ colon ∷ ((arm_signs l s ++ body_signs body) ++ ts)) u Q e)
-      (λ role. λ a f n. λ a f n. met_lands (place_of y r.roles) from role a (record r { mode = mode.Receiver from role }) (λ e. Leads (colon ∷ ((arm_signs l s ++ body_signs body) ++ ts)) u Q e)
+  passes (talks x y l s body) from r ts u Q h k = λ at f n. sent_lands (place_of x r.roles) from at (record r { mode = mode.Body from }) (λ e. Leads feeding (arrow ∷ plain y ∷ colon ∷ ((arm_signs l s ++ body_signs body) ++ ts)) u Q e)
+      (λ role. λ a f n. λ a f n. met_lands (place_of y r.roles) from role a (record r { mode = mode.Receiver from role }) (λ e. Leads feeding (colon ∷ ((arm_signs l s ++ body_signs body) ++ ts)) u Q e)
       (λ q. λ a f n.
       let p : Reader_data = placed from role q r in
-      subst (λ (z : List Sign). Leads z u Q (record p { mode = mode.AtLabel (length r.drafts) })) (sym (append_assoc (arm_signs l s) (body_signs body) ts))
+      subst (λ (z : List Sign). Leads feeding z u Q (record p { mode = mode.AtLabel (length r.drafts) })) (sym (append_assoc (arm_signs l s) (body_signs body) ts))
       (arm_passes l s (length r.drafts) p (body_signs body ++ ts) u Q
       (λ label sort. passes body (link.OfArm (length r.drafts) label sort) (record p { labels = grown r.labels (l ∷ []) }) ts u Q h
       (λ labels drafts root ended bound inner depth g d b. k labels drafts root ended bound inner depth g (let c : length p.drafts ≡ suc (length r.drafts) = placed_length from role q r in d ∙ ap (λ z. z + talks_in body) c ∙ omega arith) b)))))
-  passes (offers x y arms) from r ts u Q h k = λ at f n. sent_lands (place_of x r.roles) from at (record r { mode = mode.Body from }) (λ e. Leads (arrow ∷ plain y ∷ open_brace ∷ ((branch_signs arms ++ close_brace ∷ []) ++ ts)) u Q e)
-      (λ role. λ a f n. λ a f n. met_lands (place_of y r.roles) from role a (record r { mode = mode.Receiver from role }) (λ e. Leads (open_brace ∷ ((branch_signs arms ++ close_brace ∷ []) ++ ts)) u Q e)
+  passes (offers x y arms) from r ts u Q h k = λ at f n. sent_lands (place_of x r.roles) from at (record r { mode = mode.Body from }) (λ e. Leads feeding (arrow ∷ plain y ∷ open_brace ∷ ((branch_signs arms ++ close_brace ∷ []) ++ ts)) u Q e)
+      (λ role. λ a f n. λ a f n. met_lands (place_of y r.roles) from role a (record r { mode = mode.Receiver from role }) (λ e. Leads feeding (open_brace ∷ ((branch_signs arms ++ close_brace ∷ []) ++ ts)) u Q e)
       (λ q. λ a f n.
       let p : Reader_data = placed from role q r in
-      lands_if (nat_le 200 r.depth) kind.TooDeep a (Ok (opened (length r.drafts) p)) (λ e. Leads ((branch_signs arms ++ close_brace ∷ []) ++ ts) u Q e) tt
-      (subst (λ (z : List Sign). Leads z u Q (opened (length r.drafts) p)) (sym (append_assoc (branch_signs arms) (close_brace ∷ []) ts))
+      lands_if (nat_le 200 r.depth) kind.TooDeep a (Ok (opened (length r.drafts) p)) (λ e. Leads feeding ((branch_signs arms ++ close_brace ∷ []) ++ ts) u Q e) tt
+      (subst (λ (z : List Sign). Leads feeding z u Q (opened (length r.drafts) p)) (sym (append_assoc (branch_signs arms) (close_brace ∷ []) ts))
       (branches_pass arms (length r.drafts) (record p { depth = suc r.depth }) (length r.drafts) r.frames (close_brace ∷ ts) u Q tt
       (λ labels drafts root ended bound inner depth g d b. λ a f n.
       k labels drafts root ended (drop (length bound - length r.bound) bound) [] (suc r.depth) g (let c : length p.drafts ≡ suc (length r.drafts) = placed_length from role q r in d ∙ ap (λ z. z + talks_in_arms arms) c ∙ omega arith) (restored_bound inner bound r.bound b))))))
 
   pub branches_pass : (arms : Branches) (node : ℕ) (r : Reader_data) (m : ℕ) (fs : List Frame) (ts : List Sign) (u : Sign) (Q : Reader_data → Type 0) → IsAfter (sign_behind ts u)
-      → Goes (labels_of_arms arms) (talks_in_arms arms) (record r { frames = frame_at m r.bound r.depth ∷ fs }) (λ e. Leads ts u Q e) → Leads (branch_signs arms ++ ts) u Q (record r { frames = frame_at m r.bound r.depth ∷ fs; mode = mode.AtLabel node })
+      → Goes (labels_of_arms arms) (talks_in_arms arms) (record r { frames = frame_at m r.bound r.depth ∷ fs }) (λ e. Leads feeding ts u Q e) → Leads feeding (branch_signs arms ++ ts) u Q (record r { frames = frame_at m r.bound r.depth ∷ fs; mode = mode.AtLabel node })
   branches_pass (one l s body) node r m fs ts u Q h k =
       let o : Reader_data = record r { frames = frame_at m r.bound r.depth ∷ fs } in
-      subst (λ (z : List Sign). Leads z u Q (record o { mode = mode.AtLabel node })) (sym (append_assoc (arm_signs l s) (body_signs body) ts))
+      subst (λ (z : List Sign). Leads feeding z u Q (record o { mode = mode.AtLabel node })) (sym (append_assoc (arm_signs l s) (body_signs body) ts))
       (arm_passes l s node o (body_signs body ++ ts) u Q
       (λ label sort. passes body (link.OfArm node label sort) (record o { labels = grown r.labels (l ∷ []) }) ts u Q h
       (λ labels drafts root ended bound inner depth g d b. k labels drafts root ended bound inner depth g d b)))
@@ -212,12 +181,12 @@ mutual
       let o : Reader_data = record r { frames = frame_at m r.bound r.depth ∷ fs } in
       let shape : (arm_signs l s ++ (body_signs body ++ comma ∷ branch_signs arms)) ++ ts ≡ arm_signs l s ++ (body_signs body ++ comma ∷ (branch_signs arms ++ ts)) =
       append_assoc (arm_signs l s) (body_signs body ++ comma ∷ branch_signs arms) ts ∙ ap (λ z. arm_signs l s ++ z) (append_assoc (body_signs body) (comma ∷ branch_signs arms) ts) in
-      subst (λ (z : List Sign). Leads z u Q (record o { mode = mode.AtLabel node })) (sym shape)
+      subst (λ (z : List Sign). Leads feeding z u Q (record o { mode = mode.AtLabel node })) (sym shape)
       (arm_passes l s node o (body_signs body ++ comma ∷ (branch_signs arms ++ ts)) u Q
       (λ label sort. passes body (link.OfArm node label sort) (record o { labels = grown r.labels (l ∷ []) }) (comma ∷ (branch_signs arms ++ ts)) u Q tt
       (λ labels drafts root ended bound inner depth g d b. λ a f n.
       let back : Reader_data = record o { labels = labels; drafts = drafts; root = root; ended = ended } in
-      subst (λ (z : Bound). Leads (branch_signs arms ++ ts) u Q (record back { bound = z; mode = mode.AtLabel m })) (sym (restored_bound inner bound r.bound b))
+      subst (λ (z : Bound). Leads feeding (branch_signs arms ++ ts) u Q (record back { bound = z; mode = mode.AtLabel m })) (sym (restored_bound inner bound r.bound b))
       (branches_pass arms m back m fs ts u Q h (λ labels' drafts' root' ended' bound' inner' depth' g' d' b'. k labels' drafts' root' ended' bound' inner' depth'
       (g' ∙ ap (λ z. grown z (labels_of_arms arms)) g ∙ sym (grown_append (labels_of body) (labels_of_arms arms) (grown r.labels (l ∷ []))))
       (d' ∙ ap (λ z. z + talks_in_arms arms) d ∙ omega arith) b')))))

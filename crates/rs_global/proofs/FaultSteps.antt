@@ -22,12 +22,14 @@ use Rattle.rs_global.specs.declared.reading.Mode.{Mode}
 use Rattle.rs_global.specs.declared.reading.Mode.TheVariants as mode
 use Rattle.rs_global.specs.Data.{Reader_data}
 use Rattle.rs_global.specs.Trees.{ends_a_name}
-use Rattle.rs_global.specs.Faults.{IsWhole}
 use Rattle.rs_global.specs.Scenes.{Scene, fault_of_name, fault_of_word, fault_of_sender}
-use Rattle.rs_global.specs.Feeding.{Fed, fault, expected, in_mode, linked, new_role, sent_by, named, feed_word, feed_body, placed, met_by, feed_mark, opened, label_of_number, labelled_by, sorted_by, feed_sort, feed_next, feed_line, feed_roles, feed_at, feed_sign}
-use Rattle.rs_global.proofs.FaultRuns.{NotExpected, Follower, an_arrow, a_broken, a_name, follower, by_name}
+use Rattle.rs_global.specs.Feeding.{Fed, in_mode, linked, new_role, sent_by, named, feed_word, feed_body, placed, met_by, feed_mark, opened, label_of_number, labelled_by, sorted_by, feed_sort, feed_next, feed_line, feed_roles, feed_at, feeding}
+use Rattle.rs_global.proofs.FaultRuns.{Follower, an_arrow, a_broken, a_name, follower, by_name}
 use Rattle.rs_global.proofs.FaultPlaces.{wanted_behind, wanted_by, scene_of, fault_seen, NamedBy}
 use Rattle.rs_global.proofs.FaultCuts.{takes}
+use Rattle.rs_text.specs.FirstFaults.{IsWhole}
+use Rattle.rs_text.specs.Readings.{fault, expected, feed_sign}
+use Rattle.rs_text.proofs.Leading.{NotExpected}
 
 pub record ToldUnexpected (w : Wanted) (seen : Option TextKind) (t : Sign) (at : ℕ) (e : TextFault) : Type 0 where
   pub at_is : e.at ≡ at
@@ -193,6 +195,6 @@ steps (mode.ArmDot node label s) dot at n r u b k h = (refl, refl)
 steps (mode.ArmDot node label s) _ at n r u b k h = inl (record { at_is = refl; kind_is = refl; stops = refl; unseen = refl })
 steps mode.Next t at n r u b k h = next_step r.frames t at n r
 
-pub whole_fed : (t : Sign) (at : ℕ) (n : Lexeme) (r : Reader_data) → IsWhole t → feed_sign t at n r ≡ feed_at r.mode t at n r
+pub whole_fed : (t : Sign) (at : ℕ) (n : Lexeme) (r : Reader_data) → IsWhole t → feed_sign feeding t at n r ≡ feed_at r.mode t at n r
 whole_fed (broken k) at n r h = absurd h
 whole_fed _ at n r h = refl

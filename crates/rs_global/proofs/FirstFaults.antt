@@ -1,18 +1,14 @@
 -- The fault that the reader tells is the first fault of the text.
-use Rattle.std.proofs.Common.{codes, ◌≡◌, ℕ, ◌≤◌, List, [], ◌∷◌, ◌++◌, length, Bool, true, false, if◌then◌else◌, Option, Some, None, Result, Ok, Err, refl, sym, ap, ◌∙◌, subst, ◌⊎◌, inl, inr, append_assoc, append-nil, arith}
+use Rattle.std.proofs.Common.{codes, ◌≡◌, ℕ, List, [], ◌∷◌, ◌++◌, Bool, true, false, if◌then◌else◌, Option, Some, None, Ok, Err, refl, sym, ap, ◌∙◌, subst, ◌⊎◌, inl, inr, append_assoc}
 use Rattle.rs_text.specs.declared.tokens.FaultKind.{FaultKind}
 use Rattle.rs_text.specs.declared.faults.TextFault.{TextFault}
 use Rattle.rs_text.specs.declared.faults.TextKind.{TextKind}
 use Rattle.rs_text.specs.declared.faults.TextKind.TheVariants as kind
 use Rattle.rs_text.specs.declared.faults.Wanted.{Wanted}
 use Rattle.rs_text.specs.declared.faults.Wanted.TheVariants as wanted
-use Rattle.rs_text.specs.Faults.{kind_of, kind_number}
-use Rattle.rs_text.specs.Lexemes.{Lexeme, Lexed, signs_of, is_last, next_lexeme}
+use Rattle.rs_text.specs.Faults.{kind_of}
+use Rattle.rs_text.specs.Lexemes.{Lexeme}
 use Rattle.rs_text.specs.Signs.{Sign, rec_word, plain, arrow, colon, dot, comma, open_brace, broken, finish}
-use Rattle.rs_text.specs.Tokens.{IsNext}
-use Rattle.rs_text.specs.Words.{is_role_word}
-use Rattle.rs_text.proofs.Gaps.{true_or_false}
-use Rattle.rs_text.proofs.Nexts.{next_is_next, plain_law, exists, are_lexed}
 use Rattle.rs_text.specs.Arms.{arm_signs, wanted_in_arm, ArmCut, at_label, behind_label, behind_paren, behind_sort, behind_head}
 use Rattle.rs_global.specs.declared.reading.Frame.{Frame}
 use Rattle.rs_global.specs.declared.reading.Mode.{Mode}
@@ -21,28 +17,23 @@ use Rattle.rs_global.specs.Data.{Reader_data}
 use Rattle.rs_global.specs.Trees.{protocol_signs, body_signs}
 use Rattle.rs_global.specs.Cuts.{Cut, at_body, behind_end, behind_name, behind_rec, behind_rec_name, in_binds, behind_arrow, behind_receiver, in_arm, in_talks, in_offers, behind_brace, BranchCut, in_head, in_branch, later, ProtocolCut, at_begin, at_first, behind_first, at_further, behind_further, in_body, cut_signs, branch_cut_signs, line_signs, protocol_cut_signs, wanted_at, wanted_in, wanted_of, IsBehind}
 use Rattle.rs_global.specs.Scenes.{Scene, fault_by, fault_of}
-use Rattle.rs_global.specs.Faults.{Begins, IsWhole, IsWithin, EndsByName, IsInReach, FaultAt, next_of, AllClear, FirstFault}
-use Rattle.rs_global.specs.Feeding.{Fed, Reading, begin, feed_at, feed_next, feed_sign, is_read, no_frames, behind_body, read_all, answered, ReadsAs}
-use Rattle.rs_global.proofs.FaultRuns.{NotExpected, Lands, sign_behind, lexeme, Leads}
-use Rattle.rs_global.proofs.FaultPlaces.{wanted_by, fault_seen, is_named, is_named_in, is_named_of, NamedBy, PlaceAgrees, place_passes, tree_passes, leads_split}
-use Rattle.rs_global.proofs.FaultCuts.{takes, IsProper, proper_word, Grows, place_grows, word_grows, place_begins}
+use Rattle.rs_global.specs.Faults.{Begins, IsWithin, EndsByName, IsInReach, FaultAt}
+use Rattle.rs_global.specs.Feeding.{Fed, begin, feed_at, feed_next, is_read, no_frames, behind_body, feeding}
+use Rattle.rs_global.proofs.FaultPlaces.{wanted_by, fault_seen, is_named, is_named_in, is_named_of, NamedBy, PlaceAgrees, place_passes, tree_passes}
+use Rattle.rs_global.proofs.FaultCuts.{takes, Grows, place_grows, word_grows, place_begins}
 use Rattle.rs_global.proofs.FaultSteps.{ToldUnexpected, Steps, IsArrowMode, steps, whole_fed}
-
--- these tokens lead the reader to r, with u behind them
-abbrev pub Reached : List Sign → Sign → Reader_data → Type 1
-Reached xs u r = (Q : Reader_data → Type 0) → Leads xs u Q begin → Q r
-
-pub reach_on : (xs : List Sign) (t u : Sign) (at from until : ℕ) (r d : Reader_data) → Reached xs t r → feed_sign t at (lexeme u from until) r ≡ Ok d → Reached (xs ++ t ∷ []) u d
-reach_on xs t u at from until r d reach e = λ Q h.
-    let k : Leads (t ∷ []) u Q r = reach (λ d. Leads (t ∷ []) u Q d) (leads_split xs (t ∷ []) u Q begin h) in
-    subst (λ (x : Fed). Lands x Q) e (k at from until)
+use Rattle.rs_text.proofs.Standing.{StopsAtEnd}
+use Rattle.rs_text.proofs.Judging.{Here, Wholeness, a_faulty, a_whole, wholeness, IsProper}
+use Rattle.rs_text.proofs.Leading.{Reached, NotExpected, Lands, sign_behind, lexeme, Leads, leads_split}
+use Rattle.rs_text.specs.FirstFaults.{IsClear, IsWhole}
+use Rattle.rs_text.specs.Readings.{feed_sign}
 
 -- a place stands behind these tokens
 abbrev pub There : List Sign → Type 0
 There xs = (c : ProtocolCut) × (protocol_cut_signs c ≡ xs)
 
-pub agree : (xs : List Sign) (u : Sign) (r : Reader_data) → Reached xs u r → (c : ProtocolCut) → protocol_cut_signs c ≡ xs → PlaceAgrees c u r
-agree xs u r reach c e = reach (λ d. PlaceAgrees c u d) (subst (λ (z : List Sign). Leads z u (λ d. PlaceAgrees c u d) begin) e (place_passes c u))
+pub agree : (xs : List Sign) (u : Sign) (r : Reader_data) → Reached feeding begin xs u r → (c : ProtocolCut) → protocol_cut_signs c ≡ xs → PlaceAgrees c u r
+agree xs u r reach c e = reach NotExpected (λ d. PlaceAgrees c u d) (subst (λ (z : List Sign). Leads feeding z u (λ d. PlaceAgrees c u d) begin) e (place_passes c u))
 
 pub begins_there : (xs : List Sign) → There xs → Begins xs
 begins_there xs there = subst Begins there.1 (place_begins there.0)
@@ -140,21 +131,13 @@ word_place _ word h = cc
 
 -- ---- one token
 
-abbrev pub Clear : List Sign → Sign → Sign → Type 0
-Clear xs t u = (k : TextKind) → FaultAt xs t u k → ⊥
-
 -- a token that is taken, and that breaks no rule of names or limits, is not at fault
-clear_of : (xs : List Sign) (t u : Sign) (r : Reader_data) → Reached xs t r → There (xs ++ t ∷ []) → IsWhole t → fault_seen r.mode t u r ≡ None → Clear xs t u
+clear_of : (xs : List Sign) (t u : Sign) (r : Reader_data) → Reached feeding begin xs t r → There (xs ++ t ∷ []) → IsWhole t → fault_seen r.mode t u r ≡ None → IsClear FaultAt xs t u
 clear_of xs t u r reach there whole seen k f = elim f [
   | inl x ↦ x.2.stops (begins_there (xs ++ t ∷ []) there)
   | inr (inl m) ↦ absurd (cc (sym m.fault ∙ (agree xs t r reach m.place m.stands).faults t u ∙ seen))
   | inr (inr b) ↦ subst IsWhole b.2.broken_is whole
 ]
-
-pub record Here (xs : List Sign) (t : Sign) (at : ℕ) (u : Sign) (e : TextFault) : Type 0 where
-  pub at_is : e.at ≡ at
-  pub fault : FaultAt xs t u e.kind
-  pub only : (k : TextKind) → FaultAt xs t u k → k ≡ e.kind
 
 -- the next token is faulty
 pub record Next (xs : List Sign) (t : Sign) (n : Lexeme) (e : TextFault) : Type 0 where
@@ -162,17 +145,14 @@ pub record Next (xs : List Sign) (t : Sign) (n : Lexeme) (e : TextFault) : Type 
   pub broken_is : n.sign ≡ broken kind
   pub kind_is : e.kind ≡ kind_of kind
   pub at_is : e.at ≡ n.from
-  pub clear : Clear xs t n.sign
+  pub clear : IsClear FaultAt xs t n.sign
   pub place : ProtocolCut
   pub stands : protocol_cut_signs place ≡ xs ++ t ∷ []
   pub reached : IsInReach place
 
 abbrev pub Verdict : List Sign → Sign → ℕ → Lexeme → Fed → Type 0
-Verdict xs t at n (Ok d) = There (xs ++ t ∷ []) × Clear xs t n.sign
-Verdict xs t at n (Err e) = Here xs t at n.sign e ⊎ Next xs t n e
-
-least_same : (k j : TextKind) → j ≡ k → kind_number k ≤ kind_number j
-least_same k j e = let n : kind_number j ≡ kind_number k = ap kind_number e in omega arith
+Verdict xs t at n (Ok d) = There (xs ++ t ∷ []) × IsClear FaultAt xs t n.sign
+Verdict xs t at n (Err e) = Here FaultAt xs t at n.sign e ⊎ Next xs t n e
 
 no_landing : (x : Fed) (w : Wanted) (seen : Option TextKind) (t : Sign) (at : ℕ) (n : Lexeme) (Q : Reader_data → Type 0) → Steps w seen t at n x → takes w t ≡ false → Lands x Q → ⊥
 no_landing (Ok d) w seen t at n Q s h l = absurd (cc (sym s.0 ∙ h))
@@ -183,14 +163,14 @@ no_landing (Err e) w seen t at n Q s h l = elim s [
 ]
 
 -- with an unexpected token the tokens begin no protocol
-stops_there : (xs : List Sign) (t : Sign) (r : Reader_data) (w : Wanted) (seen : Sign → Option TextKind) → Reached xs t r → IsWhole t → takes w t ≡ false → ((n : Lexeme) → Steps w (seen n.sign) t 0 n (feed_at r.mode t 0 n r)) → Begins (xs ++ t ∷ []) → ⊥
+stops_there : (xs : List Sign) (t : Sign) (r : Reader_data) (w : Wanted) (seen : Sign → Option TextKind) → Reached feeding begin xs t r → IsWhole t → takes w t ≡ false → ((n : Lexeme) → Steps w (seen n.sign) t 0 n (feed_at r.mode t 0 n r)) → Begins (xs ++ t ∷ []) → ⊥
 stops_there xs t r w seen reach whole h s b =
     let rest : List Sign = b.1 in
     let e : protocol_signs b.0 ≡ xs ++ (t ∷ rest) = b.2 ∙ append_assoc xs (t ∷ []) rest in
-    let l : Leads (xs ++ (t ∷ rest)) finish (λ d. Unit {0}) begin = subst (λ (z : List Sign). Leads z finish (λ d. Unit {0}) begin) e (tree_passes b.0) in
-    let k : Leads (t ∷ rest) finish (λ d. Unit {0}) r = reach (λ d. Leads (t ∷ rest) finish (λ d. Unit {0}) d) (leads_split xs (t ∷ rest) finish (λ d. Unit {0}) begin l) in
+    let l : Leads feeding (xs ++ (t ∷ rest)) finish (λ d. Unit {0}) begin = subst (λ (z : List Sign). Leads feeding z finish (λ d. Unit {0}) begin) e (tree_passes b.0) in
+    let k : Leads feeding (t ∷ rest) finish (λ d. Unit {0}) r = reach NotExpected (λ d. Leads feeding (t ∷ rest) finish (λ d. Unit {0}) d) (leads_split feeding NotExpected xs (t ∷ rest) finish (λ d. Unit {0}) begin l) in
     let n : Lexeme = lexeme (sign_behind rest finish) 0 0 in
-    no_landing (feed_at r.mode t 0 n r) w (seen n.sign) t 0 n (λ d. Leads rest finish (λ d. Unit {0}) d) (s n) h (subst (λ (x : Fed). Lands x (λ d. Leads rest finish (λ d. Unit {0}) d)) (whole_fed t 0 n r whole) (k 0 0 0))
+    no_landing (feed_at r.mode t 0 n r) w (seen n.sign) t 0 n (λ d. Leads feeding rest finish (λ d. Unit {0}) d) (s n) h (subst (λ (x : Fed). Lands x (λ d. Leads feeding rest finish (λ d. Unit {0}) d)) (whole_fed t 0 n r whole) (k 0 0 0))
 
 -- the reader isn't behind the protocol
 not_part : (m : Mode) (fs : List Frame) → (IsArrowMode m → ⊥) → (if no_frames fs then behind_body m else false) ≡ false → wanted_by m fs ≡ wanted.PartOrEnd → ⊥
@@ -199,8 +179,8 @@ not_part mode.Next [] a u h = cc
 not_part mode.Next (f ∷ fs) a u h = cc
 not_part _ fs a u h = cc
 
-here_unexpected : (xs : List Sign) (t : Sign) (at : ℕ) (u : Sign) (r : Reader_data) (e : TextFault) → Reached xs t r → (there : There xs) → IsWhole t → (wanted_by r.mode r.frames ≡ wanted.PartOrEnd → ⊥)
-    → ((n : Lexeme) → Steps (wanted_by r.mode r.frames) (fault_seen r.mode t n.sign r) t 0 n (feed_at r.mode t 0 n r)) → ToldUnexpected (wanted_by r.mode r.frames) (fault_seen r.mode t u r) t at e → Here xs t at u e
+here_unexpected : (xs : List Sign) (t : Sign) (at : ℕ) (u : Sign) (r : Reader_data) (e : TextFault) → Reached feeding begin xs t r → (there : There xs) → IsWhole t → (wanted_by r.mode r.frames ≡ wanted.PartOrEnd → ⊥)
+    → ((n : Lexeme) → Steps (wanted_by r.mode r.frames) (fault_seen r.mode t n.sign r) t 0 n (feed_at r.mode t 0 n r)) → ToldUnexpected (wanted_by r.mode r.frames) (fault_seen r.mode t u r) t at e → Here FaultAt xs t at u e
 here_unexpected xs t at u r e reach there whole part s x =
     let a : PlaceAgrees there.0 t r = agree xs t r reach there.0 there.1 in
     record {
@@ -224,7 +204,7 @@ here_unexpected xs t at u r e reach there whole part s x =
       ];
     }
 
-here_misplaced : (xs : List Sign) (t : Sign) (at : ℕ) (u : Sign) (r : Reader_data) (e : TextFault) → Reached xs t r → (there : There xs) → There (xs ++ t ∷ []) → IsWhole t → e.at ≡ at → fault_seen r.mode t u r ≡ Some e.kind → Here xs t at u e
+here_misplaced : (xs : List Sign) (t : Sign) (at : ℕ) (u : Sign) (r : Reader_data) (e : TextFault) → Reached feeding begin xs t r → (there : There xs) → There (xs ++ t ∷ []) → IsWhole t → e.at ≡ at → fault_seen r.mode t u r ≡ Some e.kind → Here FaultAt xs t at u e
 here_misplaced xs t at u r e reach there on whole at_is seen =
     let a : PlaceAgrees there.0 t r = agree xs t r reach there.0 there.1 in
     record {
@@ -237,7 +217,7 @@ here_misplaced xs t at u r e reach there on whole at_is seen =
       ];
     }
 
-on_steps : (x : Fed) (xs : List Sign) (t : Sign) (at : ℕ) (n : Lexeme) (r : Reader_data) → Reached xs t r → (there : There xs) → IsProper t → IsWhole t → (wanted_by r.mode r.frames ≡ wanted.PartOrEnd → ⊥)
+on_steps : (x : Fed) (xs : List Sign) (t : Sign) (at : ℕ) (n : Lexeme) (r : Reader_data) → Reached feeding begin xs t r → (there : There xs) → IsProper t → IsWhole t → (wanted_by r.mode r.frames ≡ wanted.PartOrEnd → ⊥)
     → ((n : Lexeme) → Steps (wanted_by r.mode r.frames) (fault_seen r.mode t n.sign r) t 0 n (feed_at r.mode t 0 n r)) → Steps (wanted_by r.mode r.frames) (fault_seen r.mode t n.sign r) t at n x → Verdict xs t at n x
 on_steps (Ok d) xs t at n r reach there proper whole part all s =
     let a : PlaceAgrees there.0 t r = agree xs t r reach there.0 there.1 in
@@ -268,15 +248,15 @@ arrow_unseen : (m : Mode) (t u : Sign) (r : Reader_data) → IsArrowMode m → f
 arrow_unseen (mode.Arrow from s) t u r a = refl
 arrow_unseen _ t u r a = absurd a
 
-arrow_verdict_at : (m : Mode) (xs : List Sign) (at : ℕ) (n : Lexeme) (r : Reader_data) → IsArrowMode m → There (xs ++ arrow ∷ []) → Clear xs arrow n.sign → Verdict xs arrow at n (feed_at m arrow at n r)
+arrow_verdict_at : (m : Mode) (xs : List Sign) (at : ℕ) (n : Lexeme) (r : Reader_data) → IsArrowMode m → There (xs ++ arrow ∷ []) → IsClear FaultAt xs arrow n.sign → Verdict xs arrow at n (feed_at m arrow at n r)
 arrow_verdict_at (mode.Arrow from s) xs at n r a on clear = (on, clear)
 arrow_verdict_at _ xs at n r a on clear = absurd a
 
-arrow_verdict : (xs : List Sign) (t : Sign) (at : ℕ) (n : Lexeme) (r : Reader_data) → t ≡ arrow → IsArrowMode r.mode → There (xs ++ t ∷ []) → Clear xs t n.sign → Verdict xs t at n (feed_at r.mode t at n r)
+arrow_verdict : (xs : List Sign) (t : Sign) (at : ℕ) (n : Lexeme) (r : Reader_data) → t ≡ arrow → IsArrowMode r.mode → There (xs ++ t ∷ []) → IsClear FaultAt xs t n.sign → Verdict xs t at n (feed_at r.mode t at n r)
 arrow_verdict xs t at n r e a on clear =
-    subst (λ (z : Sign). Verdict xs z at n (feed_at r.mode z at n r)) (sym e) (arrow_verdict_at r.mode xs at n r a (subst (λ (z : Sign). There (xs ++ z ∷ [])) e on) (subst (λ (z : Sign). Clear xs z n.sign) e clear))
+    subst (λ (z : Sign). Verdict xs z at n (feed_at r.mode z at n r)) (sym e) (arrow_verdict_at r.mode xs at n r a (subst (λ (z : Sign). There (xs ++ z ∷ [])) e on) (subst (λ (z : Sign). IsClear FaultAt xs z n.sign) e clear))
 
-whole_verdict : (xs : List Sign) (t : Sign) (at : ℕ) (n : Lexeme) (r : Reader_data) → Reached xs t r → There xs → IsProper t → IsWhole t → is_read r ≡ false → Verdict xs t at n (feed_sign t at n r)
+whole_verdict : (xs : List Sign) (t : Sign) (at : ℕ) (n : Lexeme) (r : Reader_data) → Reached feeding begin xs t r → There xs → IsProper t → IsWhole t → is_read r ≡ false → Verdict xs t at n (feed_sign feeding t at n r)
 whole_verdict xs t at n r reach there proper whole unread =
     let a : PlaceAgrees there.0 t r = agree xs t r reach there.0 there.1 in
     subst (λ (z : Fed). Verdict xs t at n z) (sym (whole_fed t at n r whole)) (elim (arrow_or r.mode) [
@@ -300,7 +280,7 @@ no_arrow m j b r h a = cc (arrow_facts m (broken j) b r a h).0
 broken_same : (i j : FaultKind) → broken i ≡ broken j → i ≡ j
 broken_same i j h = cc
 
-broken_verdict : (xs : List Sign) (j : FaultKind) (at : ℕ) (n : Lexeme) (r : Reader_data) → Reached xs (broken j) r → There xs → is_read r ≡ false → Verdict xs (broken j) at n (feed_sign (broken j) at n r)
+broken_verdict : (xs : List Sign) (j : FaultKind) (at : ℕ) (n : Lexeme) (r : Reader_data) → Reached feeding begin xs (broken j) r → There xs → is_read r ≡ false → Verdict xs (broken j) at n (feed_sign feeding (broken j) at n r)
 broken_verdict xs j at n r reach there unread =
     let a : PlaceAgrees there.0 (broken j) r = agree xs (broken j) r reach there.0 there.1 in
     inl (record {
@@ -313,25 +293,16 @@ broken_verdict xs j at n r reach there unread =
       ];
     })
 
-pub data Wholeness : Sign → Type 0 where
-  a_faulty : (k : FaultKind) → Wholeness (broken k)
-  a_whole : (t : Sign) → IsWhole t → Wholeness t
-
-pub wholeness : (t : Sign) → Wholeness t
-wholeness (broken k) = a_faulty k
-wholeness t = a_whole t tt
-
-verdict_by : (t : Sign) → Wholeness t → (xs : List Sign) (at : ℕ) (n : Lexeme) (r : Reader_data) → Reached xs t r → There xs → IsProper t → is_read r ≡ false → Verdict xs t at n (feed_sign t at n r)
+verdict_by : (t : Sign) → Wholeness t → (xs : List Sign) (at : ℕ) (n : Lexeme) (r : Reader_data) → Reached feeding begin xs t r → There xs → IsProper t → is_read r ≡ false → Verdict xs t at n (feed_sign feeding t at n r)
 verdict_by _ (a_faulty k) xs at n r reach there proper unread = broken_verdict xs k at n r reach there unread
 verdict_by _ (a_whole t w) xs at n r reach there proper unread = whole_verdict xs t at n r reach there proper w unread
 
 -- what a token is, and what the reader says of it
-pub verdict : (xs : List Sign) (t : Sign) (at : ℕ) (n : Lexeme) (r : Reader_data) → Reached xs t r → There xs → IsProper t → is_read r ≡ false → Verdict xs t at n (feed_sign t at n r)
+pub verdict : (xs : List Sign) (t : Sign) (at : ℕ) (n : Lexeme) (r : Reader_data) → Reached feeding begin xs t r → There xs → IsProper t → is_read r ≡ false → Verdict xs t at n (feed_sign feeding t at n r)
 verdict xs t at n r reach there proper unread = verdict_by t (wholeness t) xs at n r reach there proper unread
 
--- ---- all tokens
+-- ---- the end
 
--- the end and a faulty token are never taken, and what stands behind them doesn't count
 end_next : (fs : List Frame) (at : ℕ) (r d : Reader_data) → feed_next fs finish at r ≡ Ok d → ⊥
 end_next [] at r d h = cc
 end_next (f ∷ fs) at r d h = cc
@@ -344,78 +315,11 @@ end_same : (m : Mode) (at : ℕ) (n k : Lexeme) (r : Reader_data) → feed_at m 
 end_same mode.Next at n k r = refl
 end_same _ at n k r = refl
 
-last_same : (t : Sign) (at : ℕ) (n k : Lexeme) (r : Reader_data) → is_last t ≡ true → feed_sign t at n r ≡ feed_sign t at k r
-last_same finish at n k r h = end_same r.mode at n k r
-last_same (broken j) at n k r h = refl
-last_same _ at n k r h = cc
+-- the end is never taken, and nothing behind it counts
+pub at_end : StopsAtEnd feeding
+at_end = record { never = λ at n r d h. end_stops r.mode at n r d h; same = λ at n k r. end_same r.mode at n k r }
 
-pub last_faulty : (t : Sign) (at : ℕ) (n : Lexeme) (r d : Reader_data) → is_last t ≡ true → feed_sign t at n r ≡ Ok d → ⊥
-last_faulty finish at n r d h e = end_stops r.mode at n r d e
-last_faulty (broken j) at n r d h e = cc
-last_faulty _ at n r d h e = cc
-
-pub proper_sign : (s : Sign) → ((name : List ℕ) → s ≡ plain name → is_role_word name ≡ true) → IsProper s
-proper_sign (plain text) h = proper_word text (h text refl)
-proper_sign _ h = tt
-
-pub proper_of : (bytes : List ℕ) (now : ℕ) (l : Lexeme) → l ≡ next_lexeme bytes now → IsProper l.sign
-proper_of bytes now l h = proper_sign l.sign (λ name e. plain_law bytes now l name (subst (λ (z : Lexeme). IsNext bytes now z) (sym h) (next_is_next bytes now)) e)
-
-pub unread_if : (c : Bool) (x : Reading) (y : Result Reading TextFault) (e : TextFault) → (if c then Ok x else y) ≡ Err e → (c ≡ false) × (y ≡ Err e)
-unread_if true x y e h = cc
-unread_if false x y e h = (refl, h)
-
-pub signs_append : (xs ys : List Lexeme) → signs_of (xs ++ ys) ≡ signs_of xs ++ signs_of ys
-signs_append [] ys = refl
-signs_append (x ∷ xs) ys = ap (λ z. x.sign ∷ z) (signs_append xs ys)
-
--- the first fault among the tokens behind these, the only one of its token
-pub record Found (before : List Sign) (ls : List Lexeme) (kind : TextKind) (offset : ℕ) : Type 0 where
-  pub xs : List Lexeme
-  pub t : Lexeme
-  pub ys : List Lexeme
-  pub split : ls ≡ xs ++ t ∷ ys
-  pub stands : t.from ≡ offset
-  pub fault : FaultAt (before ++ signs_of xs) t.sign (next_of (signs_of ys)) kind
-  pub clear : AllClear before (signs_of xs) (signs_of (t ∷ ys))
-  pub only : (k : TextKind) → FaultAt (before ++ signs_of xs) t.sign (next_of (signs_of ys)) k → k ≡ kind
-
-found_here : (xs : List Sign) (l : Lexeme) (ls : List Lexeme) (g e : TextFault) → g ≡ e → Here xs l.sign l.from (next_of (signs_of ls)) g → Found xs (l ∷ ls) e.kind e.at
-found_here xs l ls g e same h = subst (λ (z : TextFault). Found xs (l ∷ ls) z.kind z.at) same (record {
-  xs = [];
-  t = l;
-  ys = ls;
-  split = refl;
-  stands = sym h.at_is;
-  fault = subst (λ (z : List Sign). FaultAt z l.sign (next_of (signs_of ls)) g.kind) (sym (append-nil xs)) h.fault;
-  clear = tt;
-  only = λ k f. h.only k (subst (λ (z : List Sign). FaultAt z l.sign (next_of (signs_of ls)) k) (append-nil xs) f);
-})
-
-found_later : (xs : List Sign) (l : Lexeme) (ls : List Lexeme) (kind : TextKind) (at : ℕ) → Clear xs l.sign (next_of (signs_of ls)) → Found (xs ++ l.sign ∷ []) ls kind at → Found xs (l ∷ ls) kind at
-found_later xs l ls kind at c h =
-    let signs : signs_of ls ≡ signs_of h.xs ++ signs_of (h.t ∷ h.ys) = ap signs_of h.split ∙ signs_append h.xs (h.t ∷ h.ys) in
-    let shape : (xs ++ l.sign ∷ []) ++ signs_of h.xs ≡ xs ++ (l.sign ∷ signs_of h.xs) = append_assoc xs (l.sign ∷ []) (signs_of h.xs) in
-    record {
-      xs = l ∷ h.xs;
-      t = h.t;
-      ys = h.ys;
-      split = ap (λ z. l ∷ z) h.split;
-      stands = h.stands;
-      fault = subst (λ (z : List Sign). FaultAt z h.t.sign (next_of (signs_of h.ys)) kind) shape h.fault;
-      clear = ((λ j f. c j (subst (λ (z : List Sign). FaultAt xs l.sign (next_of z) j) (sym signs) f)), h.clear);
-      only = λ j f. h.only j (subst (λ (z : List Sign). FaultAt z h.t.sign (next_of (signs_of h.ys)) j) (sym shape) f);
-    }
-
-err_same : (g e : TextFault) (ls : List Lexeme) → read_all (Err g) ls ≡ Err e → g ≡ e
-err_same g e ls h = cc
-
-end_found : (x : Fed) (xs : List Sign) (l : Lexeme) (r : Reader_data) (e : TextFault) → feed_sign l.sign l.from (lexeme finish 0 0) r ≡ x → Verdict xs l.sign l.from (lexeme finish 0 0) x → is_last l.sign ≡ true → read_all x [] ≡ Err e → Found xs (l ∷ []) e.kind e.at
-end_found (Ok d) xs l r e g v h f = absurd (last_faulty l.sign l.from (lexeme finish 0 0) r d h g)
-end_found (Err g) xs l r e q v h f = elim v [
-  | inl x ↦ found_here xs l [] g e (err_same g e [] f) x
-  | inr x ↦ absurd (cc x.broken_is)
-]
+-- ---- faulty tokens behind a word
 
 -- no place sees a faulty token
 unfaulty_by : (w : Wanted) (j : FaultKind) (n : Sign) (s : Scene) → fault_by w (broken j) n s ≡ None
@@ -433,7 +337,7 @@ unfaulty (at_further x xs) j n = refl
 unfaulty (behind_further x y xs) j n = refl
 unfaulty (in_body x y xs body) j n = unfaulty_by _ j n _
 
-next_here : (xs : List Sign) (t : Sign) (x : Lexeme) (u : Sign) (g : TextFault) → Next xs t x g → Here (xs ++ t ∷ []) x.sign x.from u g
+pub next_here : (xs : List Sign) (t : Sign) (x : Lexeme) (u : Sign) (g : TextFault) → Next xs t x g → Here FaultAt (xs ++ t ∷ []) x.sign x.from u g
 next_here xs t x u g h = record {
   at_is = h.at_is;
   fault = inr (inr (h.kind, h.kind_is, record { broken_is = h.broken_is; place = h.place; stands = h.stands; reached = h.reached }));
@@ -443,48 +347,3 @@ next_here xs t x u g h = record {
     | inr (inr b) ↦ b.1 ∙ ap kind_of (broken_same b.0 h.kind (sym b.2.broken_is ∙ h.broken_is)) ∙ sym h.kind_is
   ];
 }
-
-more_found : (y : Fed) (xs : List Sign) (l x : Lexeme) (ls : List Lexeme) (r : Reader_data) (e : TextFault) → Reached xs l.sign r → feed_sign l.sign l.from x r ≡ y → Verdict xs l.sign l.from x y → read_all y (x ∷ ls) ≡ Err e
-    → ((d : Reader_data) → Reached (xs ++ l.sign ∷ []) x.sign d → There (xs ++ l.sign ∷ []) → read_all (Ok d) (x ∷ ls) ≡ Err e → Found (xs ++ l.sign ∷ []) (x ∷ ls) e.kind e.at) → Found xs (l ∷ x ∷ ls) e.kind e.at
-more_found (Ok d) xs l x ls r e reach g v f k = found_later xs l (x ∷ ls) e.kind e.at v.1 (k d (reach_on xs l.sign x.sign l.from x.from x.until r d reach g) v.0 f)
-more_found (Err g) xs l x ls r e reach q v f k = elim v [
-  | inl h ↦ found_here xs l (x ∷ ls) g e (err_same g e (x ∷ ls) f) h
-  | inr h ↦ found_later xs l (x ∷ ls) e.kind e.at h.clear (found_here (xs ++ l.sign ∷ []) x ls g e (err_same g e (x ∷ ls) f) (next_here xs l.sign x (next_of (signs_of ls)) g h))
-]
-
-go : (ls : List Lexeme) (l : Lexeme) (xs : List Sign) (r : Reader_data) (e : TextFault) (bytes : List ℕ) (now : ℕ) → Lexed bytes now (l ∷ ls) → Reached xs l.sign r → There xs → read_all (Ok r) (l ∷ ls) ≡ Err e → Found xs (l ∷ ls) e.kind e.at
-go [] l xs r e bytes now h reach there f =
-    let u = unread_if (is_read r) _ _ e f in
-    elim (true_or_false (is_last l.sign)) [
-      | inl last ↦ end_found (feed_sign l.sign l.from (lexeme finish 0 0) r) xs l r e refl (verdict xs l.sign l.from (lexeme finish 0 0) r reach there (proper_of bytes now l h.0) u.0) last
-          (ap (λ z. read_all z []) (last_same l.sign l.from (lexeme finish 0 0) l r last) ∙ u.1)
-      | inr more ↦ absurd (h.2 more)
-    ]
-go (x ∷ ls) l xs r e bytes now h reach there f =
-    let u = unread_if (is_read r) _ _ e f in
-    elim (true_or_false (is_last l.sign)) [
-      | inl last ↦ absurd (cc (h.1 last))
-      | inr more ↦ more_found (feed_sign l.sign l.from x r) xs l x ls r e reach refl (verdict xs l.sign l.from x r reach there (proper_of bytes now l h.0) u.0) u.1
-          (λ d k p q. go ls x (xs ++ l.sign ∷ []) d e bytes l.until (h.2 more) k p q)
-    ]
-
--- the fault that the reading of these tokens gives is the first one
-pub found : (bytes : List ℕ) (at : ℕ) (ls : List Lexeme) (e : TextFault) → Lexed bytes at ls → read_all (Ok begin) ls ≡ Err e → Found [] ls e.kind e.at
-found bytes at [] e h f = absurd h
-found bytes at (l ∷ ls) e h f = go ls l [] begin e bytes at h (λ Q k. k) (at_begin, refl) f
-
-pub told : (bytes : List ℕ) (at : ℕ) (ls : List Lexeme) (e : TextFault) → Lexed bytes at ls → read_all (Ok begin) ls ≡ Err e → FirstFault bytes at e.kind e.at
-told bytes at ls e h f =
-    let x : Found [] ls e.kind e.at = found bytes at ls e h f in
-    record { before = x.xs; token = x.t; others = x.ys; lexed = subst (λ (z : List Lexeme). Lexed bytes at z) x.split h; stands = x.stands; fault = x.fault; clear = x.clear; least = λ k g. least_same e.kind k (x.only k g) }
-
-pub answered_err : (x : Result Reading TextFault) (e : TextFault) → answered x ≡ Err e → x ≡ Err e
-answered_err (Ok x) e h = cc
-answered_err (Err g) e h = cc
-
--- whatever fault the reader tells is the first fault of the text
-pub first_fault : (bytes : List ℕ) (at : ℕ) (e : TextFault) → at ≤ length bytes → ReadsAs bytes at (Err e) → FirstFault bytes at e.kind e.at
-first_fault bytes at e within h =
-    let x = exists bytes at within in
-    let lexed : Lexed bytes at x.0 = are_lexed bytes x.0 at x.1 in
-    told bytes at x.0 e lexed (answered_err (read_all (Ok begin) x.0) e (h x.0 lexed))

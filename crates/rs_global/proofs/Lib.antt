@@ -1,13 +1,10 @@
 pub mod Bindings
-pub mod Standing
 pub mod FaultRuns
 pub mod FaultPlaces
 pub mod FaultCuts
 pub mod FaultSteps
 pub mod FirstFaults
 pub mod OneFault
-pub mod Refusals
-pub mod Fitting
 pub mod Answers
 pub mod Sounding
 pub mod Examples

@@ -1,14 +1,12 @@
 -- A text that is read to the end of its protocol has no first fault, and any text has one at most.
-use Rattle.std.proofs.Common.{codes, ◌≡◌, ℕ, List, [], ◌∷◌, ◌++◌, length, Bool, true, false, if◌then◌else◌, Option, Some, None, Result, Ok, Err, refl, sym, ap, ◌∙◌, subst, inl, inr, append_assoc, append-nil}
+use Rattle.std.proofs.Common.{codes, ◌≡◌, ℕ, List, [], ◌∷◌, ◌++◌, length, true, false, if◌then◌else◌, Option, Some, None, Result, Ok, Err, refl, sym, ap, ◌∙◌, subst, inl, inr, ◌≤◌}
 use Rattle.rs_text.specs.declared.faults.TextFault.{TextFault}
 use Rattle.rs_text.specs.declared.faults.TextKind.{TextKind}
 use Rattle.rs_text.specs.declared.faults.TextKind.TheVariants as kind
 use Rattle.rs_text.specs.declared.faults.Wanted.{Wanted}
 use Rattle.rs_text.specs.declared.faults.Wanted.TheVariants as wanted
-use Rattle.rs_text.specs.Lexemes.{Lexeme, Lexed, signs_of, is_last}
-use Rattle.rs_text.specs.Signs.{Sign, rec_word, end_word, plain, open_brace, broken, finish}
-use Rattle.rs_text.proofs.Gaps.{true_or_false}
-use Rattle.rs_text.proofs.Nexts.{one_list}
+use Rattle.rs_text.specs.Lexemes.{Lexeme, Lexed, signs_of}
+use Rattle.rs_text.specs.Signs.{Sign, rec_word, end_word, plain, open_brace, finish}
 use Rattle.rs_text.specs.Arms.{wanted_in_arm, ArmCut, at_label, behind_label, behind_paren, behind_sort, behind_head}
 use Rattle.rs_global.specs.declared.reading.Frame.{Frame}
 use Rattle.rs_global.specs.declared.reading.Mode.{Mode}
@@ -19,12 +17,18 @@ use Rattle.rs_global.specs.Cuts.{Cut, at_body, behind_end, behind_name, behind_r
 use Rattle.rs_text.specs.Names.{is_among, bound_to}
 use Rattle.std.proofs.Common.{nat_le, nat_lt}
 use Rattle.rs_global.specs.Scenes.{Scene, fault_by, fault_of, fault_of_name, fault_of_word, fault_of_label, fault_in_line}
-use Rattle.rs_global.specs.Faults.{Begins, IsWhole, IsWithin, EndsByName, IsInReach, IsUnexpected, FaultAt, next_of, AllClear, FirstFault}
-use Rattle.rs_global.specs.Feeding.{Fed, Reading, Answer, begin, feed_at, feed_next, feed_sign, is_read, no_frames, behind_body, read_all, answered, ReadsAs}
-use Rattle.rs_global.proofs.FaultRuns.{NotExpected, Lands, sign_behind, lexeme, Leads, Follower, an_arrow, a_broken, a_name, follower, faulty_calm}
-use Rattle.rs_global.proofs.FaultPlaces.{wanted_behind, wanted_by, fault_seen, is_named, is_named_of, NamedBy, PlaceAgrees, place_passes, leads_split}
+use Rattle.rs_global.specs.Faults.{Begins, IsWithin, EndsByName, IsInReach, IsUnexpected, FaultAt, FirstFault}
+use Rattle.rs_global.specs.Feeding.{Fed, Answer, begin, feed_at, feed_next, is_read, no_frames, behind_body, answered, ReadsAs, feeding}
+use Rattle.rs_global.proofs.FaultRuns.{Follower, an_arrow, a_broken, a_name, follower}
+use Rattle.rs_global.proofs.FaultPlaces.{wanted_behind, wanted_by, fault_seen, is_named, is_named_of, NamedBy, PlaceAgrees, place_passes}
 use Rattle.rs_global.proofs.FaultSteps.{whole_fed, by_name_fault}
-use Rattle.rs_global.proofs.FirstFaults.{Reached, reach_on, There, agree, begins_there, Clear, Verdict, verdict, proper_of, signs_append, Found, found}
+use Rattle.rs_global.proofs.FirstFaults.{There, agree, begins_there, Verdict, verdict, Next, next_here, at_end}
+use Rattle.rs_text.proofs.Judging as judging
+use Rattle.rs_text.proofs.Judging.{Ahead, Judges, found, first_of, proper_sign, signs_append}
+use Rattle.rs_text.proofs.Leading.{Reached, reach_on, calm_if, calm_not, calm_none, NotExpected, Lands, sign_behind, lexeme, Leads, faulty_calm, leads_split}
+use Rattle.rs_text.proofs.Keeping.{tokens}
+use Rattle.rs_text.specs.Readings.{Reading, feed_sign, read_all, last_of}
+use Rattle.rs_text.specs.FirstFaults.{IsWhole, next_of}
 
 -- ---- places behind the protocol
 
@@ -107,7 +111,7 @@ read_facts mode.Next (f ∷ fs) h = cc
 read_facts _ [] h = cc
 read_facts _ (f ∷ fs) h = cc
 
-behind_clear : (xs : List Sign) (t u : Sign) (r : Reader_data) (k : TextKind) → Reached xs t r → is_read r ≡ true → FaultAt xs t u k → ⊥
+behind_clear : (xs : List Sign) (t u : Sign) (r : Reader_data) (k : TextKind) → Reached feeding begin xs t r → is_read r ≡ true → FaultAt xs t u k → ⊥
 behind_clear xs t u r k reach h f =
     let m = read_facts r.mode r.frames h in
     let wants : wanted_by r.mode r.frames ≡ wanted.PartOrEnd = ap (λ z. wanted_by z r.frames) m.0 ∙ ap wanted_behind m.1 in
@@ -127,16 +131,16 @@ landing_next [] t r Q e h = h
 landing_next (f ∷ fs) t r Q e h = cc
 
 -- no place stands further on
-behind_none : (xs : List Sign) (t : Sign) (ys : List Sign) (r : Reader_data) → Reached xs t r → is_read r ≡ true → IsWhole t → There (xs ++ (t ∷ ys)) → ⊥
+behind_none : (xs : List Sign) (t : Sign) (ys : List Sign) (r : Reader_data) → Reached feeding begin xs t r → is_read r ≡ true → IsWhole t → There (xs ++ (t ∷ ys)) → ⊥
 behind_none xs t ys r reach h whole there =
     let m = read_facts r.mode r.frames h in
     let Q : Reader_data → Type 0 = λ d. PlaceAgrees there.0 finish d in
-    let l : Leads (xs ++ (t ∷ ys)) finish Q begin = subst (λ (z : List Sign). Leads z finish Q begin) there.1 (place_passes there.0 finish) in
-    let k : Leads (t ∷ ys) finish Q r = reach (λ d. Leads (t ∷ ys) finish Q d) (leads_split xs (t ∷ ys) finish Q begin l) in
+    let l : Leads feeding (xs ++ (t ∷ ys)) finish Q begin = subst (λ (z : List Sign). Leads feeding z finish Q begin) there.1 (place_passes there.0 finish) in
+    let k : Leads feeding (t ∷ ys) finish Q r = reach NotExpected (λ d. Leads feeding (t ∷ ys) finish Q d) (leads_split feeding NotExpected xs (t ∷ ys) finish Q begin l) in
     let n : Lexeme = lexeme (sign_behind ys finish) 0 0 in
-    let o : Lands (feed_at r.mode t 0 n r) (λ d. Leads ys finish Q d) = subst (λ (x : Fed). Lands x (λ d. Leads ys finish Q d)) (whole_fed t 0 n r whole) (k 0 0 0) in
-    let p : Lands (feed_at mode.Next t 0 n r) (λ d. Leads ys finish Q d) = subst (λ (z : Mode). Lands (feed_at z t 0 n r) (λ d. Leads ys finish Q d)) m.0 o in
-    landing_next r.frames t r (λ d. Leads ys finish Q d) m.1 p
+    let o : Lands (feed_at r.mode t 0 n r) (λ d. Leads feeding ys finish Q d) = subst (λ (x : Fed). Lands x (λ d. Leads feeding ys finish Q d)) (whole_fed t 0 n r whole) (k 0 0 0) in
+    let p : Lands (feed_at mode.Next t 0 n r) (λ d. Leads feeding ys finish Q d) = subst (λ (z : Mode). Lands (feed_at z t 0 n r) (λ d. Leads feeding ys finish Q d)) m.0 o in
+    landing_next r.frames t r (λ d. Leads feeding ys finish Q d) m.1 p
 
 there_of : (xs : List Sign) (t u : Sign) (k : TextKind) → FaultAt xs t u k → There xs
 there_of xs t u k f = elim f [
@@ -145,153 +149,85 @@ there_of xs t u k f = elim f [
   | inr (inr b) ↦ (b.2.place, b.2.stands)
 ]
 
--- ---- along the tokens
+-- ---- what is known of the reader
 
-whole_of_more : (t : Sign) → is_last t ≡ false → IsWhole t
-whole_of_more (broken k) h = cc
-whole_of_more _ h = tt
+-- the reader r stands behind the tokens xs and before t
+abbrev pub At : List Sign → Sign → Reader_data → Type 1
+At xs t r = Reached feeding begin xs t r × There xs
 
-lexed_on : (bytes : List ℕ) (now : ℕ) (l x : Lexeme) (rest : List Lexeme) → Lexed bytes now (l ∷ x ∷ rest) → (is_last l.sign ≡ false) × Lexed bytes l.until (x ∷ rest)
-lexed_on bytes now l x rest h = elim (true_or_false (is_last l.sign)) [
-  | inl e ↦ absurd (cc (h.1 e))
-  | inr e ↦ (e, h.2 e)
+-- nothing is asked of what is left
+abbrev pub HasNoLabels : List Sign → Reader_data → Type 0
+HasNoLabels xs r = Unit {0}
+
+ahead_of : (r : Reader_data) (xs : List Sign) (t : Sign) (n : Lexeme) (e : TextFault) → Next xs t n e → Ahead FaultAt HasNoLabels r xs t n e
+ahead_of r xs t n e h = record { kind = h.kind; broken_is = h.broken_is; clear = h.clear; later = λ u. next_here xs t n u e h; left = tt }
+
+says : (x : Fed) (xs : List Sign) (t : Sign) (at : ℕ) (n : Lexeme) (r : Reader_data) → Verdict xs t at n x → judging.Verdict FaultAt HasNoLabels r xs t at n x
+says (Ok d) xs t at n r v = v.1
+says (Err e) xs t at n r v = elim v [
+  | inl h ↦ inl h
+  | inr h ↦ inr (ahead_of r xs t n e h)
 ]
 
-if_false : (c : Bool) (x z : Result Reading TextFault) (y : Reading) → c ≡ false → (if c then x else z) ≡ Ok y → z ≡ Ok y
-if_false true x z y e h = cc
-if_false false x z y e h = h
+goes_on : (x : Fed) (xs : List Sign) (t : Sign) (at : ℕ) (n : Lexeme) (r d : Reader_data) → Verdict xs t at n x → x ≡ Ok d → There (xs ++ t ∷ [])
+goes_on (Ok e) xs t at n r d v h = v.0
+goes_on (Err e) xs t at n r d v h = cc
 
-nothing_read : (z : Fed) (y : Reading) → read_all z [] ≡ Ok y → ⊥
-nothing_read (Ok d) y h = cc
-nothing_read (Err e) y h = cc
+pub judges : Judges feeding FaultAt At HasNoLabels
+judges = record {
+  ends = at_end;
+  taken = λ xs t at n r d stands name unread e. (
+    reach_on feeding begin xs t n.sign at n.from n.until r d stands.0 e,
+    goes_on (feed_sign feeding t at n r) xs t at n r d (verdict xs t at n r stands.0 stands.1 (proper_sign t name) unread) e,
+  );
+  left = λ xs t r stands. tt;
+  verdict = λ xs t at n r stands name unread. says (feed_sign feeding t at n r) xs t at n r (verdict xs t at n r stands.0 stands.1 (proper_sign t name) unread);
+  behind = λ xs t u r k stands h f. behind_clear xs t u r k stands.0 h f;
+  beyond = λ xs t ys s u r k stands h whole f. behind_none xs t ys r stands.0 h whole (there_of (xs ++ (t ∷ ys)) s u k f);
+}
 
-on_taken : (z : Fed) (xs : List Sign) (l x : Lexeme) (rest : List Lexeme) (r : Reader_data) (y : Reading) → Reached xs l.sign r → feed_sign l.sign l.from x r ≡ z → Verdict xs l.sign l.from x z → read_all z (x ∷ rest) ≡ Ok y
-    → ((d : Reader_data) → Reached (xs ++ l.sign ∷ []) x.sign d → There (xs ++ l.sign ∷ []) → Clear xs l.sign x.sign → read_all (Ok d) (x ∷ rest) ≡ Ok y → ⊥) → ⊥
-on_taken (Ok d) xs l x rest r y reach e v f k = k d (reach_on xs l.sign x.sign l.from x.from x.until r d reach e) v.0 v.1 f
-on_taken (Err g) xs l x rest r y reach e v f k = cc
+pub begins : (t : Sign) → At [] t begin
+begins t = (λ E Q k. k, (at_begin, refl))
 
-taken : (xs : List Sign) (l x : Lexeme) (rest : List Lexeme) (r : Reader_data) (y : Reading) (bytes : List ℕ) (now : ℕ) → Lexed bytes now (l ∷ x ∷ rest) → Reached xs l.sign r → There xs → is_read r ≡ false → read_all (Ok r) (l ∷ x ∷ rest) ≡ Ok y
-    → ((d : Reader_data) → Reached (xs ++ l.sign ∷ []) x.sign d → There (xs ++ l.sign ∷ []) → Clear xs l.sign x.sign → read_all (Ok d) (x ∷ rest) ≡ Ok y → ⊥) → ⊥
-taken xs l x rest r y bytes now h reach there u f k =
-    on_taken (feed_sign l.sign l.from x r) xs l x rest r y reach refl (verdict xs l.sign l.from x r reach there (proper_of bytes now l h.0) u) (if_false (is_read r) _ _ y u f) k
+-- ---- the first fault is told, and no other one
 
-no_go : (before : List Lexeme) (token : Lexeme) (others : List Lexeme) (xs : List Sign) (r : Reader_data) (y : Reading) (k : TextKind) (bytes : List ℕ) (now : ℕ) → Lexed bytes now (before ++ token ∷ others) → Reached xs (sign_behind (signs_of before) token.sign) r → There xs
-    → read_all (Ok r) (before ++ token ∷ others) ≡ Ok y → FaultAt (xs ++ signs_of before) token.sign (next_of (signs_of others)) k → ⊥
-no_go [] token [] xs r y k bytes now h reach there f g =
-    let at : FaultAt xs token.sign finish k = subst (λ (z : List Sign). FaultAt z token.sign finish k) (append-nil xs) g in
-    elim (true_or_false (is_read r)) [
-      | inl u ↦ behind_clear xs token.sign finish r k reach u at
-      | inr u ↦ nothing_read (feed_sign token.sign token.from token r) y (if_false (is_read r) _ _ y u f)
-    ]
-no_go [] token (x ∷ others) xs r y k bytes now h reach there f g =
-    let at : FaultAt xs token.sign x.sign k = subst (λ (z : List Sign). FaultAt z token.sign x.sign k) (append-nil xs) g in
-    elim (true_or_false (is_read r)) [
-      | inl u ↦ behind_clear xs token.sign x.sign r k reach u at
-      | inr u ↦ taken xs token x others r y bytes now h reach there u f (λ d reach' there' clear f'. clear k at)
-    ]
-no_go (l ∷ []) token others xs r y k bytes now h reach there f g =
-    let on = lexed_on bytes now l token others h in
-    elim (true_or_false (is_read r)) [
-      | inl u ↦ behind_none xs l.sign [] r reach u (whole_of_more l.sign on.0) (there_of (xs ++ (l.sign ∷ [])) token.sign (next_of (signs_of others)) k g)
-      | inr u ↦ taken xs l token others r y bytes now h reach there u f (λ d reach' there' clear f'. no_go [] token others (xs ++ l.sign ∷ []) d y k bytes l.until on.1 reach' there' f'
-          (subst (λ (z : List Sign). FaultAt z token.sign (next_of (signs_of others)) k) (sym (append-nil (xs ++ l.sign ∷ []))) g))
-    ]
-no_go (l ∷ m ∷ before) token others xs r y k bytes now h reach there f g =
-    let on = lexed_on bytes now l m (before ++ token ∷ others) h in
-    elim (true_or_false (is_read r)) [
-      | inl u ↦ behind_none xs l.sign (m.sign ∷ signs_of before) r reach u (whole_of_more l.sign on.0) (there_of (xs ++ (l.sign ∷ m.sign ∷ signs_of before)) token.sign (next_of (signs_of others)) k g)
-      | inr u ↦ taken xs l m (before ++ token ∷ others) r y bytes now h reach there u f (λ d reach' there' clear f'. no_go (m ∷ before) token others (xs ++ l.sign ∷ []) d y k bytes l.until on.1 reach' there' f'
-          (subst (λ (z : List Sign). FaultAt z token.sign (next_of (signs_of others)) k) (sym (append_assoc xs (l.sign ∷ []) (m.sign ∷ signs_of before))) g))
-    ]
+pub told : (bytes : List ℕ) (at : ℕ) (ls : List Lexeme) (e : TextFault) → Lexed bytes at ls → read_all feeding (Ok begin) ls ≡ Err e → FirstFault bytes at e.kind e.at
+told bytes at ls e h f = first_of FaultAt HasNoLabels bytes at ls e (last_of feeding begin (Ok begin) ls) h (found judges begin bytes at ls e begins h f)
 
-pub read_no_fault : (bytes : List ℕ) (at : ℕ) (y : Reading) (k : TextKind) (offset : ℕ) (f : FirstFault bytes at k offset) → read_all (Ok begin) (f.before ++ f.token ∷ f.others) ≡ Ok y → ⊥
-read_no_fault bytes at y k offset f e = no_go f.before f.token f.others [] begin y k bytes at f.lexed (λ Q h. h) (at_begin, refl) e f.fault
+answered_err : (x : Result (Reading Reader_data) TextFault) (e : TextFault) → answered x ≡ Err e → x ≡ Err e
+answered_err (Ok x) e h = cc
+answered_err (Err g) e h = cc
 
-answered_ok : (x : Result Reading TextFault) (a : Answer) → answered x ≡ Ok a → (y : Reading) × (x ≡ Ok y)
+-- whatever fault the reader tells is the first fault of the text
+pub first_fault : (bytes : List ℕ) (at : ℕ) (e : TextFault) → at ≤ length bytes → ReadsAs bytes at (Err e) → FirstFault bytes at e.kind e.at
+first_fault bytes at e within h =
+    let t = tokens bytes at within in
+    told bytes at t.0 e t.1 (answered_err (read_all feeding (Ok begin) t.0) e (h t.0 t.1))
+
+answered_ok : (x : Result (Reading Reader_data) TextFault) (a : Answer) → answered x ≡ Ok a → (y : Reading Reader_data) × (x ≡ Ok y)
 answered_ok (Ok y) a h = (y, refl)
 answered_ok (Err e) a h = cc
 
 -- what is read has no first fault
 pub no_fault : (bytes : List ℕ) (at : ℕ) (a : Answer) (k : TextKind) (offset : ℕ) → ReadsAs bytes at (Ok a) → FirstFault bytes at k offset → ⊥
 no_fault bytes at a k offset h f =
-    let x = answered_ok (read_all (Ok begin) (f.before ++ f.token ∷ f.others)) a (h (f.before ++ f.token ∷ f.others) f.lexed) in
-    read_no_fault bytes at x.0 k offset f x.1
-
--- ---- one fault at most
-
-same_place : (b c : List Lexeme) (t s : Lexeme) (os ps : List Lexeme) (xs : List Sign) (j k : TextKind) → b ++ t ∷ os ≡ c ++ s ∷ ps → FaultAt (xs ++ signs_of b) t.sign (next_of (signs_of os)) j → AllClear xs (signs_of b) (signs_of (t ∷ os))
-    → FaultAt (xs ++ signs_of c) s.sign (next_of (signs_of ps)) k → AllClear xs (signs_of c) (signs_of (s ∷ ps)) → (b ≡ c) × ((t ≡ s) × (os ≡ ps))
-same_place [] [] t s os ps xs j k h f cf g cg = (refl, (cc, cc))
-same_place [] (x ∷ c) t s os ps xs j k h f cf g cg =
-    let one : t ≡ x = cc in
-    let more : os ≡ c ++ s ∷ ps = cc in
-    let signs : signs_of os ≡ signs_of c ++ signs_of (s ∷ ps) = ap signs_of more ∙ signs_append c (s ∷ ps) in
-    absurd (cg.0 j (subst (λ (z : List Sign). FaultAt xs x.sign (next_of z) j) signs (subst (λ (z : Lexeme). FaultAt xs z.sign (next_of (signs_of os)) j) one (subst (λ (z : List Sign). FaultAt z t.sign (next_of (signs_of os)) j) (append-nil xs) f))))
-same_place (x ∷ b) [] t s os ps xs j k h f cf g cg =
-    let one : s ≡ x = cc in
-    let more : ps ≡ b ++ t ∷ os = cc in
-    let signs : signs_of ps ≡ signs_of b ++ signs_of (t ∷ os) = ap signs_of more ∙ signs_append b (t ∷ os) in
-    absurd (cf.0 k (subst (λ (z : List Sign). FaultAt xs x.sign (next_of z) k) signs (subst (λ (z : Lexeme). FaultAt xs z.sign (next_of (signs_of ps)) k) one (subst (λ (z : List Sign). FaultAt z s.sign (next_of (signs_of ps)) k) (append-nil xs) g))))
-same_place (x ∷ b) (y ∷ c) t s os ps xs j k h f cf g cg =
-    let one : y ≡ x = cc in
-    let more : b ++ t ∷ os ≡ c ++ s ∷ ps = cc in
-    let shape : (zs : List Lexeme) → xs ++ (x.sign ∷ signs_of zs) ≡ (xs ++ x.sign ∷ []) ++ signs_of zs = λ zs. sym (append_assoc xs (x.sign ∷ []) (signs_of zs)) in
-    let g' : FaultAt (xs ++ (x.sign ∷ signs_of c)) s.sign (next_of (signs_of ps)) k = subst (λ (z : Lexeme). FaultAt (xs ++ (z.sign ∷ signs_of c)) s.sign (next_of (signs_of ps)) k) one g in
-    let z = same_place b c t s os ps (xs ++ x.sign ∷ []) j k more (subst (λ (z : List Sign). FaultAt z t.sign (next_of (signs_of os)) j) (shape b) f) cf.1
-    (subst (λ (z : List Sign). FaultAt z s.sign (next_of (signs_of ps)) k) (shape c) g') (subst (λ (z : Lexeme). AllClear (xs ++ z.sign ∷ []) (signs_of c) (signs_of (s ∷ ps))) one cg.1) in
-    (ap (λ o. x ∷ o) z.0 ∙ ap (λ o. o ∷ c) (sym one), z.1)
-
--- a first fault is the one that is found
-found_is : (bytes : List ℕ) (at : ℕ) (k : TextKind) (offset : ℕ) (e : TextFault) (ls : List Lexeme) (f : FirstFault bytes at k offset) → Lexed bytes at ls → Found [] ls e.kind e.at → (k ≡ e.kind) × (offset ≡ e.at)
-found_is bytes at k offset e ls f h x =
-    let same = same_place f.before x.xs f.token x.t f.others x.ys [] k e.kind (one_list bytes (f.before ++ f.token ∷ f.others) ls at f.lexed h ∙ x.split) f.fault f.clear x.fault x.clear in
-    let a : FaultAt (signs_of x.xs) f.token.sign (next_of (signs_of f.others)) k = subst (λ (z : List Lexeme). FaultAt (signs_of z) f.token.sign (next_of (signs_of f.others)) k) same.0 f.fault in
-    let b : FaultAt (signs_of x.xs) x.t.sign (next_of (signs_of f.others)) k = subst (λ (z : Lexeme). FaultAt (signs_of x.xs) z.sign (next_of (signs_of f.others)) k) same.1.0 a in
-    let c : FaultAt (signs_of x.xs) x.t.sign (next_of (signs_of x.ys)) k = subst (λ (z : List Lexeme). FaultAt (signs_of x.xs) x.t.sign (next_of (signs_of z)) k) same.1.1 b in
-    (x.only k c, sym f.stands ∙ ap (λ z. z.from) same.1.0 ∙ x.stands)
-
--- what is read where there is a first fault
-told_by : (z : Result Reading TextFault) (bytes : List ℕ) (at : ℕ) (k : TextKind) (offset : ℕ) (f : FirstFault bytes at k offset) → read_all (Ok begin) (f.before ++ f.token ∷ f.others) ≡ z → z ≡ Err (record { kind = k; at = offset })
-told_by (Ok y) bytes at k offset f e = absurd (read_no_fault bytes at y k offset f e)
-told_by (Err g) bytes at k offset f e =
-    let same = found_is bytes at k offset g (f.before ++ f.token ∷ f.others) f f.lexed (found bytes at (f.before ++ f.token ∷ f.others) g f.lexed e) in
-    ap (λ o. Err (record { kind = o; at = g.at })) (sym same.0) ∙ ap (λ o. Err (record { kind = k; at = o })) (sym same.1)
+    let ls : List Lexeme = f.before ++ f.token ∷ f.others in
+    let x = answered_ok (read_all feeding (Ok begin) ls) a (h ls f.lexed) in
+    judging.no_fault judges begin bytes at x.0 k offset f begins x.1
 
 -- the first fault of a text is told
 pub tells : (bytes : List ℕ) (at : ℕ) (k : TextKind) (offset : ℕ) → FirstFault bytes at k offset → ReadsAs bytes at (Err (record { kind = k; at = offset }))
-tells bytes at k offset f = λ ls h.
-    ap (λ z. answered (read_all (Ok begin) z)) (one_list bytes ls (f.before ++ f.token ∷ f.others) at h f.lexed) ∙ ap answered (told_by (read_all (Ok begin) (f.before ++ f.token ∷ f.others)) bytes at k offset f refl)
-
-told_same : (g e : TextFault) → answered (Err g) ≡ Err e → g ≡ e
-told_same g e h = cc
-
-fault_same : (j k : TextKind) (n o : ℕ) → answered (Err (record { kind = j; at = n })) ≡ Err (record { kind = k; at = o }) → (j ≡ k) × (n ≡ o)
-fault_same j k n o h = let e : record { kind = j; at = n } ≡ record { kind = k; at = o } = told_same (record { kind = j; at = n }) (record { kind = k; at = o }) h in (ap (λ (z : TextFault). z.kind) e, ap (λ (z : TextFault). z.at) e)
+tells bytes at k offset f = λ ls h. ap answered (judging.tells judges begin bytes at k offset begins f ls h)
 
 -- a text has one first fault at most
-pub one_fault : (bytes : List ℕ) (at : ℕ) (j k : TextKind) (n o : ℕ) → FirstFault bytes at j n → FirstFault bytes at k o → (j ≡ k) × (n ≡ o)
-one_fault bytes at j k n o f g =
-    let a : answered (read_all (Ok begin) (f.before ++ f.token ∷ f.others)) ≡ Err (record { kind = j; at = n }) = tells bytes at j n f (f.before ++ f.token ∷ f.others) f.lexed in
-    let b : answered (read_all (Ok begin) (f.before ++ f.token ∷ f.others)) ≡ Err (record { kind = k; at = o }) = tells bytes at k o g (f.before ++ f.token ∷ f.others) f.lexed in
-    fault_same j k n o (sym a ∙ b)
+pub one_fault : (bytes : List ℕ) (at : ℕ) (j k : TextKind) (n i : ℕ) → FirstFault bytes at j n → FirstFault bytes at k i → (j ≡ k) × (n ≡ i)
+one_fault bytes at j k n i f g = judging.one_fault judges begin bytes at j k n i begins f g
 
 -- the tokens before the first fault begin a protocol
 pub begins_before : (bytes : List ℕ) (at : ℕ) (k : TextKind) (offset : ℕ) (f : FirstFault bytes at k offset) → Begins (signs_of f.before)
 begins_before bytes at k offset f = begins_there (signs_of f.before) (there_of (signs_of f.before) f.token.sign (next_of (signs_of f.others)) k f.fault)
 
 -- ---- what is expected
-
-calm_if : (c : Bool) (k j : TextKind) (o : Option TextKind) → NotExpected k → (o ≡ Some j → NotExpected j) → (if c then Some k else o) ≡ Some j → NotExpected j
-calm_if true k j o n h e = let same : k ≡ j = cc in subst NotExpected same n
-calm_if false k j o n h e = h e
-
-calm_not : (c : Bool) (k j : TextKind) (o : Option TextKind) → NotExpected k → (o ≡ Some j → NotExpected j) → (if c then o else Some k) ≡ Some j → NotExpected j
-calm_not true k j o n h e = h e
-calm_not false k j o n h e = let same : k ≡ j = cc in subst NotExpected same n
-
-calm_none : (c : Bool) {j : TextKind} {o : Option TextKind} → (o ≡ Some j → NotExpected j) → (if c then None else o) ≡ Some j → NotExpected j
-calm_none true h e = absurd (cc e)
-calm_none false h e = h e
 
 calm_name : (found : Option ℕ) (count : ℕ) (j : TextKind) → fault_of_name found count ≡ Some j → NotExpected j
 calm_name None count j e = let same : kind.UnboundName ≡ j = cc in subst NotExpected same tt

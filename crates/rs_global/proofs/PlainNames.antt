@@ -1,5 +1,5 @@
 -- Names by number: a letter and the decimal digits.
-use Rattle.std.proofs.Common.{◌≡◌, ◌≢◌, ℕ, zero, suc, ◌+◌, ◌<◌, ◌≤◌, ◌^◌, List, [], ◌∷◌, ◌++◌, length, Bool, true, false, ◌&&◌, ◌||◌, nat_le, not, if◌then◌else◌, Option, Some, None, inl, inr, refl, sym, ap, ◌∙◌, subst, arith, slice_get, length-append}
+use Rattle.std.proofs.Common.{◌≡◌, ℕ, zero, suc, ◌+◌, ◌<◌, ◌≤◌, ◌^◌, List, [], ◌∷◌, ◌++◌, length, Bool, true, false, ◌&&◌, ◌||◌, nat_le, if◌then◌else◌, Some, inl, inr, refl, sym, ap, ◌∙◌, arith, slice_get, length-append}
 use Rattle.std.proofs.lemmas.Bool.Decides.{leb_tells}
 use Rattle.std.proofs.lemmas.Fmt.{length-decimal-le}
 use Rattle.std.proofs.lemmas.List.Folds.{list_all-append}
@@ -11,10 +11,10 @@ use Rattle.rs_text.proofs.Naming.{place_law, grown_differ}
 use Rattle.rs_text.proofs.Values.{decimal_reads}
 use Rattle.rs_text.specs.Bytes.{is_letter, is_digit, is_word_byte}
 use Rattle.rs_text.specs.Lexemes.{value_of}
-use Rattle.rs_text.specs.Names.{number_or, grown, is_among, place_of, StandsFirst}
+use Rattle.rs_text.specs.Names.{grown, is_among, place_of}
 use Rattle.rs_text.specs.Sound.{differ}
 use Rattle.rs_text.specs.Words.{is_word, is_role_word}
-use Rattle.rs_global.proofs.CanonNumbers.{among_at, at_among}
+use Rattle.rs_global.proofs.CanonNumbers.{among_at}
 
 -- the n-th name with a letter
 abbrev pub plain_name : ℕ → ℕ → List ℕ

@@ -1,5 +1,5 @@
 -- The walk over the graph that a tree spells goes to its end.
-use Rattle.std.proofs.Common.{◌≡◌, ◌≢◌, ℕ, zero, suc, ◌+◌, ◌-◌, ◌<◌, ◌≤◌, List, [], ◌∷◌, ◌++◌, length, drop, Bool, true, false, not, ◌==◌, ◌&&◌, ◌||◌, if◌then◌else◌, nat_lt, nat_le, Option, Some, None, ◌⊎◌, inl, inr, refl, sym, ap, ◌∙◌, subst, arith, slice_get, append_assoc, append-nil, length-append}
+use Rattle.std.proofs.Common.{◌≡◌, ◌≢◌, ℕ, zero, suc, ◌+◌, ◌<◌, ◌≤◌, List, [], ◌∷◌, ◌++◌, length, drop, Bool, true, false, ◌==◌, ◌&&◌, ◌||◌, if◌then◌else◌, nat_lt, Option, Some, None, ◌⊎◌, inl, inr, refl, sym, ap, ◌∙◌, subst, arith, slice_get, append_assoc, length-append}
 use Rattle.std.proofs.lemmas.Bool.{ltb-true, lt-ltb, eq-eqb, le-ltb, le-leb}
 use Rattle.std.proofs.lemmas.Bool.Decides.{eqb_tells}
 use Rattle.std.proofs.lemmas.List.Folds.{list_any-append}
@@ -10,17 +10,15 @@ use Rattle.std.specs.Str.{bytes_eq}
 use Rattle.rs_model.specs.Data.{Protocol_data}
 use Rattle.rs_model.specs.declared.graph.Arm.{Arm}
 use Rattle.rs_model.specs.declared.graph.Node.{Node}
-use Rattle.rs_model.specs.declared.graph.Node.TheVariants.{Finished, Talk}
+use Rattle.rs_model.specs.declared.graph.Node.TheVariants.{Talk}
 use Rattle.rs_model.specs.declared.graph.Role.{Role}
-use Rattle.rs_model.specs.declared.values.Sort.{Sort}
-use Rattle.rs_text.proofs.Gaps.{true_or_false}
 use Rattle.rs_text.proofs.Naming.{grown_append, grown_stays, not_among, among, place_of_new, place_stands}
 use Rattle.rs_text.specs.Names.{Bound, bound_to, number_or, grown, is_among, place_of}
 use Rattle.rs_global.specs.declared.shapes.Walk.{Walk}
 use Rattle.rs_global.specs.Trees.{Body, ends, again, binds, talks, offers, Branches, one, more}
-use Rattle.rs_global.specs.Graph.{labels_of, labels_of_arms, talks_in, talks_in_arms, has_end, has_end_arms, Numbering, role_of, label_of, first_node, arm_of, arms_of, talk_of, nodes_of, nodes_of_arms}
+use Rattle.rs_global.specs.Graph.{labels_of, labels_of_arms, talks_in, talks_in_arms, has_end, has_end_arms, Numbering, role_of, first_node, arm_of, arms_of, talk_of, nodes_of, nodes_of_arms}
 use Rattle.rs_global.specs.Spells.{is_guarded, has_room_for, body_fits, arms_fit}
-use Rattle.rs_global.specs.Shapes.{leads_to, talk_leads, leads_from, last_of, labelled, met, or_none, arms_met, closed, deeper, are_more, is_none, nested, is_fit, one_more, talk_met, visited, to_end}
+use Rattle.rs_global.specs.Shapes.{leads_to, talk_leads, leads_from, last_of, labelled, met, or_none, arms_met, closed, deeper, are_more, is_none, nested, is_fit, one_more, talk_met, visited}
 use Rattle.rs_global.proofs.CanonForms.{Low, low_rec, low_up, Ins, ins_rec, both, Named, NamedArms}
 use Rattle.rs_global.proofs.CanonNest.{Recs, RecsArms, scene, few_labels, fits_labels}
 use Rattle.rs_global.proofs.Existence.{nodes_length, arms_length, one_longer, at_seam}

@@ -1,11 +1,10 @@
 -- What the walk has met is the graph of a tree.
-use Rattle.std.proofs.Common.{◌≡◌, ◌≢◌, ℕ, zero, suc, ◌+◌, ◌-◌, ◌<◌, ◌≤◌, ◌^◌, List, [], ◌∷◌, ◌++◌, length, drop, Bool, true, false, not, ◌==◌, ◌&&◌, ◌||◌, if◌then◌else◌, nat_lt, nat_le, Option, Some, None, ◌⊎◌, inl, inr, refl, sym, ap, ◌∙◌, subst, arith, slice_get, append_assoc, append-nil, length-append}
-use Rattle.std.proofs.lemmas.Bool.{ltb-true, ltb-false, lt-ltb, eq-eqb, eqb-true, le-ltb, le-leb, leb-true}
+use Rattle.std.proofs.Common.{◌≡◌, ◌≢◌, ℕ, zero, suc, ◌+◌, ◌-◌, ◌<◌, ◌≤◌, ◌^◌, List, [], ◌∷◌, ◌++◌, length, drop, Bool, true, false, ◌==◌, ◌&&◌, ◌||◌, if◌then◌else◌, nat_lt, nat_le, Option, Some, None, inl, inr, refl, sym, ap, ◌∙◌, subst, arith, slice_get, append_assoc}
+use Rattle.std.proofs.lemmas.Bool.{ltb-true, ltb-false, lt-ltb, eq-eqb, eqb-true, leb-true}
 use Rattle.std.proofs.lemmas.Bool.Decides.{eqb_tells}
 use Rattle.std.proofs.lemmas.Slice.Eq.{bytes_eq-Decides}
-use Rattle.std.specs.List.{list_any}
 use Rattle.std.specs.Str.{bytes_eq}
-use Rattle.rs_model.specs.Data.{Protocol_data, Names_data}
+use Rattle.rs_model.specs.Data.{Protocol_data}
 use Rattle.rs_model.specs.declared.graph.Arm.{Arm}
 use Rattle.rs_model.specs.declared.graph.Node.{Node}
 use Rattle.rs_model.specs.declared.graph.Node.TheVariants.{Finished, Talk}
@@ -15,17 +14,17 @@ use Rattle.rs_model.specs.declared.values.Sort.{Sort}
 use Rattle.rs_text.proofs.Gaps.{true_or_false}
 use Rattle.rs_text.proofs.Naming.{grown_append}
 use Rattle.rs_text.specs.Arms.{sort_or_unit}
-use Rattle.rs_text.specs.Names.{Bound, bound_to, number_or, grown, is_among, place_of}
-use Rattle.rs_text.specs.Words.{is_word, is_role_word}
+use Rattle.rs_text.specs.Names.{Bound, bound_to, number_or, grown, is_among}
+use Rattle.rs_text.specs.Words.{is_role_word}
 use Rattle.rs_global.specs.declared.shapes.Walk.{Walk}
-use Rattle.rs_global.specs.Trees.{Body, ends, again, binds, talks, offers, Branches, one, more}
-use Rattle.rs_global.specs.Graph.{labels_of, labels_of_arms, talks_in, talks_in_arms, has_end, has_end_arms, Numbering, role_of, label_of, first_node, arm_of, arms_of, talk_of, nodes_of, nodes_of_arms}
+use Rattle.rs_global.specs.Trees.{Body, ends, again, Branches, one, more}
+use Rattle.rs_global.specs.Graph.{labels_of, labels_of_arms, talks_in, talks_in_arms, has_end, has_end_arms, Numbering, role_of, first_node, arm_of, arms_of, nodes_of, nodes_of_arms}
 use Rattle.rs_global.specs.Spells.{is_guarded, has_room_for, body_fits, arms_fit}
 use Rattle.rs_global.specs.Canonical.{name_of_node, shown_sort}
 use Rattle.rs_global.specs.Writable.{AreWordsIn, AreWordsInArms}
-use Rattle.rs_global.specs.Shapes.{leads_to, talk_leads, leads_from, last_of, labelled, met, or_none, arms_met, closed, deeper, are_more, is_none, nested, is_fit, one_more, talk_met, visited, to_end}
+use Rattle.rs_global.specs.Shapes.{leads_to, talk_leads, leads_from, last_of, labelled, met, or_none, arms_met, closed, deeper, are_more, nested, is_fit, one_more, talk_met, visited, to_end}
 use Rattle.rs_global.proofs.CanonForms.{any_stands, stands_any, drop_get, wrapped, offered, both}
-use Rattle.rs_global.proofs.CanonNest.{scene, all_true, wrapped_fits, grown_longer}
+use Rattle.rs_global.proofs.CanonNest.{scene, all_true, wrapped_fits}
 use Rattle.rs_global.proofs.CanonNumbers.{at_among}
 use Rattle.rs_global.proofs.CanonSame.{node_name_is, opened_for, wrapped_talks, offered_talks, wrapped_end, offered_end, wrapped_labels, offered_labels, wrapped_nodes, wrapped_first, offered_nodes, offered_first, sort_same}
 use Rattle.rs_global.proofs.CanonWhole.{one_words}

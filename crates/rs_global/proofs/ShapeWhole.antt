@@ -1,35 +1,33 @@
 -- The walk goes to its end exactly where some text reads to the protocol.
-use Rattle.std.proofs.Common.{◌≡◌, ◌≢◌, ℕ, zero, suc, ◌+◌, ◌-◌, ◌<◌, ◌≤◌, ◌↔◌, List, [], ◌∷◌, ◌++◌, length, drop, Bool, true, false, not, ◌==◌, ◌&&◌, ◌||◌, if◌then◌else◌, nat_lt, nat_le, Option, Some, None, inl, inr, refl, sym, ap, ◌∙◌, subst, arith, slice_get, append-nil, length-append}
+use Rattle.std.proofs.Common.{◌≡◌, ℕ, zero, suc, ◌+◌, ◌-◌, ◌≤◌, ◌↔◌, List, [], ◌∷◌, ◌++◌, length, drop, Bool, true, false, not, ◌==◌, ◌&&◌, ◌||◌, if◌then◌else◌, nat_le, Option, Some, None, inl, inr, refl, sym, ap, ◌∙◌, subst, arith, slice_get, append-nil, length-append}
 use Rattle.std.proofs.lemmas.List.{drop_all}
 use Rattle.std.proofs.lemmas.Bool.{eq-eqb, eqb-true, le-leb, leb-true}
 use Rattle.std.specs.Bool.{IsTrue}
 use Rattle.std.specs.List.{list_any, list_all, All}
 use Rattle.rs_model.specs.Data.{Protocol_data, Names_data}
-use Rattle.rs_model.specs.declared.graph.Arm.{Arm}
 use Rattle.rs_model.specs.declared.graph.Node.{Node}
 use Rattle.rs_model.specs.declared.graph.Node.TheVariants.{Finished, Talk}
-use Rattle.rs_model.specs.declared.graph.Role.{Role}
 use Rattle.rs_text.proofs.Gaps.{true_or_false}
 use Rattle.rs_text.proofs.Naming.{decides_sound}
-use Rattle.rs_text.specs.Names.{Bound, bound_to, grown}
+use Rattle.rs_text.specs.Names.{grown}
 use Rattle.rs_text.specs.Sound.{differ, IsSound}
 use Rattle.rs_text.specs.Words.{is_role_word}
 use Rattle.rs_global.specs.declared.shapes.Walk.{Walk}
-use Rattle.rs_global.specs.Canonical.{IsTextShaped, name_of_node}
+use Rattle.rs_global.specs.Canonical.{IsTextShaped}
 use Rattle.rs_global.specs.Graph.{labels_of, talks_in, has_end, Numbering, first_node, nodes_of, numbering, graph_of, names_of, finish_of}
 use Rattle.rs_global.specs.Scenes.{first_scene}
 use Rattle.rs_global.specs.Spells.{body_fits, Fits, SpellsProtocol}
-use Rattle.rs_global.specs.Shapes.{talk_leads, leads_from, is_end, is_end_at, ends_last, last_of, met, visited, same_bool, is_whole, begin, is_shaped}
+use Rattle.rs_global.specs.Shapes.{talk_leads, leads_from, is_end_at, ends_last, last_of, met, visited, same_bool, is_whole, begin, is_shaped}
 use Rattle.rs_global.specs.Texts.{protocol_text}
-use Rattle.rs_global.specs.Trees.{Body, ProtocolTree, roles_of}
+use Rattle.rs_global.specs.Trees.{ProtocolTree, roles_of}
 use Rattle.rs_global.specs.Writable.{AreWords}
 use Rattle.rs_global.proofs.CanonForms.{back_is, seam, both, fits_named}
 use Rattle.rs_global.proofs.CanonNest.{Recs, tree_recs, fits_talks, scene}
 use Rattle.rs_global.proofs.CanonOne.{is_talk, all_talks}
 use Rattle.rs_global.proofs.Existence.{nodes_length, tree_with, roles_with}
-use Rattle.rs_global.proofs.PlainNames.{plain_name, plain_names, plain_count, plain_differ, plain_all, plain_role}
+use Rattle.rs_global.proofs.PlainNames.{plain_names, plain_count, plain_differ, plain_all, plain_role}
 use Rattle.rs_global.proofs.PrintedTrees.{lone_tree_spelt}
-use Rattle.rs_global.proofs.ShapeGoes.{IsGraphBy, goes}
+use Rattle.rs_global.proofs.ShapeGoes.{goes}
 use Rattle.rs_global.proofs.ShapeGrown.{Small, Grown, numbers, met_grown, visited_grown}
 
 -- ---- the end of a graph

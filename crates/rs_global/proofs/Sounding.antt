@@ -1,4 +1,4 @@
-use Rattle.std.proofs.Common.{◌≡◌, ℕ, ◌+◌, ◌<◌, ◌≤◌, List, [], ◌∷◌, ◌++◌, length, Bool, true, false, ◌&&◌, Option, Some, None, Result, Ok, Err, IfOk, inl, inr, refl, sym, ap, subst, arith, cond, nat_le, nat_lt, length-append}
+use Rattle.std.proofs.Common.{◌≡◌, ℕ, ◌+◌, ◌<◌, ◌≤◌, List, [], ◌∷◌, ◌++◌, length, Bool, true, false, ◌&&◌, Option, Some, None, Result, Ok, Err, IfOk, refl, sym, ap, subst, arith, cond, nat_le, nat_lt, length-append}
 use Rattle.std.specs.List.{list_all}
 use Rattle.std.proofs.lemmas.Bool.{leb-false}
 use Rattle.std.specs.Prelude.{codes}
@@ -7,14 +7,12 @@ use Rattle.rs_model.specs.declared.graph.Label.{Label}
 use Rattle.rs_model.specs.declared.values.Sort.{Sort}
 use Rattle.rs_text.specs.declared.faults.TextFault.{TextFault}
 use Rattle.rs_text.specs.declared.faults.TextKind.TheVariants as kind
-use Rattle.rs_text.specs.Lexemes.{Lexeme, Lexed, is_last}
+use Rattle.rs_text.specs.Lexemes.{Lexeme}
 use Rattle.rs_text.specs.Names.{place_of, is_among, bound_to}
 use Rattle.rs_text.specs.Signs.{Sign, rec_word, end_word, plain, arrow, colon, dot, comma, open_brace, close_brace, open_paren, close_paren, broken}
 use Rattle.rs_text.specs.Sound.{differ, IsSound}
 use Rattle.rs_text.specs.Words.{is_word, is_role_word}
-use Rattle.rs_text.proofs.Gaps.{true_or_false}
 use Rattle.rs_text.proofs.Naming.{grown_differ, grown_all, not_among, decides_sound}
-use Rattle.rs_text.proofs.Nexts.{next_is_next, plain_law}
 use Rattle.rs_text.specs.Seen.{sort_named, plain_text, word_text, is_text}
 use Rattle.rs_global.specs.declared.reading.Frame.{Frame}
 use Rattle.rs_global.specs.declared.reading.Link.{Link}
@@ -23,8 +21,10 @@ use Rattle.rs_global.specs.declared.reading.Mode.TheVariants as mode
 use Rattle.rs_model.specs.Data.{Names_data}
 use Rattle.rs_global.specs.Drafts.{names_read, protocol_of}
 use Rattle.rs_global.specs.Data.{Reader_data}
-use Rattle.rs_global.specs.Feeding.{Fed, Reading, Answer, Reads, ReadsAs, answered, begin, in_mode, linked, feed_at, feed_sign, new_role, feed_line, feed_word, feed_body, sent_by, named, feed_next, feed_receiver, met_by, feed_label, labelled_by, sorted_by, is_read, next_lexeme_of, read_all}
-use Rattle.rs_global.proofs.Answers.{tokens}
+use Rattle.rs_global.specs.Feeding.{Fed, Answer, Reads, ReadsAs, answered, begin, in_mode, linked, feed_at, new_role, feed_line, feed_word, feed_body, sent_by, named, feed_next, feed_receiver, met_by, feed_label, labelled_by, sorted_by, feeding}
+use Rattle.rs_text.specs.Readings.{Reading, feed_sign, read_all}
+use Rattle.rs_text.proofs.Keeping.{tokens, kept, KeptIn}
+use Rattle.rs_text.proofs.Judging.{IsNamed}
 
 -- names that texts can have, as many as there may be
 pub record Sound (roles labels : List (List ℕ)) : Type 0 where
@@ -37,10 +37,6 @@ pub record Sound (roles labels : List (List ℕ)) : Type 0 where
 
 abbrev pub Keeps : Reader_data → Type 0
 Keeps d = Sound d.roles d.labels
-
--- a plain word can be a name
-abbrev Named : Sign → Type 0
-Named t = (name : List ℕ) → t ≡ plain name → is_role_word name ≡ true
 
 keep_if : (c : Bool) (e : TextFault) (x : Fed) → IfOk x Keeps → IfOk (cond c (Err e) x) Keeps
 keep_if true e x h = tt
@@ -82,7 +78,7 @@ keep_new_role m (Some w) at r k h = role_pushed (is_among w r.roles) (nat_le 16 
 some_is : (x y : List ℕ) → Some x ≡ Some y → x ≡ y
 some_is x y h = cc
 
-plain_named : (t : Sign) → Named t → (w : List ℕ) → plain_text t ≡ Some w → is_role_word w ≡ true
+plain_named : (t : Sign) → IsNamed t → (w : List ℕ) → plain_text t ≡ Some w → is_role_word w ≡ true
 plain_named (plain x) n w h = n w (ap plain (some_is x w h))
 plain_named _ n w h = absurd (cc h)
 
@@ -90,7 +86,7 @@ and_first : (a b : Bool) → (a && b) ≡ true → a ≡ true
 and_first true b h = refl
 and_first false b h = absurd (cc h)
 
-word_named : (t : Sign) → Named t → (w : List ℕ) → word_text t ≡ Some w → is_word w ≡ true
+word_named : (t : Sign) → IsNamed t → (w : List ℕ) → word_text t ≡ Some w → is_word w ≡ true
 word_named rec_word n w h = subst (λ (z : List ℕ). is_word z ≡ true) (some_is (codes "rec") w h) refl
 word_named end_word n w h = subst (λ (z : List ℕ). is_word z ≡ true) (some_is (codes "end") w h) refl
 word_named (plain x) n w h = and_first (is_word w) _ (n w (ap plain (some_is x w h)))
@@ -158,7 +154,7 @@ keep_sorted : (o : Option Sort) (node : ℕ) (l : Label) (at : ℕ) (r : Reader_
 keep_sorted None node l at r h = tt
 keep_sorted (Some s) node l at r h = h
 
-keep_at : (m : Mode) (t : Sign) (at : ℕ) (next : Lexeme) (r : Reader_data) → Named t → Keeps r → IfOk (feed_at m t at next r) Keeps
+keep_at : (m : Mode) (t : Sign) (at : ℕ) (next : Lexeme) (r : Reader_data) → IsNamed t → Keeps r → IfOk (feed_at m t at next r) Keeps
 keep_at mode.Roles t at next r n h = keep_unless (is_text (codes "roles") (plain_text t)) _ _ h
 keep_at mode.FirstRole t at next r n h = keep_new_role _ (plain_text t) at r (plain_named t n) h
 keep_at mode.FirstComma comma at next r n h = h
@@ -188,36 +184,9 @@ keep_at (mode.ArmDot node l s) dot at next r n h = h
 keep_at (mode.ArmDot node l s) _ at next r n h = tt
 keep_at mode.Next t at next r n h = keep_next r.frames t at r h
 
-keep_sign : (t : Sign) (at : ℕ) (next : Lexeme) (r : Reader_data) → Named t → Keeps r → IfOk (feed_sign t at next r) Keeps
+keep_sign : (t : Sign) (at : ℕ) (next : Lexeme) (r : Reader_data) → IsNamed t → Keeps r → IfOk (feed_sign feeding t at next r) Keeps
 keep_sign (broken k) at next r n h = tt
 keep_sign t at next r n h = keep_at r.mode t at next r n h
-
--- all tokens
-abbrev AllNamed : List Lexeme → Type 0
-AllNamed [] = Unit {0}
-AllNamed (l ∷ ls) = Named l.sign × AllNamed ls
-
-all_named : (bytes : List ℕ) (ls : List Lexeme) (at : ℕ) → Lexed bytes at ls → AllNamed ls
-all_named bytes [] at h = tt
-all_named bytes (l ∷ ls) at h =
-    let named : Named l.sign = λ name e. plain_law bytes at l name (rw h.0 (next_is_next bytes at)) e in
-    elim (true_or_false (is_last l.sign)) [
-      | inl last ↦ (named, subst AllNamed (sym (h.1 last)) tt)
-      | inr more ↦ (named, all_named bytes ls l.until (h.2 more))
-    ]
-
-abbrev KeepsTo : Reading → Type 0
-KeepsTo x = Keeps x.reader
-
-keep_read : (c : Bool) (x y : Result Reading TextFault) → IfOk x KeepsTo → IfOk y KeepsTo → IfOk (cond c x y) KeepsTo
-keep_read true x y h k = h
-keep_read false x y h k = k
-
-keep_all : (ls : List Lexeme) (x : Fed) → AllNamed ls → IfOk x Keeps → IfOk (read_all x ls) KeepsTo
-keep_all [] (Err e) n h = tt
-keep_all (l ∷ ls) (Err e) n h = tt
-keep_all [] (Ok r) n h = tt
-keep_all (l ∷ ls) (Ok r) n h = keep_read (is_read r) (Ok (record { reader = r; until = l.from })) (read_all (feed_sign l.sign l.from (next_lexeme_of l ls) r) ls) h (keep_all ls (feed_sign l.sign l.from (next_lexeme_of l ls) r) n.1 (keep_sign l.sign l.from (next_lexeme_of l ls) r n.0 h))
 
 first : Keeps begin
 first = record { roles_differ = refl; roles_are_words = refl; few_roles = omega arith; labels_differ = refl; labels_are_words = refl; few_labels = omega arith }
@@ -225,7 +194,7 @@ first = record { roles_differ = refl; roles_are_words = refl; few_roles = omega 
 abbrev SoundAnswer : Answer → Type 0
 SoundAnswer a = Sound a.names.roles a.names.labels
 
-on_answer : (x : Result Reading TextFault) → IfOk x KeepsTo → IfOk (answered x) SoundAnswer
+on_answer : (x : Result (Reading Reader_data) TextFault) → IfOk x (KeptIn Keeps) → IfOk (answered x) SoundAnswer
 on_answer (Ok x) h = h
 on_answer (Err e) h = tt
 
@@ -233,7 +202,7 @@ on_answer (Err e) h = tt
 pub sound_answer : (bytes : List ℕ) (at : ℕ) (a : Answer) → at ≤ length bytes → ReadsAs bytes at (Ok a) → Sound a.names.roles a.names.labels
 sound_answer bytes at a h p =
     let t = tokens bytes at h in
-    subst (λ (z : Result Answer TextFault). IfOk z SoundAnswer) (p t.0 t.1) (on_answer (read_all (Ok begin) t.0) (keep_all t.0 (Ok begin) (all_named bytes t.0 at t.1) first))
+    subst (λ (z : Result Answer TextFault). IfOk z SoundAnswer) (p t.0 t.1) (on_answer (read_all feeding (Ok begin) t.0) (kept feeding Keeps (λ t at n r name k. keep_sign t at n r name k) begin first bytes at t.0 t.1))
 
 pub is_sound : (bytes : List ℕ) (at : ℕ) (a : Answer) → at ≤ length bytes → ReadsAs bytes at (Ok a) → IsSound a.names
 is_sound bytes at a h p = let s = sound_answer bytes at a h p in (decides_sound a.names).0 (rw (s.roles_differ, s.roles_are_words, s.labels_differ, s.labels_are_words) refl)

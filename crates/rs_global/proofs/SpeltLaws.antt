@@ -9,7 +9,7 @@ use Rattle.rs_global.specs.Faults.{FirstFault}
 use Rattle.rs_global.specs.Feeding.{Answer, ReadsAs, Reads, answered}
 use Rattle.rs_global.specs.Spells.{SpellsProtocol}
 use Rattle.rs_global.proofs.Answers.{an_answer}
-use Rattle.rs_global.proofs.FirstFaults.{first_fault}
+use Rattle.rs_global.proofs.OneFault.{first_fault, no_fault}
 use Rattle.rs_global.proofs.SpeltRuns.{sound, complete}
 
 abbrev answer : Names_data → Protocol_data → ℕ → Answer
@@ -45,3 +45,11 @@ pub reads_spelt : (bytes : List ℕ) (at : ℕ) (r : Reader_data) (until : ℕ) 
 reads_spelt bytes at r until names protocol within h n p =
     subst (λ (z : Names_data). SpellsProtocol bytes at z protocol until) (sym n)
     (subst (λ (z : Protocol_data). SpellsProtocol bytes at (names_read r) z until) (sym p) (sound bytes at (answer (names_read r) (protocol_of r) until) within (λ ls lexed. ap answered (h ls lexed))))
+
+-- a text that a tree spells is read ..
+pub spelt_is_read : (bytes : List ℕ) (at : ℕ) (names : Names_data) (protocol : Protocol_data) (until : ℕ) → SpellsProtocol bytes at names protocol until → (a : Answer) × ReadsAs bytes at (Ok a)
+spelt_is_read bytes at names protocol until s = (answer names protocol until, complete bytes at names protocol until s)
+
+-- .. and has no first fault
+pub spelt_no_fault : (bytes : List ℕ) (at : ℕ) (names : Names_data) (protocol : Protocol_data) (until : ℕ) (k : TextKind) (offset : ℕ) → SpellsProtocol bytes at names protocol until → FirstFault bytes at k offset → ⊥
+spelt_no_fault bytes at names protocol until k offset s f = no_fault bytes at (answer names protocol until) k offset (complete bytes at names protocol until s) f

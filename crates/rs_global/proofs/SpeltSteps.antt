@@ -1,14 +1,12 @@
 -- What the tokens of a body lead the reader to: where the body fits to this state and no other, else to a fault.
-use Rattle.std.proofs.Common.{◌≡◌, ℕ, suc, ◌+◌, List, [], ◌∷◌, ◌++◌, length, Bool, true, false, ◌&&◌, ◌||◌, if◌then◌else◌, nat_le, nat_lt, Option, Some, None, Ok, Err, refl, sym, ap, ◌∙◌, subst, arith, length-append, slice_get}
+use Rattle.std.proofs.Common.{◌≡◌, ℕ, suc, ◌+◌, List, [], ◌∷◌, ◌++◌, length, true, ◌||◌, if◌then◌else◌, nat_le, nat_lt, Option, Some, None, Ok, refl, sym, ap, ◌∙◌, subst, arith, length-append, slice_get}
 use Rattle.std.proofs.lemmas.List.{length-set}
 use Rattle.std.proofs.lemmas.Option.{slice_get_read}
-use Rattle.std.proofs.lemmas.Bool.{le-ltb, lt-ltb, leb-true, leb-false}
 use Rattle.std.proofs.Math.Seq.{get_or-append_seam, set-append_seam}
 use Rattle.rs_model.specs.declared.graph.Role.{Role}
 use Rattle.rs_model.specs.declared.graph.Label.{Label}
 use Rattle.rs_model.specs.declared.values.Sort.{Sort}
 use Rattle.rs_model.specs.declared.values.Sort.TheVariants as sort
-use Rattle.rs_text.specs.declared.faults.TextKind.{TextKind}
 use Rattle.rs_text.specs.declared.faults.TextKind.TheVariants as kind
 use Rattle.rs_text.specs.Names.{place_of, grown, Bound, bound_to, number_or}
 use Rattle.rs_text.specs.Signs.{Sign, dot, open_paren, close_paren}
@@ -23,49 +21,10 @@ use Rattle.rs_global.specs.Drafts.{with_arm}
 use Rattle.rs_global.specs.Trees.{Body, ends, again, binds, talks, offers, Branches, one, more}
 use Rattle.rs_global.specs.Graph.{talks_in, Numbering, role_of, label_of}
 use Rattle.rs_global.specs.Spells.{has_room_for}
-use Rattle.rs_global.specs.Feeding.{Fed, fault, linked_drafts, label_of_number, labelled_by, feed_sign}
-use Rattle.rs_global.proofs.FaultRuns.{sign_behind, lexeme, label_fed}
+use Rattle.rs_global.specs.Feeding.{Fed, linked_drafts, label_of_number, labelled_by, feeding}
+use Rattle.rs_global.proofs.FaultRuns.{label_fed}
 use Rattle.rs_global.proofs.FaultPlaces.{scene_of}
-
--- the token is taken and leads to such a reader, or this holds
-abbrev pub Tells : Fed → Type 0 → (Reader_data → Type 0) → Type 0
-Tells (Ok d) N Q = Q d
-Tells (Err e) N Q = N
-
--- the tokens lead from r to such a reader, or this holds; u is the token behind them
-abbrev pub Exact : List Sign → Sign → Type 0 → (Reader_data → Type 0) → Reader_data → Type 0
-Exact [] u N Q r = Q r
-Exact (t ∷ ts) u N Q r = (at from until : ℕ) → Tells (feed_sign t at (lexeme (sign_behind ts u) from until) r) N (λ d. Exact ts u N Q d)
-
--- this goes on where the test holds, and else the other thing holds
-abbrev pub Hangs : Bool → Type 0 → Type 0 → Type 0
-Hangs a N K = (a ≡ false → N) × (a ≡ true → K)
-
-pub hangs_first : (a b : Bool) (N K : Type 0) → Hangs (a && b) N K → a ≡ false → N
-hangs_first true b N K h e = cc
-hangs_first false b N K h e = h.0 refl
-
-pub hangs_then : (a b : Bool) (N K : Type 0) → Hangs (a && b) N K → a ≡ true → Hangs b N K
-hangs_then true b N K h e = h
-hangs_then false b N K h e = cc
-
--- both in turn
-pub hangs_both : (a b : Bool) (N K : Type 0) → Hangs (a && b) N K → Hangs a N (Hangs b N K)
-hangs_both a b N K h = (hangs_first a b N K h, hangs_then a b N K h)
-
-pub tells_if : (c : Bool) (k : TextKind) (at : ℕ) (x : Fed) (N : Type 0) (Q : Reader_data → Type 0) → (c ≡ true → N) → (c ≡ false → Tells x N Q) → Tells (if c then fault k at else x) N Q
-tells_if true k at x N Q n h = n refl
-tells_if false k at x N Q n h = h refl
-
--- two tests of one thing
-pub full : (m n : ℕ) → nat_le m n ≡ true → nat_lt n m ≡ false
-full m n h = le-ltb n m (leb-true m n h)
-
-pub roomy : (m n : ℕ) → nat_lt n m ≡ true → nat_le m n ≡ true → ⊥
-roomy m n h k = absurd (cc (sym h ∙ full m n k))
-
-pub fits_in : (m n : ℕ) → nat_le m n ≡ false → nat_lt n m ≡ true
-fits_in m n h = lt-ltb n m (leb-false m n h)
+use Rattle.rs_text.proofs.Leading.{Tells, Exact, tells_if, Hangs, full, fits_in}
 
 -- ---- talks that are still read, by the tree
 
@@ -136,8 +95,8 @@ label_is roles all last l k e = ap (λ z. label_of_number (number_or z)) e
 abbrev pub at_arm : Reader_data → List ℕ → Numbering → ℕ → Option Sort → Reader_data
 at_arm r l n node s = record r { labels = grown r.labels (l ∷ []); mode = mode.Body (link.OfArm node (label_of n l) (sort_or_unit s)) }
 
-sort_exact : (s : Option Sort) (node : ℕ) (label : Label) (r : Reader_data) (ts : List Sign) (u : Sign) (N : Type 0) (Q : Reader_data → Type 0) → Exact ts u N Q (record r { mode = mode.Body (link.OfArm node label (sort_or_unit s)) })
-    → Exact (open_paren ∷ ((sort_signs s ++ close_paren ∷ dot ∷ []) ++ ts)) u N Q (record r { mode = mode.Paren node label })
+sort_exact : (s : Option Sort) (node : ℕ) (label : Label) (r : Reader_data) (ts : List Sign) (u : Sign) (N : Type 0) (Q : Reader_data → Type 0) → Exact feeding ts u N Q (record r { mode = mode.Body (link.OfArm node label (sort_or_unit s)) })
+    → Exact feeding (open_paren ∷ ((sort_signs s ++ close_paren ∷ dot ∷ []) ++ ts)) u N Q (record r { mode = mode.Paren node label })
 sort_exact None node label r ts u N Q h = λ a f n. λ a f n. λ a f n. h
 sort_exact (Some sort.Unit) node label r ts u N Q h = λ a f n. λ a f n. λ a f n. λ a f n. h
 sort_exact (Some sort.Flag) node label r ts u N Q h = λ a f n. λ a f n. λ a f n. λ a f n. h
@@ -167,13 +126,13 @@ labelled_exact None l node at r N Q e h =
     (h.1 (room ∙ fits_in 256 (length r.labels) f) (length r.labels) (ap (λ z. place_of l z) same ∙ place_of_new r.labels l e)))
 
 pub arm_exact : (l : List ℕ) (s : Option Sort) (node : ℕ) (r : Reader_data) (roles all : List (List ℕ)) (last : ℕ) (ts : List Sign) (u : Sign) (N : Type 0) (Q : Reader_data → Type 0) → Stays (grown r.labels (l ∷ [])) all
-    → Hangs (has_room_for l (scene_of r)) N (Exact ts u N Q (at_arm r l (numbered roles all last) node s)) → Exact (arm_signs l s ++ ts) u N Q (record r { mode = mode.AtLabel node })
+    → Hangs (has_room_for l (scene_of r)) N (Exact feeding ts u N Q (at_arm r l (numbered roles all last) node s)) → Exact feeding (arm_signs l s ++ ts) u N Q (record r { mode = mode.AtLabel node })
 arm_exact l s node r roles all last ts u N Q stays h = λ a f n.
-    let P : Reader_data → Type 0 = λ d. Exact (open_paren ∷ ((sort_signs s ++ close_paren ∷ dot ∷ []) ++ ts)) u N Q d in
+    let P : Reader_data → Type 0 = λ d. Exact feeding (open_paren ∷ ((sort_signs s ++ close_paren ∷ dot ∷ []) ++ ts)) u N Q d in
     subst (λ (x : Fed). Tells x N P) (sym (label_fed l node a _ r))
     (labelled_exact (place_of l r.labels) l node a r N P refl (
       h.0,
       λ room k e.
           sort_exact s node (label_of_number k) (record r { labels = grown r.labels (l ∷ []) }) ts u N Q
-          (subst (λ (z : Label). Exact ts u N Q (record r { labels = grown r.labels (l ∷ []); mode = mode.Body (link.OfArm node z (sort_or_unit s)) })) (label_is roles all last l k (stays l k e)) (h.1 room)),
+          (subst (λ (z : Label). Exact feeding ts u N Q (record r { labels = grown r.labels (l ∷ []); mode = mode.Body (link.OfArm node z (sort_or_unit s)) })) (label_is roles all last l k (stays l k e)) (h.1 room)),
     ))

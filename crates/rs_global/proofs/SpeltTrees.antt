@@ -19,9 +19,11 @@ use Rattle.rs_global.specs.Drafts.{settled, settled_arm, settled_target, protoco
 use Rattle.rs_global.specs.Trees.{Body, ends, again, binds, talks, offers, Branches, one, more, ProtocolTree, body_signs, further_signs, protocol_signs, roles_of, ends_by_name, ends_a_name}
 use Rattle.rs_global.specs.Graph.{labels_of, talks_in, has_end, Numbering, first_node, arm_of, arms_of, talk_of, nodes_of, nodes_of_arms, numbering, names_of, graph_of, finish_of}
 use Rattle.rs_global.specs.Spells.{Fits}
-use Rattle.rs_global.specs.Feeding.{fault, begin, new_role, is_read}
-use Rattle.rs_global.proofs.SpeltSteps.{Tells, Exact, tells_if, target, arms_to, drafts_of, drafts_in}
+use Rattle.rs_global.specs.Feeding.{begin, new_role, is_read, feeding}
+use Rattle.rs_global.proofs.SpeltSteps.{target, arms_to, drafts_of, drafts_in}
 use Rattle.rs_global.proofs.SpeltBodies.{drafts_count, body_exact}
+use Rattle.rs_text.specs.Readings.{fault}
+use Rattle.rs_text.proofs.Leading.{Tells, Exact, tells_if}
 
 -- ---- the graph
 
@@ -101,15 +103,15 @@ role_exact after word at r N Q twin many h =
     (λ e. tells_if (nat_le 16 (length r.roles)) kind.TooManyRoles at (Ok (record r { roles = r.roles ++ word ∷ []; mode = after })) N Q many (λ f. h e f))
 
 line_exact : (xs : List (List ℕ)) (r : Reader_data) (ts : List Sign) (u : Sign) (N : Type 0) (Q : Reader_data → Type 0) → (differ (r.roles ++ xs) ≡ false → N) → (16 < length (r.roles ++ xs) → N) → differ r.roles ≡ true → length r.roles ≤ 16
-    → (differ (r.roles ++ xs) ≡ true → length (r.roles ++ xs) ≤ 16 → Exact ts u N Q (record r { roles = r.roles ++ xs; mode = mode.Line })) → Exact (flat_map further_signs xs ++ ts) u N Q (record r { mode = mode.Line })
-line_exact [] r ts u N Q twin many d n h = subst (λ (z : List (List ℕ)). Exact ts u N Q (record r { roles = z; mode = mode.Line })) (append-nil r.roles)
+    → (differ (r.roles ++ xs) ≡ true → length (r.roles ++ xs) ≤ 16 → Exact feeding ts u N Q (record r { roles = r.roles ++ xs; mode = mode.Line })) → Exact feeding (flat_map further_signs xs ++ ts) u N Q (record r { mode = mode.Line })
+line_exact [] r ts u N Q twin many d n h = subst (λ (z : List (List ℕ)). Exact feeding ts u N Q (record r { roles = z; mode = mode.Line })) (append-nil r.roles)
     (h (ap differ (append-nil r.roles) ∙ d) (subst (λ (z : List (List ℕ)). length z ≤ 16) (sym (append-nil r.roles)) n))
-line_exact (x ∷ xs) r ts u N Q twin many d n h = λ a f k. λ a f k. role_exact mode.Line x a (record r { mode = mode.FurtherRole }) N (λ e. Exact (flat_map further_signs xs ++ ts) u N Q e)
+line_exact (x ∷ xs) r ts u N Q twin many d n h = λ a f k. λ a f k. role_exact mode.Line x a (record r { mode = mode.FurtherRole }) N (λ e. Exact feeding (flat_map further_signs xs ++ ts) u N Q e)
     (λ e. twin (twice r.roles x xs e)) (λ e. many (too_many r.roles x xs e))
     (λ e g.
     let same : (r.roles ++ x ∷ []) ++ xs ≡ r.roles ++ x ∷ xs = append_assoc r.roles (x ∷ []) xs in
     line_exact xs (record r { roles = r.roles ++ x ∷ [] }) ts u N Q (λ z. twin (ap differ (sym same) ∙ z)) (λ z. many (subst (λ (w : List (List ℕ)). 16 < length w) same z)) (new_differ r.roles x e d) (few_more r.roles x g)
-    (λ z w. subst (λ (q : List (List ℕ)). Exact ts u N Q (record r { roles = q; mode = mode.Line })) (sym same) (h (ap differ (sym same) ∙ z) (subst (λ (q : List (List ℕ)). length q ≤ 16) same w))))
+    (λ z w. subst (λ (q : List (List ℕ)). Exact feeding ts u N Q (record r { roles = q; mode = mode.Line })) (sym same) (h (ap differ (sym same) ∙ z) (subst (λ (q : List (List ℕ)). length q ≤ 16) same w))))
 
 -- ---- protocols
 
@@ -120,16 +122,16 @@ pub record IsRead (t : ProtocolTree) (d : Reader_data) : Type 0 where
   pub names : names_read d ≡ names_of t
   pub graph : protocol_of d ≡ graph_of t
 
-pub tree_exact : (t : ProtocolTree) (u : Sign) → (ends_by_name t.body ≡ true → ends_a_name u ≡ true) → Exact (protocol_signs t) u (Fits t → ⊥) (IsRead t) begin
+pub tree_exact : (t : ProtocolTree) (u : Sign) → (ends_by_name t.body ≡ true → ends_a_name u ≡ true) → Exact feeding (protocol_signs t) u (Fits t → ⊥) (IsRead t) begin
 tree_exact t u settled =
     let N : Type 0 = Fits t → ⊥ in
     let all : List (List ℕ) = grown [] (labels_of t.body) in
-    λ a f n. λ a f n. role_exact mode.FirstComma t.first a (record begin { mode = mode.FirstRole }) N (λ d. Exact (comma ∷ plain t.second ∷ (flat_map further_signs t.further ++ plain (codes "protocol") ∷ body_signs t.body)) u N (IsRead t) d)
+    λ a f n. λ a f n. role_exact mode.FirstComma t.first a (record begin { mode = mode.FirstRole }) N (λ d. Exact feeding (comma ∷ plain t.second ∷ (flat_map further_signs t.further ++ plain (codes "protocol") ∷ body_signs t.body)) u N (IsRead t) d)
     (λ e. absurd (cc e)) (λ e. absurd (cc e))
     (λ _ _. line_exact (t.second ∷ t.further) (record begin { roles = t.first ∷ [] }) (plain (codes "protocol") ∷ body_signs t.body) u N (IsRead t)
     (λ e f. absurd (cc (sym e ∙ f.roles_differ))) (λ e f. let k : length (roles_of t) ≤ 16 = f.few_roles in let j : 16 < length (roles_of t) = e in absurd (omega arith)) refl (omega arith)
     (λ d few. λ a f n.
-    subst (λ (z : List Sign). Exact z u N (IsRead t) (record begin { roles = roles_of t; mode = mode.Body link.Root })) (append-nil (body_signs t.body))
+    subst (λ (z : List Sign). Exact feeding z u N (IsRead t) (record begin { roles = roles_of t; mode = mode.Body link.Root })) (append-nil (body_signs t.body))
     (body_exact t.body link.Root (record begin { roles = roles_of t }) all (talks_in t.body) [] u N (IsRead t) settled (λ name k e. e) (
       (λ e f. absurd (cc (sym e ∙ f.body))),
       (λ fit labels drafts root ended bound inner depth g w v x b.

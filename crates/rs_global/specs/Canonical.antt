@@ -1,5 +1,5 @@
 -- The canonical text of a protocol, and which protocols have one.
-use Rattle.std.specs.Prelude.{◌≡◌, ◌≢◌, ℕ, ◌<◌, ◌≤◌, ◌+◌, List, [], ◌∷◌, ◌++◌, codes, length, take, Option, Some, None, slice_get}
+use Rattle.std.specs.Prelude.{◌≡◌, ℕ, ◌<◌, ◌≤◌, ◌+◌, List, [], ◌∷◌, ◌++◌, codes, take, Option, Some, None, slice_get}
 use Rattle.std.specs.Fmt.{decimal}
 use Rattle.rs_model.specs.Data.{Protocol_data, Names_data}
 use Rattle.rs_model.specs.declared.graph.Arm.{Arm}

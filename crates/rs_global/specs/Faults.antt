@@ -1,23 +1,19 @@
 -- The first fault of a text.
-use Rattle.std.specs.Prelude.{◌≡◌, ℕ, ◌≤◌, ◌⊎◌, List, [], ◌∷◌, ◌++◌, Some}
+use Rattle.std.specs.Prelude.{◌≡◌, ℕ, ◌⊎◌, List, [], ◌∷◌, ◌++◌, Some}
 use Rattle.rs_text.specs.declared.tokens.FaultKind.{FaultKind}
 use Rattle.rs_text.specs.declared.faults.Wanted.{Wanted}
 use Rattle.rs_text.specs.declared.faults.TextKind.{TextKind}
 use Rattle.rs_text.specs.declared.faults.TextKind.TheVariants as kind
-use Rattle.rs_text.specs.Faults.{kind_of, kind_number}
-use Rattle.rs_text.specs.Lexemes.{Lexeme, Lexed, signs_of}
-use Rattle.rs_text.specs.Signs.{Sign, broken, finish}
+use Rattle.rs_text.specs.Faults.{kind_of}
+use Rattle.rs_text.specs.Signs.{Sign, broken}
 use Rattle.rs_global.specs.Trees.{ProtocolTree, protocol_signs}
 use Rattle.rs_global.specs.Cuts.{Cut, behind_end, behind_name, in_binds, in_talks, behind_brace, ProtocolCut, in_body, IsBehind, protocol_cut_signs, wanted_of}
 use Rattle.rs_global.specs.Scenes.{fault_of}
+use Rattle.rs_text.specs.FirstFaults.{IsWhole, FirstFaultBy}
 
 -- the tokens begin a protocol
 abbrev pub Begins : List Sign → Type 0
 Begins signs = (tree : ProtocolTree) × (rest : List Sign) × (protocol_signs tree ≡ signs ++ rest)
-
-abbrev pub IsWhole : Sign → Type 0
-IsWhole (broken k) = ⊥
-IsWhole _ = Unit {0}
 
 -- the place is within the protocol, not behind it
 abbrev pub IsWithin : ProtocolCut → Type 0
@@ -63,23 +59,6 @@ pub record IsBroken (before : List Sign) (t : Sign) (kind : FaultKind) : Type 0 
 abbrev pub FaultAt : (before : List Sign) → (t next : Sign) → TextKind → Type 0
 FaultAt before t next k = ((w : Wanted) × (k ≡ kind.Expected w) × IsUnexpected before t w) ⊎ (IsMisplaced before t next k ⊎ ((j : FaultKind) × (k ≡ kind_of j) × IsBroken before t j))
 
--- the sign behind a token; nothing stands behind the end
-abbrev pub next_of : List Sign → Sign
-next_of [] = finish
-next_of (t ∷ ts) = t
-
--- none of these tokens is at fault
-abbrev pub AllClear : (before these after : List Sign) → Type 0
-AllClear before [] after = Unit {0}
-AllClear before (t ∷ ts) after = ((k : TextKind) → FaultAt before t (next_of (ts ++ after)) k → ⊥) × AllClear (before ++ t ∷ []) ts after
-
 -- the fault at the least offset, and at one token the one with the least number
-pub record FirstFault (bytes : List ℕ) (at : ℕ) (kind : TextKind) (offset : ℕ) : Type 0 where
-  pub before : List Lexeme
-  pub token : Lexeme
-  pub others : List Lexeme
-  pub lexed : Lexed bytes at (before ++ token ∷ others)
-  pub stands : token.from ≡ offset
-  pub fault : FaultAt (signs_of before) token.sign (next_of (signs_of others)) kind
-  pub clear : AllClear [] (signs_of before) (signs_of (token ∷ others))
-  pub least : (k : TextKind) → FaultAt (signs_of before) token.sign (next_of (signs_of others)) k → kind_number kind ≤ kind_number k
+abbrev pub FirstFault : (bytes : List ℕ) → (at : ℕ) → TextKind → (offset : ℕ) → Type 0
+FirstFault bytes at kind offset = FirstFaultBy FaultAt bytes at kind offset

@@ -6,9 +6,7 @@ use Rattle.rs_model.specs.declared.graph.Label.{Label}
 use Rattle.rs_model.specs.declared.values.Sort.{Sort}
 use Rattle.rs_model.specs.declared.values.Sort.TheVariants as sort
 use Rattle.rs_text.specs.declared.faults.TextFault.{TextFault}
-use Rattle.rs_text.specs.declared.faults.TextKind.{TextKind}
 use Rattle.rs_text.specs.declared.faults.TextKind.TheVariants as kind
-use Rattle.rs_text.specs.declared.faults.Wanted.{Wanted}
 use Rattle.rs_text.specs.declared.faults.Wanted.TheVariants as wanted
 use Rattle.rs_text.specs.Faults.{kind_of}
 use Rattle.rs_model.specs.Data.{Names_data, Protocol_data}
@@ -21,22 +19,15 @@ use Rattle.rs_global.specs.declared.reading.Link.{Link}
 use Rattle.rs_global.specs.declared.reading.Link.TheVariants as link
 use Rattle.rs_global.specs.declared.reading.Mode.{Mode}
 use Rattle.rs_global.specs.declared.reading.Mode.TheVariants as mode
-use Rattle.rs_global.specs.declared.reading.Stop.{Stop}
-use Rattle.rs_global.specs.declared.reading.Stop.TheVariants as stops
 use Rattle.rs_global.specs.Data.{Reader_data, Draft_data}
 use Rattle.rs_global.specs.Drafts.{with_arm, protocol_of, names_read}
+use Rattle.rs_text.specs.Readings.{Automaton, Reading, fault, expected, read_all, ReadsBy}
 
 abbrev pub Fed : Type 0
 Fed = Result Reader_data TextFault
 
 abbrev pub begin : Reader_data
 begin = record { roles = []; labels = []; drafts = []; root = None; ended = false; bound = []; depth = 0; frames = []; mode = mode.Roles }
-
-abbrev pub fault : TextKind → ℕ → Fed
-fault k at = Err (record { kind = k; at = at })
-
-abbrev pub expected : Wanted → ℕ → Fed
-expected w at = fault (kind.Expected w) at
 
 abbrev pub in_mode : Mode → Reader_data → Fed
 in_mode m r = Ok (record r { mode = m })
@@ -206,11 +197,6 @@ feed_at mode.Next t at next r = feed_behind t at r
 abbrev pub feed_of : Sign → ℕ → Lexeme → Reader_data → Fed
 feed_of t at next r = feed_at r.mode t at next r
 
--- a faulty token is its own fault, whatever was wanted
-abbrev pub feed_sign : Sign → ℕ → Lexeme → Reader_data → Fed
-feed_sign (broken k) at next r = fault (kind_of k) at
-feed_sign t at next r = feed_of t at next r
-
 abbrev pub behind_body : Mode → Bool
 behind_body mode.Next = true
 behind_body _ = false
@@ -223,20 +209,9 @@ no_frames (f ∷ fs) = false
 abbrev pub is_read : Reader_data → Bool
 is_read r = if no_frames r.frames then behind_body r.mode else false
 
-pub record Reading : Type 0 where
-  pub reader : Reader_data
-  pub until : ℕ
-
--- nothing stands behind the last token
-abbrev pub next_lexeme_of : Lexeme → List Lexeme → Lexeme
-next_lexeme_of l [] = l
-next_lexeme_of l (x ∷ xs) = x
-
--- all tokens, as far as the protocol goes
-abbrev pub read_all : Fed → List Lexeme → Result Reading TextFault
-read_all (Err e) ls = Err e
-read_all (Ok r) [] = Err (record { kind = kind.Expected wanted.PartOrEnd; at = 0 })
-read_all (Ok r) (l ∷ ls) = if is_read r then Ok (record { reader = r; until = l.from }) else read_all (feed_sign l.sign l.from (next_lexeme_of l ls) r) ls
+-- the reader of protocols
+abbrev pub feeding : Automaton Reader_data
+feeding = record { feed = λ t at next r. feed_of t at next r; is_read = λ r. is_read r }
 
 -- names, graph and the offset behind them
 pub record Answer : Type 0 where
@@ -244,33 +219,19 @@ pub record Answer : Type 0 where
   pub protocol : Protocol_data
   pub until : ℕ
 
-abbrev pub answered : Result Reading TextFault → Result Answer TextFault
+abbrev pub answered : Result (Reading Reader_data) TextFault → Result Answer TextFault
 answered (Err e) = Err e
 answered (Ok x) = Ok (record { names = names_read x.reader; protocol = protocol_of x.reader; until = x.until })
 
 -- what the tokens of the bytes from `at` on are read as
 abbrev pub ReadsAs : List ℕ → ℕ → Result Answer TextFault → Type 0
-ReadsAs bytes at answer = (lexemes : List Lexeme) → Lexed bytes at lexemes → answered (read_all (Ok begin) lexemes) ≡ answer
+ReadsAs bytes at answer = (lexemes : List Lexeme) → Lexed bytes at lexemes → answered (read_all feeding (Ok begin) lexemes) ≡ answer
 
 -- what the tokens lead the reader to
-abbrev pub Reads : List ℕ → ℕ → Result Reading TextFault → Type 0
-Reads bytes at reading = (lexemes : List Lexeme) → Lexed bytes at lexemes → read_all (Ok begin) lexemes ≡ reading
-
-abbrev pub StopsAs : Stop → List ℕ → ℕ → Type 0
-StopsAs stops.Memory bytes at = Unit {0}
-StopsAs (stops.Fault f) bytes at = Reads bytes at (Err f)
-
--- a refusal of memory is told at the offset where the reading began
-abbrev pub told : Stop → ℕ → TextFault
-told stops.Memory at = record { kind = kind.NoMemory; at = at }
-told (stops.Fault f) at = f
+abbrev pub Reads : List ℕ → ℕ → Result (Reading Reader_data) TextFault → Type 0
+Reads bytes at reading = ReadsBy feeding begin bytes at reading
 
 -- the last number that a name is bound to, by bindings in order
 abbrev pub last_bound : List ℕ → Bound → Option ℕ → Option ℕ
 last_bound name [] found = found
 last_bound name (b ∷ bs) found = last_bound name bs (if bytes_eq b.0 name then Some b.1 else found)
-
--- a stop by want of memory may come at any token; any other one is the fault that was fed
-abbrev pub Fails : Stop → Fed → Type 0
-Fails stops.Memory fed = Unit {0}
-Fails (stops.Fault f) fed = fed ≡ Err f

@@ -1,5 +1,5 @@
 -- The names and the graph that a tree spells.
-use Rattle.std.specs.Prelude.{ℕ, suc, ◌+◌, List, [], ◌∷◌, ◌++◌, length, Option, Some, None, Bool, true, false, ◌||◌}
+use Rattle.std.specs.Prelude.{ℕ, suc, ◌+◌, List, [], ◌∷◌, ◌++◌, length, Option, Bool, true, false, ◌||◌}
 use Rattle.rs_model.specs.Data.{Protocol_data, Names_data}
 use Rattle.rs_model.specs.declared.graph.Arm.{Arm}
 use Rattle.rs_model.specs.declared.graph.Node.{Node}
@@ -7,7 +7,6 @@ use Rattle.rs_model.specs.declared.graph.Node.TheVariants as node
 use Rattle.rs_model.specs.declared.graph.Role.{Role}
 use Rattle.rs_model.specs.declared.graph.Label.{Label}
 use Rattle.rs_model.specs.declared.values.Sort.{Sort}
-use Rattle.rs_model.specs.declared.values.Sort.TheVariants as sort
 use Rattle.rs_text.specs.Arms.{sort_or_unit}
 use Rattle.rs_text.specs.Names.{number_or, place_of, grown, Bound, bound_to}
 use Rattle.rs_global.specs.Trees.{Body, ends, again, binds, talks, offers, Branches, one, more, ProtocolTree, roles_of}

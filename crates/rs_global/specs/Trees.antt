@@ -1,10 +1,9 @@
 -- How texts of the protocol grammar are built.
-use Rattle.std.specs.Prelude.{ℕ, List, [], ◌∷◌, ◌++◌, codes, Option, Some, None, Bool, true, false}
+use Rattle.std.specs.Prelude.{ℕ, List, [], ◌∷◌, ◌++◌, codes, Option, Bool, true, false}
 use Rattle.std.specs.List.{flat_map}
 use Rattle.rs_model.specs.declared.values.Sort.{Sort}
-use Rattle.rs_model.specs.declared.values.Sort.TheVariants as sort
-use Rattle.rs_text.specs.Arms.{sort_text, sort_signs, arm_signs}
-use Rattle.rs_text.specs.Signs.{Sign, broken, rec_word, end_word, plain, arrow, colon, dot, comma, open_brace, close_brace, open_paren, close_paren, word_sign}
+use Rattle.rs_text.specs.Arms.{arm_signs}
+use Rattle.rs_text.specs.Signs.{Sign, broken, rec_word, end_word, plain, arrow, colon, dot, comma, open_brace, close_brace}
 
 -- a body: the end, a recursion name, a body whose name is bound, a talk with one arm by a colon, or one with arms in braces
 mutual

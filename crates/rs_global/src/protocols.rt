@@ -1,17 +1,16 @@
 ghost use Rattle.std.specs.Prelude.{◌≡◌, ◌≤◌, length, IfOk, IfErr, ◌⊎◌, Ok};
 ghost use Rattle.rs_text.specs.declared.faults.TextKind.TheVariants as kind;
 ghost use Rattle.rs_global.specs.Drafts.{names_read, protocol_of};
-ghost use Rattle.rs_global.specs.Feeding as spec;
 ghost use Rattle.rs_global.specs.Faults.{FirstFault};
-ghost use Rattle.rs_global.specs.Feeding.{Reads, StopsAs};
+ghost use Rattle.rs_global.specs.Feeding.{begin, feeding, Reads};
 ghost use Rattle.rs_global.specs.Spells.{SpellsProtocol};
-ghost use Rattle.rs_text.specs.Lexemes.{next_lexeme};
+ghost use Rattle.rs_text.specs.Readings.{StopsBy};
 ghost use Rattle.rs_text.specs.Sound.{IsSound};
 
 use crate::drafts::{nodes, settled_number};
-use crate::reading::{Reader, Stop};
+use crate::reading::Reader;
 use rs_model::{Names, NoMemory, Protocol};
-use rs_text::{Lexer, TextFault, TextKind};
+use rs_text::{Lexer, Stop, TextFault};
 use std::alloc::Global;
 
 /// Reads a roles line and a protocol from the offset `at` on, and gives the names, the protocol and the offset of the
@@ -41,21 +40,9 @@ pub fn read_protocol(
     match read(alloc, bytes, at) {
         Ok((reader, until)) => match graph(alloc, reader) {
             Ok((names, protocol)) => Ok((names, protocol, until)),
-            Err(_) => Err(told(Stop::Memory, at)),
+            Err(_) => Err(Stop::Memory.told(at)),
         },
-        Err(stop) => Err(told(stop, at)),
-    }
-}
-
-fn told(stop: Stop, at: usize) -> TextFault
-    ensures { result ≡ spec.told stop at }
-{
-    match stop {
-        Stop::Fault(fault) => fault,
-        Stop::Memory => TextFault {
-            kind: TextKind::NoMemory,
-            at,
-        },
+        Err(stop) => Err(stop.told(at)),
     }
 }
 
@@ -82,7 +69,7 @@ fn read<'a>(alloc: Global, bytes: &'a [u8], at: usize) -> Result<(Reader<'a>, us
     requires { at ≤ length bytes.now }
     ensures ok { IfOk result (λ r. Reads bytes.now at (Ok (record { reader = r.0; until = r.1 }))) }
     ensures within { IfOk result (λ r. r.1 ≤ length bytes.now) }
-    ensures err { IfErr result (λ e. StopsAs e bytes.now at) }
+    ensures err { IfErr result (λ e. StopsBy feeding e begin bytes.now at) }
 {
     let mut reader = Reader::new(alloc);
     let mut lexer = Lexer::new(bytes, at);
@@ -90,18 +77,5 @@ fn read<'a>(alloc: Global, bytes: &'a [u8], at: usize) -> Result<(Reader<'a>, us
         let token = lexer.next()?;
         reader.feed(bytes, token)?;
     }
-    Ok((reader, behind(lexer)))
-}
-
-/// The offset of the next token, or of the faulty one there.
-#[tactic(auto, using(crate::proofs::Standing::from_within))]
-fn behind(lexer: Lexer) -> usize
-    ensures offset { result ≡ (next_lexeme lexer.entry.bytes lexer.entry.at).from }
-    ensures within { result ≤ length lexer.entry.bytes }
-{
-    let mut lexer = lexer;
-    match lexer.next() {
-        Ok(token) => token.from,
-        Err(fault) => fault.at,
-    }
+    Ok((reader, lexer.next_offset()))
 }

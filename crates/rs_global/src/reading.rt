@@ -4,12 +4,12 @@ ghost use Rattle.rs_text.specs.Lexemes.{sign_of, text_of, next_lexeme, lexeme_of
 ghost use Rattle.rs_text.specs.Names.{is_among, bound_to};
 ghost use Rattle.rs_text.specs.Seen.{plain_text, word_text, is_text};
 ghost use Rattle.rs_global.specs.Feeding as spec;
-ghost use Rattle.rs_global.specs.Feeding.{Fails};
+ghost use Rattle.rs_text.specs.Readings.{Fails};
 
 use crate::drafts::{Draft, DraftArm, add_arm};
-use rs_model::{Label, Name, NoMemory, Role, Sort};
-use rs_text::{Fault, Kind, Lexer, TextFault, TextKind, Token, Wanted, find, seen};
-use std::alloc::{AllocError, AllocFailed, Global};
+use rs_model::{Label, Name, Role, Sort};
+use rs_text::{Kind, Lexer, Stop, TextKind, Token, Wanted, expected, fault, find, seen};
+use std::alloc::Global;
 use std::marker::Model;
 
 const DEEPEST: u32 = 200;
@@ -19,58 +19,6 @@ const MOST_ROLES: usize = 16;
 const MOST_TALKS: usize = 1024;
 
 const MOST_LABELS: usize = 256;
-
-/// Why the reading stopped.
-#[derive(Clone, Copy, Debug, PartialEq, Eq)]
-pub(crate) enum Stop {
-    Memory,
-    Fault(TextFault),
-}
-
-impl From<NoMemory> for Stop {
-    ghost use Rattle.std.specs.Prelude.{◌≡◌};
-    ghost use Rattle.rs_global.specs.declared.reading.Stop.TheVariants as stops;
-
-    ghost from_gives = { λ _ e. e ≡ stops.Memory };
-
-    fn from(_refused: NoMemory) -> Self {
-        Stop::Memory
-    }
-}
-
-impl From<AllocError> for Stop {
-    ghost use Rattle.std.specs.Prelude.{◌≡◌};
-    ghost use Rattle.rs_global.specs.declared.reading.Stop.TheVariants as stops;
-
-    ghost from_gives = { λ _ e. e ≡ stops.Memory };
-
-    fn from(_error: AllocError) -> Self {
-        Stop::Memory
-    }
-}
-
-impl<T: Drop> From<AllocFailed<T>> for Stop {
-    ghost use Rattle.std.specs.Prelude.{◌≡◌};
-    ghost use Rattle.rs_global.specs.declared.reading.Stop.TheVariants as stops;
-
-    ghost from_gives = { λ _ e. e ≡ stops.Memory };
-
-    fn from(_refused: AllocFailed<T>) -> Self {
-        Stop::Memory
-    }
-}
-
-impl From<Fault> for Stop {
-    ghost use Rattle.std.specs.Prelude.{◌≡◌};
-    ghost use Rattle.rs_text.specs.Faults.{kind_of};
-    ghost use Rattle.rs_global.specs.declared.reading.Stop.TheVariants as stops;
-
-    ghost from_gives = { λ fault e. e ≡ stops.Fault (record { kind = kind_of fault.kind; at = fault.at }) };
-
-    fn from(fault: Fault) -> Self {
-        Stop::Fault(TextFault::from(fault))
-    }
-}
 
 /// A recursion name, and the number of the first talk of its body.
 #[derive(Drop, Debug)]
@@ -154,18 +102,6 @@ impl<'a> Model for Reader<'a> {
     ghost view = { λ r. record { roles = r.roles.items; labels = r.labels.items; drafts = r.drafts.items; root = r.root; ended = r.ended; bound = reverse r.bound.items; depth = r.depth; frames = reverse r.frames.items; mode = r.mode } };
 
     ghost invariant = { λ r. (length r.roles.items ≤ 16) × ((length r.labels.items ≤ 256) × (length r.drafts.items ≤ 1024)) };
-}
-
-fn fault(kind: TextKind, at: usize) -> Result<(), Stop>
-    ensures { result ≡ Err (Stop.Fault (record { kind = kind; at = at })) }
-{
-    Err(Stop::Fault(TextFault { kind, at }))
-}
-
-fn expected(wanted: Wanted, at: usize) -> Result<(), Stop>
-    ensures { result ≡ Err (Stop.Fault (record { kind = TextKind.Expected wanted; at = at })) }
-{
-    fault(TextKind::Expected(wanted), at)
 }
 
 /// The number of the talk that the name is bound to, by the nearest `rec`.

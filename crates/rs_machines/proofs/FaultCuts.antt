@@ -1,5 +1,5 @@
 -- A place of the grammar goes on by each token that it takes, and can be completed to a machine.
-use Rattle.std.proofs.Common.{◌≡◌, ℕ, List, [], ◌∷◌, ◌++◌, codes, Bool, true, false, if◌then◌else◌, ◌&&◌, not, Option, Some, None, is_some, refl, sym, ap, ◌∙◌, subst, ◌⊎◌, inl, inr, append_assoc, append-nil}
+use Rattle.std.proofs.Common.{◌≡◌, ℕ, List, [], ◌∷◌, ◌++◌, codes, Bool, true, false, if◌then◌else◌, Option, Some, None, is_some, refl, sym, ap, ◌∙◌, subst, ◌⊎◌, inl, inr, append_assoc, append-nil}
 use Rattle.std.proofs.lemmas.Slice.Eq.{bytes_eq-Decides}
 use Rattle.std.specs.Str.{bytes_eq}
 use Rattle.rs_model.specs.declared.values.Sort.{Sort}
@@ -7,7 +7,6 @@ use Rattle.rs_model.specs.declared.values.Sort.TheVariants as sort
 use Rattle.rs_text.specs.declared.faults.Wanted.{Wanted}
 use Rattle.rs_text.specs.declared.faults.Wanted.TheVariants as wanted
 use Rattle.rs_text.specs.Signs.{Sign, rec_word, end_word, plain, colon, dot, comma, open_brace, close_brace, open_paren, close_paren, word_sign}
-use Rattle.rs_text.specs.Words.{is_word, is_role_word}
 use Rattle.rs_text.specs.Arms.{sort_text, sort_signs, arm_signs, ArmCut, at_label, behind_label, behind_paren, behind_sort, behind_head, arm_cut_signs, wanted_in_arm}
 use Rattle.rs_text.specs.Seen.{sort_named}
 use Rattle.rs_machines.specs.Trees.{Body, ends, again, binds, acts, offers, Branches, one, more, MachineTree, mark_sign, body_signs, branch_signs, machine_signs}
@@ -15,6 +14,7 @@ use Rattle.rs_machines.specs.Cuts.{Cut, at_body, behind_end, behind_name, behind
 use Rattle.rs_machines.specs.declared.marks.Mark.{Mark}
 use Rattle.rs_machines.specs.Faults.{Begins}
 use Rattle.rs_machines.proofs.FaultPlaces.{is_named, is_named_in, is_named_of, place_wants}
+use Rattle.rs_text.proofs.Judging.{IsProper}
 
 -- the tokens that are taken where this is wanted
 abbrev pub takes : Wanted → Sign → Bool
@@ -40,20 +40,6 @@ takes wanted.CloseParen close_paren = true
 takes wanted.CommaOrCloseBrace comma = true
 takes wanted.CommaOrCloseBrace close_brace = true
 takes _ t = false
-
--- a word has its own sign: rec and end are never plain
-abbrev pub IsProper : Sign → Type 0
-IsProper (plain text) = word_sign text ≡ plain text
-IsProper _ = Unit {0}
-
-proper_if : (a b c : Bool) (text : List ℕ) → (a && (not b && not c)) ≡ true → (if b then rec_word else if c then end_word else plain text) ≡ plain text
-proper_if true true c text h = cc
-proper_if true false true text h = cc
-proper_if true false false text h = refl
-proper_if false b c text h = cc
-
-pub proper_word : (text : List ℕ) → is_role_word text ≡ true → word_sign text ≡ plain text
-proper_word text h = proper_if (is_word text) (bytes_eq text (codes "rec")) (bytes_eq text (codes "end")) text h
 
 -- ---- sorts
 

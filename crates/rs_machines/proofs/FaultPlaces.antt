@@ -1,5 +1,5 @@
 -- At every place of the grammar that stands behind the tokens read so far, the reader wants what the place wants and sees its faults.
-use Rattle.std.proofs.Common.{◌≡◌, ℕ, suc, ◌+◌, List, [], ◌∷◌, ◌++◌, length, codes, Bool, true, false, if◌then◌else◌, nat_le, Option, Some, None, Ok, Err, refl, sym, ap, ◌∙◌, subst, append-nil}
+use Rattle.std.proofs.Common.{◌≡◌, ℕ, suc, ◌+◌, List, [], ◌∷◌, ◌++◌, length, codes, Bool, true, false, if◌then◌else◌, nat_le, Option, Some, None, Ok, refl, sym, ap, ◌∙◌, subst, append-nil}
 use Rattle.rs_model.specs.declared.graph.Role.{Role}
 use Rattle.rs_model.specs.declared.graph.Label.{Label}
 use Rattle.rs_model.specs.declared.values.Sort.{Sort}
@@ -19,13 +19,14 @@ use Rattle.rs_machines.specs.Data.{Reader_data}
 use Rattle.rs_machines.specs.Machines.{acts_in}
 use Rattle.rs_model.specs.Data.{Names_data}
 use Rattle.rs_machines.specs.declared.marks.Mark.{Mark}
-use Rattle.rs_machines.specs.Feeding.{Fed, begin, feed_word, placed, opened, feed_sign, label_wanted, role_by, sorted_by}
+use Rattle.rs_machines.specs.Feeding.{Fed, begin, feed_word, placed, opened, label_wanted, role_by, sorted_by, feeding}
 use Rattle.rs_text.specs.declared.faults.Wanted.{Wanted}
 use Rattle.rs_text.specs.declared.faults.Wanted.TheVariants as wanted
 use Rattle.rs_machines.specs.Trees.{MachineTree, mark_sign, body_signs, branch_signs, machine_signs, ends_a_name}
 use Rattle.rs_machines.specs.Cuts.{Cut, at_body, behind_end, behind_name, behind_rec, behind_rec_name, in_binds, in_arm, in_acts, in_offers, behind_brace, BranchCut, in_head, in_branch, later, MachineCut, at_begin, at_role, behind_role, in_body, cut_signs, branch_cut_signs, machine_cut_signs, wanted_at, wanted_in, wanted_behind_mark}
 use Rattle.rs_machines.specs.Scenes.{Scene, with_label, in_act, behind, scene_at, scene_in, fault_of_depth, fault_of_label, fault_by, fault_of}
-use Rattle.rs_machines.proofs.FaultRuns.{Lands, sign_behind, lexeme, Leads, lands_if, peer_in_room, peer_lands, marked_lands, Follower, a_mark, a_broken, a_name, follower, by_name, faulty_calm, named_lands, placed_length, label_lands, arm_passes, frame_at, restored_bound, passes, branches_pass}
+use Rattle.rs_machines.proofs.FaultRuns.{peer_in_room, peer_lands, marked_lands, Follower, a_mark, a_broken, a_name, follower, by_name, named_lands, placed_length, label_lands, arm_passes, frame_at, restored_bound, passes, branches_pass}
+use Rattle.rs_text.proofs.Leading.{Lands, Leads, lands_if, faulty_calm}
 
 -- what a mode wants; a machine's first word is wanted as `Roles` here, so that it differs from what is wanted behind a machine
 abbrev pub wanted_behind : List Frame → Wanted
@@ -144,9 +145,9 @@ head_here : (b : Bool) (l : List ℕ) (x : Option Sort) (act : ℕ) (label : Lab
 head_here true l x act label s r o u = record { wanted = refl; faults = λ t n. refl; named = tt }
 head_here false l x act label s r o u = record { wanted = refl; faults = λ t n. refl; named = tt }
 
-head_passes : (b : Bool) (x : Option Sort) (l : List ℕ) (act : ℕ) (label : Label) (r : Reader_data) (o : Scene) (u : Sign) → Leads (open_paren ∷ (sort_signs x ++ close_paren ∷ [])) u (ArmAgrees b (behind_head l x) o u) (record r { mode = mode.Paren act label })
+head_passes : (b : Bool) (x : Option Sort) (l : List ℕ) (act : ℕ) (label : Label) (r : Reader_data) (o : Scene) (u : Sign) → Leads feeding (open_paren ∷ (sort_signs x ++ close_paren ∷ [])) u (ArmAgrees b (behind_head l x) o u) (record r { mode = mode.Paren act label })
 head_passes b None l act label r o u = λ a f n. λ a f n. head_here b l None act label sort.Unit r o u
-head_passes b (Some s) l act label r o u = λ a f n. λ a f n. sorted_lands s act label a (record r { mode = mode.AtSort act label }) (λ d. Leads (close_paren ∷ []) u (ArmAgrees b (behind_head l (Some s)) o u) d)
+head_passes b (Some s) l act label r o u = λ a f n. λ a f n. sorted_lands s act label a (record r { mode = mode.AtSort act label }) (λ d. Leads feeding (close_paren ∷ []) u (ArmAgrees b (behind_head l (Some s)) o u) d)
     (λ a f n. head_here b l (Some s) act label s r o u)
 
 label_here : (b : Bool) (act : ℕ) (r : Reader_data) (s : Scene) (u : Sign) → s.labels ≡ r.labels → s.depth ≡ r.depth → ArmAgrees b at_label s u (record r { mode = mode.AtLabel act b })
@@ -165,13 +166,13 @@ sort_here : (b : Bool) (l : List ℕ) (x : Sort) (act : ℕ) (k : Label) (r : Re
 sort_here true l x act k r s u = record { wanted = refl; faults = λ t n. refl; named = tt }
 sort_here false l x act k r s u = record { wanted = refl; faults = λ t n. refl; named = tt }
 
-arm_cut_passes : (b : Bool) (arm : ArmCut) (act : ℕ) (r : Reader_data) (s : Scene) (u : Sign) → s.labels ≡ r.labels → s.depth ≡ r.depth → Leads (arm_cut_signs arm) u (ArmAgrees b arm s u) (record r { mode = mode.AtLabel act b })
+arm_cut_passes : (b : Bool) (arm : ArmCut) (act : ℕ) (r : Reader_data) (s : Scene) (u : Sign) → s.labels ≡ r.labels → s.depth ≡ r.depth → Leads feeding (arm_cut_signs arm) u (ArmAgrees b arm s u) (record r { mode = mode.AtLabel act b })
 arm_cut_passes b at_label act r s u e f = label_here b act r s u e f
 arm_cut_passes b (behind_label l) act r s u e g = λ a f n. label_lands l act b a _ r (λ d. ArmAgrees b (behind_label l) s u d) (λ k. name_here b l act k (record r { labels = grown r.labels (l ∷ []) }) s u)
-arm_cut_passes b (behind_paren l) act r s u e g = λ a f n. label_lands l act b a _ r (λ d. Leads (open_paren ∷ []) u (ArmAgrees b (behind_paren l) s u) d) (λ k. λ a f n. paren_here b l act k (record r { labels = grown r.labels (l ∷ []) }) s u)
-arm_cut_passes b (behind_sort l x) act r s u e g = λ a f n. label_lands l act b a _ r (λ d. Leads (open_paren ∷ plain (sort_text x) ∷ []) u (ArmAgrees b (behind_sort l x) s u) d)
+arm_cut_passes b (behind_paren l) act r s u e g = λ a f n. label_lands l act b a _ r (λ d. Leads feeding (open_paren ∷ []) u (ArmAgrees b (behind_paren l) s u) d) (λ k. λ a f n. paren_here b l act k (record r { labels = grown r.labels (l ∷ []) }) s u)
+arm_cut_passes b (behind_sort l x) act r s u e g = λ a f n. label_lands l act b a _ r (λ d. Leads feeding (open_paren ∷ plain (sort_text x) ∷ []) u (ArmAgrees b (behind_sort l x) s u) d)
     (λ k. λ a f n. λ a f n. sorted_lands x act k a (record r { labels = grown r.labels (l ∷ []); mode = mode.AtSort act k }) (ArmAgrees b (behind_sort l x) s u) (sort_here b l x act k (record r { labels = grown r.labels (l ∷ []) }) s u))
-arm_cut_passes b (behind_head l x) act r s u e g = λ a f n. label_lands l act b a _ r (λ d. Leads (open_paren ∷ (sort_signs x ++ close_paren ∷ [])) u (ArmAgrees b (behind_head l x) s u) d)
+arm_cut_passes b (behind_head l x) act r s u e g = λ a f n. label_lands l act b a _ r (λ d. Leads feeding (open_paren ∷ (sort_signs x ++ close_paren ∷ [])) u (ArmAgrees b (behind_head l x) s u) d)
     (λ k. head_passes b x l act k (record r { labels = grown r.labels (l ∷ []) }) s u)
 
 word_agrees : (u : Sign) (f : Follower u) (name : List ℕ) (from : Link) (at next : ℕ) (r : Reader_data) (s : Scene) → Lands (feed_word from name u at next (record r { mode = mode.Body from })) (CutAgrees (behind_name name) (wanted_behind r.frames) s u)
@@ -181,41 +182,41 @@ word_agrees _ (a_name v e) name from at next r s = subst (λ (x : Fed). Lands x 
     (named_lands (bound_to name r.bound) from at (record r { mode = mode.Body from }) (CutAgrees (behind_name name) (wanted_behind r.frames) s v) (λ k. record { wanted = refl; faults = λ t n. none_behind r.frames t n s; named = λ h. e }))
 
 mutual
-  pub cut_passes : (c : Cut) (from : Link) (r : Reader_data) (u : Sign) → Leads (cut_signs c) u (CutAgrees c (wanted_behind r.frames) (scene_of r) u) (record r { mode = mode.Body from })
+  pub cut_passes : (c : Cut) (from : Link) (r : Reader_data) (u : Sign) → Leads feeding (cut_signs c) u (CutAgrees c (wanted_behind r.frames) (scene_of r) u) (record r { mode = mode.Body from })
   cut_passes at_body from r u = record { wanted = refl; faults = λ t n. refl; named = tt }
   cut_passes behind_end from r u = λ a f n. record { wanted = refl; faults = λ t n. none_behind r.frames t n (scene_of r); named = λ h. cc }
   cut_passes (behind_name name) from r u = λ a f n. word_agrees u (follower u) name from a f r (scene_of r)
   cut_passes behind_rec from r u = λ a f n. lands_if (nat_le 200 r.depth) kind.TooDeep a (Ok (record r { depth = suc r.depth; mode = mode.RecName from })) (CutAgrees behind_rec (wanted_behind r.frames) (scene_of r) u) tt (record { wanted = refl; faults = λ t n. refl; named = tt })
-  cut_passes (behind_rec_name name) from r u = λ a f n. lands_if (nat_le 200 r.depth) kind.TooDeep a (Ok (record r { depth = suc r.depth; mode = mode.RecName from })) (λ d. Leads (plain name ∷ []) u (CutAgrees (behind_rec_name name) (wanted_behind r.frames) (scene_of r) u) d) tt
+  cut_passes (behind_rec_name name) from r u = λ a f n. lands_if (nat_le 200 r.depth) kind.TooDeep a (Ok (record r { depth = suc r.depth; mode = mode.RecName from })) (λ d. Leads feeding (plain name ∷ []) u (CutAgrees (behind_rec_name name) (wanted_behind r.frames) (scene_of r) u) d) tt
       (λ a f n. record { wanted = refl; faults = λ t n. refl; named = tt })
-  cut_passes (in_binds name b) from r u = λ a f n. lands_if (nat_le 200 r.depth) kind.TooDeep a (Ok (record r { depth = suc r.depth; mode = mode.RecName from })) (λ d. Leads (plain name ∷ dot ∷ cut_signs b) u (CutAgrees (in_binds name b) (wanted_behind r.frames) (scene_of r) u) d) tt
+  cut_passes (in_binds name b) from r u = λ a f n. lands_if (nat_le 200 r.depth) kind.TooDeep a (Ok (record r { depth = suc r.depth; mode = mode.RecName from })) (λ d. Leads feeding (plain name ∷ dot ∷ cut_signs b) u (CutAgrees (in_binds name b) (wanted_behind r.frames) (scene_of r) u) d) tt
       (λ a f n. λ a f n. cut_passes b from (record r { depth = suc r.depth; bound = (name, length r.drafts) ∷ r.bound }) u)
-  cut_passes (in_arm x y arm) from r u = λ a f n. peer_lands y from x a f (record r { mode = mode.Body from }) (λ d. Leads (mark_sign y ∷ arm_cut_signs arm) u (CutAgrees (in_arm x y arm) (wanted_behind r.frames) (scene_of r) u) d)
-      (λ role. λ a f n. marked_lands y from role a _ r (λ d. Leads (arm_cut_signs arm) u (CutAgrees (in_arm x y arm) (wanted_behind r.frames) (scene_of r) u) d)
+  cut_passes (in_arm x y arm) from r u = λ a f n. peer_lands y from x a f (record r { mode = mode.Body from }) (λ d. Leads feeding (mark_sign y ∷ arm_cut_signs arm) u (CutAgrees (in_arm x y arm) (wanted_behind r.frames) (scene_of r) u) d)
+      (λ role. λ a f n. marked_lands y from role a _ r (λ d. Leads feeding (arm_cut_signs arm) u (CutAgrees (in_arm x y arm) (wanted_behind r.frames) (scene_of r) u) d)
       (arm_cut_passes true arm (length r.drafts) (placed from role y r) (in_act (scene_of r)) u refl refl))
-  cut_passes (in_acts x y l s b) from r u = λ a f n. peer_lands y from x a f (record r { mode = mode.Body from }) (λ d. Leads (mark_sign y ∷ (arm_signs l s ++ cut_signs b)) u (CutAgrees (in_acts x y l s b) (wanted_behind r.frames) (scene_of r) u) d)
-      (λ role. λ a f n. marked_lands y from role a _ r (λ d. Leads ((arm_signs l s ++ cut_signs b)) u (CutAgrees (in_acts x y l s b) (wanted_behind r.frames) (scene_of r) u) d)
+  cut_passes (in_acts x y l s b) from r u = λ a f n. peer_lands y from x a f (record r { mode = mode.Body from }) (λ d. Leads feeding (mark_sign y ∷ (arm_signs l s ++ cut_signs b)) u (CutAgrees (in_acts x y l s b) (wanted_behind r.frames) (scene_of r) u) d)
+      (λ role. λ a f n. marked_lands y from role a _ r (λ d. Leads feeding ((arm_signs l s ++ cut_signs b)) u (CutAgrees (in_acts x y l s b) (wanted_behind r.frames) (scene_of r) u) d)
       (
       let p : Reader_data = placed from role y r in
       arm_passes l s (length r.drafts) true p (cut_signs b) u (CutAgrees (in_acts x y l s b) (wanted_behind r.frames) (scene_of r) u)
-      (λ label sort. subst (λ (z : ℕ). Leads (cut_signs b) u (CutAgrees b (wanted_behind r.frames) (record { roles = r.roles; bound = r.bound; depth = r.depth; acts = z; labels = grown r.labels (l ∷ []) }) u) (record p { labels = grown r.labels (l ∷ []); mode = mode.Body (link.OfArm (length r.drafts) label sort) })) (placed_length from role y r)
+      (λ label sort. subst (λ (z : ℕ). Leads feeding (cut_signs b) u (CutAgrees b (wanted_behind r.frames) (record { roles = r.roles; bound = r.bound; depth = r.depth; acts = z; labels = grown r.labels (l ∷ []) }) u) (record p { labels = grown r.labels (l ∷ []); mode = mode.Body (link.OfArm (length r.drafts) label sort) })) (placed_length from role y r)
       (cut_passes b (link.OfArm (length r.drafts) label sort) (record p { labels = grown r.labels (l ∷ []) }) u))))
-  cut_passes (in_offers x y arms) from r u = λ a f n. peer_lands y from x a f (record r { mode = mode.Body from }) (λ d. Leads (mark_sign y ∷ open_brace ∷ branch_cut_signs arms) u (CutAgrees (in_offers x y arms) (wanted_behind r.frames) (scene_of r) u) d)
-      (λ role. λ a f n. marked_lands y from role a _ r (λ d. Leads (open_brace ∷ branch_cut_signs arms) u (CutAgrees (in_offers x y arms) (wanted_behind r.frames) (scene_of r) u) d)
+  cut_passes (in_offers x y arms) from r u = λ a f n. peer_lands y from x a f (record r { mode = mode.Body from }) (λ d. Leads feeding (mark_sign y ∷ open_brace ∷ branch_cut_signs arms) u (CutAgrees (in_offers x y arms) (wanted_behind r.frames) (scene_of r) u) d)
+      (λ role. λ a f n. marked_lands y from role a _ r (λ d. Leads feeding (open_brace ∷ branch_cut_signs arms) u (CutAgrees (in_offers x y arms) (wanted_behind r.frames) (scene_of r) u) d)
       (λ a f n.
       let p : Reader_data = placed from role y r in
-      lands_if (nat_le 200 r.depth) kind.TooDeep a (Ok (opened (length r.drafts) p)) (λ d. Leads (branch_cut_signs arms) u (CutAgrees (in_offers x y arms) (wanted_behind r.frames) (scene_of r) u) d) tt
-      (subst (λ (z : ℕ). Leads (branch_cut_signs arms) u (BranchAgrees arms (record { roles = r.roles; bound = r.bound; depth = suc r.depth; acts = z; labels = r.labels }) u) (opened (length r.drafts) p)) (placed_length from role y r)
+      lands_if (nat_le 200 r.depth) kind.TooDeep a (Ok (opened (length r.drafts) p)) (λ d. Leads feeding (branch_cut_signs arms) u (CutAgrees (in_offers x y arms) (wanted_behind r.frames) (scene_of r) u) d) tt
+      (subst (λ (z : ℕ). Leads feeding (branch_cut_signs arms) u (BranchAgrees arms (record { roles = r.roles; bound = r.bound; depth = suc r.depth; acts = z; labels = r.labels }) u) (opened (length r.drafts) p)) (placed_length from role y r)
       (cut_branches arms (length r.drafts) (record p { depth = suc r.depth }) (length r.drafts) r.frames u))))
-  cut_passes (behind_brace x y arms) from r u = λ a f n. peer_lands y from x a f (record r { mode = mode.Body from }) (λ d. Leads (mark_sign y ∷ open_brace ∷ (branch_signs arms ++ close_brace ∷ [])) u (CutAgrees (behind_brace x y arms) (wanted_behind r.frames) (scene_of r) u) d)
-      (λ role. λ a f n. marked_lands y from role a _ r (λ d. Leads (open_brace ∷ (branch_signs arms ++ close_brace ∷ [])) u (CutAgrees (behind_brace x y arms) (wanted_behind r.frames) (scene_of r) u) d)
+  cut_passes (behind_brace x y arms) from r u = λ a f n. peer_lands y from x a f (record r { mode = mode.Body from }) (λ d. Leads feeding (mark_sign y ∷ open_brace ∷ (branch_signs arms ++ close_brace ∷ [])) u (CutAgrees (behind_brace x y arms) (wanted_behind r.frames) (scene_of r) u) d)
+      (λ role. λ a f n. marked_lands y from role a _ r (λ d. Leads feeding (open_brace ∷ (branch_signs arms ++ close_brace ∷ [])) u (CutAgrees (behind_brace x y arms) (wanted_behind r.frames) (scene_of r) u) d)
       (λ a f n.
       let p : Reader_data = placed from role y r in
-      lands_if (nat_le 200 r.depth) kind.TooDeep a (Ok (opened (length r.drafts) p)) (λ d. Leads (branch_signs arms ++ close_brace ∷ []) u (CutAgrees (behind_brace x y arms) (wanted_behind r.frames) (scene_of r) u) d) tt
+      lands_if (nat_le 200 r.depth) kind.TooDeep a (Ok (opened (length r.drafts) p)) (λ d. Leads feeding (branch_signs arms ++ close_brace ∷ []) u (CutAgrees (behind_brace x y arms) (wanted_behind r.frames) (scene_of r) u) d) tt
       (branches_pass arms (length r.drafts) (record p { depth = suc r.depth }) (length r.drafts) r.frames (close_brace ∷ []) u (CutAgrees (behind_brace x y arms) (wanted_behind r.frames) (scene_of r) u) tt
       (λ labels drafts start ended bound inner depth g d b. λ a f n. record { wanted = refl; faults = λ t n. none_behind r.frames t n (scene_of r); named = λ h. cc }))))
 
-  pub cut_branches : (c : BranchCut) (act : ℕ) (r : Reader_data) (m : ℕ) (fs : List Frame) (u : Sign) → Leads (branch_cut_signs c) u (BranchAgrees c (scene_of r) u) (record r { frames = frame_at m r.bound r.depth ∷ fs; mode = mode.AtLabel act false })
+  pub cut_branches : (c : BranchCut) (act : ℕ) (r : Reader_data) (m : ℕ) (fs : List Frame) (u : Sign) → Leads feeding (branch_cut_signs c) u (BranchAgrees c (scene_of r) u) (record r { frames = frame_at m r.bound r.depth ∷ fs; mode = mode.AtLabel act false })
   cut_branches (in_head arm) act r m fs u = arm_cut_passes false arm act (record r { frames = frame_at m r.bound r.depth ∷ fs }) (scene_of r) u refl refl
   cut_branches (in_branch l s b) act r m fs u =
       let o : Reader_data = record r { frames = frame_at m r.bound r.depth ∷ fs } in
@@ -227,8 +228,8 @@ mutual
       (λ labels drafts start ended bound inner depth g d h. λ a f n.
       let back : Reader_data = record o { labels = labels; drafts = drafts; start = start; ended = ended } in
       let there : scene_of back ≡ behind b (with_label l (scene_of r)) = ap (λ z. record { roles = r.roles; bound = r.bound; depth = r.depth; acts = z; labels = labels }) d ∙ ap (λ z. record { roles = r.roles; bound = r.bound; depth = r.depth; acts = length r.drafts + acts_in b; labels = z }) g in
-      subst (λ (z : Bound). Leads (branch_cut_signs arms) u (BranchAgrees (later l s b arms) (scene_of r) u) (record back { bound = z; mode = mode.AtLabel m false })) (sym (restored_bound inner bound r.bound h))
-      (subst (λ (z : Scene). Leads (branch_cut_signs arms) u (BranchAgrees arms z u) (record back { mode = mode.AtLabel m false })) there (cut_branches arms m back m fs u))))
+      subst (λ (z : Bound). Leads feeding (branch_cut_signs arms) u (BranchAgrees (later l s b arms) (scene_of r) u) (record back { bound = z; mode = mode.AtLabel m false })) (sym (restored_bound inner bound r.bound h))
+      (subst (λ (z : Scene). Leads feeding (branch_cut_signs arms) u (BranchAgrees arms z u) (record back { mode = mode.AtLabel m false })) there (cut_branches arms m back m fs u))))
 
 -- ---- machines
 
@@ -237,30 +238,17 @@ role_if None at r Q h = tt
 role_if (Some k) at r Q h = h (record { 0 = k })
 
 -- at every place the reader stands as the place says
-pub place_passes : (old : Names_data) (c : MachineCut) (u : Sign) → Leads (machine_cut_signs c) u (PlaceAgrees old c u) (begin old)
+pub place_passes : (old : Names_data) (c : MachineCut) (u : Sign) → Leads feeding (machine_cut_signs c) u (PlaceAgrees old c u) (begin old)
 place_passes old at_begin u = record { wanted = refl; faults = λ t n. refl; named = tt }
 place_passes old at_role u = λ a f n. record { wanted = refl; faults = λ t n. refl; named = tt }
 place_passes old (behind_role x) u = λ a f n. λ a f n. role_if (place_of x old.roles) a (record (begin old) { mode = mode.AtRole }) (PlaceAgrees old (behind_role x) u) (λ k. record { wanted = refl; faults = λ t n. refl; named = tt })
-place_passes old (in_body x body) u = λ a f n. λ a f n. role_if (place_of x old.roles) a (record (begin old) { mode = mode.AtRole }) (λ d. Leads (colon ∷ cut_signs body) u (PlaceAgrees old (in_body x body) u) d)
+place_passes old (in_body x body) u = λ a f n. λ a f n. role_if (place_of x old.roles) a (record (begin old) { mode = mode.AtRole }) (λ d. Leads feeding (colon ∷ cut_signs body) u (PlaceAgrees old (in_body x body) u) d)
     (λ k. λ a f n. cut_passes body link.Start (record (begin old) { role = k }) u)
 
 -- no token of a machine is unexpected
-pub tree_passes : (old : Names_data) (t : MachineTree) → Leads (machine_signs t) finish (λ d. Unit {0}) (begin old)
-tree_passes old t = λ a f n. λ a f n. role_if (place_of t.role old.roles) a (record (begin old) { mode = mode.AtRole }) (λ d. Leads (colon ∷ body_signs t.body) finish (λ d. Unit {0}) d)
-    (λ k. λ a f n. subst (λ (z : List Sign). Leads z finish (λ d. Unit {0}) (record (begin old) { role = k; mode = mode.Body link.Start })) (append-nil (body_signs t.body))
+pub tree_passes : (old : Names_data) (t : MachineTree) → Leads feeding (machine_signs t) finish (λ d. Unit {0}) (begin old)
+tree_passes old t = λ a f n. λ a f n. role_if (place_of t.role old.roles) a (record (begin old) { mode = mode.AtRole }) (λ d. Leads feeding (colon ∷ body_signs t.body) finish (λ d. Unit {0}) d)
+    (λ k. λ a f n. subst (λ (z : List Sign). Leads feeding z finish (λ d. Unit {0}) (record (begin old) { role = k; mode = mode.Body link.Start })) (append-nil (body_signs t.body))
     (passes t.body link.Start (record (begin old) { role = k }) [] finish (λ d. Unit {0}) tt (λ labels drafts start ended bound inner depth g d b. tt)))
 
 -- ---- lists in two parts
-
-lands_map : (x : Fed) (P Q : Reader_data → Type 0) → ((d : Reader_data) → P d → Q d) → Lands x P → Lands x Q
-lands_map (Ok d) P Q f h = f d h
-lands_map (Err e) P Q f h = h
-
-behind_append : (xs ys : List Sign) (u : Sign) → sign_behind (xs ++ ys) u ≡ sign_behind xs (sign_behind ys u)
-behind_append [] ys u = refl
-behind_append (x ∷ xs) ys u = refl
-
-pub leads_split : (xs ys : List Sign) (u : Sign) (Q : Reader_data → Type 0) (r : Reader_data) → Leads (xs ++ ys) u Q r → Leads xs (sign_behind ys u) (λ d. Leads ys u Q d) r
-leads_split [] ys u Q r h = h
-leads_split (t ∷ xs) ys u Q r h = λ a f n. subst (λ (z : Sign). Lands (feed_sign t a (lexeme z f n) r) (λ d. Leads xs (sign_behind ys u) (λ d. Leads ys u Q d) d)) (behind_append xs ys u)
-    (lands_map (feed_sign t a (lexeme (sign_behind (xs ++ ys) u) f n) r) (λ d. Leads (xs ++ ys) u Q d) (λ d. Leads xs (sign_behind ys u) (λ d. Leads ys u Q d) d) (λ d g. leads_split xs ys u Q d g) (h a f n))

@@ -1,18 +1,14 @@
 -- The fault that the reader tells is the first fault of the text.
-use Rattle.std.proofs.Common.{codes, ◌≡◌, ℕ, ◌≤◌, List, [], ◌∷◌, ◌++◌, length, Bool, true, false, if◌then◌else◌, nat_le, Option, Some, None, Result, Ok, Err, refl, sym, ap, ◌∙◌, subst, ◌⊎◌, inl, inr, append_assoc, append-nil, arith}
+use Rattle.std.proofs.Common.{codes, ◌≡◌, ℕ, List, [], ◌∷◌, ◌++◌, length, Bool, true, false, if◌then◌else◌, nat_le, Option, Some, None, Ok, Err, refl, sym, ap, ◌∙◌, subst, ◌⊎◌, inl, inr, append_assoc}
 use Rattle.rs_text.specs.declared.tokens.FaultKind.{FaultKind}
 use Rattle.rs_text.specs.declared.faults.TextFault.{TextFault}
 use Rattle.rs_text.specs.declared.faults.TextKind.{TextKind}
 use Rattle.rs_text.specs.declared.faults.TextKind.TheVariants as kind
 use Rattle.rs_text.specs.declared.faults.Wanted.{Wanted}
 use Rattle.rs_text.specs.declared.faults.Wanted.TheVariants as wanted
-use Rattle.rs_text.specs.Faults.{kind_of, kind_number}
-use Rattle.rs_text.specs.Lexemes.{Lexeme, Lexed, signs_of, is_last, next_lexeme}
+use Rattle.rs_text.specs.Faults.{kind_of}
+use Rattle.rs_text.specs.Lexemes.{Lexeme}
 use Rattle.rs_text.specs.Signs.{Sign, rec_word, plain, bang, question, colon, dot, comma, open_brace, broken, finish}
-use Rattle.rs_text.specs.Tokens.{IsNext}
-use Rattle.rs_text.specs.Words.{is_role_word}
-use Rattle.rs_text.proofs.Gaps.{true_or_false}
-use Rattle.rs_text.proofs.Nexts.{next_is_next, plain_law, exists, are_lexed}
 use Rattle.rs_text.specs.Arms.{arm_signs, wanted_in_arm, ArmCut, at_label, behind_label, behind_paren, behind_sort, behind_head}
 use Rattle.rs_machines.specs.declared.reading.Frame.{Frame}
 use Rattle.rs_machines.specs.declared.reading.Mode.{Mode}
@@ -24,30 +20,23 @@ use Rattle.rs_machines.specs.declared.marks.Mark.{Mark}
 use Rattle.rs_machines.specs.declared.marks.Mark.TheVariants as mark
 use Rattle.rs_machines.specs.Cuts.{Cut, at_body, behind_end, behind_name, behind_rec, behind_rec_name, in_binds, in_arm, in_acts, in_offers, behind_brace, BranchCut, in_head, in_branch, later, MachineCut, at_begin, at_role, behind_role, in_body, cut_signs, branch_cut_signs, machine_cut_signs, wanted_at, wanted_in, wanted_of, wanted_behind_mark, IsBehind}
 use Rattle.rs_machines.specs.Scenes.{Scene, fault_by, fault_of}
-use Rattle.rs_machines.specs.Faults.{Begins, IsWhole, IsWithin, EndsByName, IsInReach, FaultAt, next_of, AllClear, FirstFault, LeavesNames, labels_among}
-use Rattle.rs_machines.specs.Feeding.{Fed, Reading, begin, feed_at, feed_next, feed_sign, is_read, no_frames, behind_body, next_lexeme_of, read_all, last_of, answered, ReadsAs}
-use Rattle.rs_text.specs.Names.{grown}
-use Rattle.rs_machines.proofs.Labels.{Tracks, track_first, track_on, track_word}
-use Rattle.rs_machines.proofs.FaultRuns.{NotExpected, Lands, sign_behind, lexeme, Leads}
-use Rattle.rs_machines.proofs.FaultPlaces.{place_wants, wanted_by, fault_seen, is_named, is_named_in, is_named_of, NamedBy, PlaceAgrees, place_passes, tree_passes, leads_split}
-use Rattle.rs_machines.proofs.FaultCuts.{takes, IsProper, proper_word, Grows, place_grows, word_grows, place_begins}
+use Rattle.rs_machines.specs.Faults.{Begins, IsWithin, EndsByName, IsInReach, FaultAt}
+use Rattle.rs_machines.specs.Feeding.{Fed, begin, feed_at, feed_next, is_read, no_frames, behind_body, feeding}
+use Rattle.rs_machines.proofs.FaultPlaces.{place_wants, wanted_by, fault_seen, is_named, is_named_in, is_named_of, NamedBy, PlaceAgrees, place_passes, tree_passes}
+use Rattle.rs_machines.proofs.FaultCuts.{takes, Grows, place_grows, word_grows, place_begins}
 use Rattle.rs_machines.proofs.FaultSteps.{said, ToldUnexpected, Steps, IsMarkMode, steps, whole_fed}
-
--- these tokens lead the reader to r, with u behind them
-abbrev pub Reached : (old : Names_data) → List Sign → Sign → Reader_data → Type 1
-Reached old xs u r = (Q : Reader_data → Type 0) → Leads xs u Q (begin old) → Q r
-
-pub reach_on : (old : Names_data) (xs : List Sign) (t u : Sign) (at from until : ℕ) (r d : Reader_data) → Reached old xs t r → feed_sign t at (lexeme u from until) r ≡ Ok d → Reached old (xs ++ t ∷ []) u d
-reach_on old xs t u at from until r d reach e = λ Q h.
-    let k : Leads (t ∷ []) u Q r = reach (λ d. Leads (t ∷ []) u Q d) (leads_split xs (t ∷ []) u Q (begin old) h) in
-    subst (λ (x : Fed). Lands x Q) e (k at from until)
+use Rattle.rs_text.proofs.Standing.{StopsAtEnd}
+use Rattle.rs_text.proofs.Judging.{Here, Wholeness, a_faulty, a_whole, wholeness, IsProper}
+use Rattle.rs_text.proofs.Leading.{Reached, NotExpected, Lands, sign_behind, lexeme, Leads, leads_split}
+use Rattle.rs_text.specs.FirstFaults.{IsClear, IsWhole}
+use Rattle.rs_text.specs.Readings.{feed_sign}
 
 -- a place stands behind these tokens
 abbrev pub There : List Sign → Type 0
 There xs = (c : MachineCut) × (machine_cut_signs c ≡ xs)
 
-pub agree : (old : Names_data) (xs : List Sign) (u : Sign) (r : Reader_data) → Reached old xs u r → (c : MachineCut) → machine_cut_signs c ≡ xs → PlaceAgrees old c u r
-agree old xs u r reach c e = reach (λ d. PlaceAgrees old c u d) (subst (λ (z : List Sign). Leads z u (λ d. PlaceAgrees old c u d) (begin old)) e (place_passes old c u))
+pub agree : (old : Names_data) (xs : List Sign) (u : Sign) (r : Reader_data) → Reached feeding (begin old) xs u r → (c : MachineCut) → machine_cut_signs c ≡ xs → PlaceAgrees old c u r
+agree old xs u r reach c e = reach NotExpected (λ d. PlaceAgrees old c u d) (subst (λ (z : List Sign). Leads feeding z u (λ d. PlaceAgrees old c u d) (begin old)) e (place_passes old c u))
 
 pub begins_there : (xs : List Sign) → There xs → Begins xs
 begins_there xs there = subst Begins there.1 (place_begins there.0)
@@ -183,21 +172,13 @@ place_says (in_body x body) = says body wanted.PartOrEnd refl
 
 -- ---- one token
 
-abbrev pub Clear : (old : Names_data) → List Sign → Sign → Sign → Type 0
-Clear old xs t u = (k : TextKind) → FaultAt old xs t u k → ⊥
-
 -- a token that is taken, and that breaks no rule of names or limits, is not at fault
-clear_of : (old : Names_data) (xs : List Sign) (t u : Sign) (r : Reader_data) → Reached old xs t r → There (xs ++ t ∷ []) → IsWhole t → fault_seen r.mode t u r ≡ None → Clear old xs t u
+clear_of : (old : Names_data) (xs : List Sign) (t u : Sign) (r : Reader_data) → Reached feeding (begin old) xs t r → There (xs ++ t ∷ []) → IsWhole t → fault_seen r.mode t u r ≡ None → IsClear (FaultAt old) xs t u
 clear_of old xs t u r reach there whole seen k f = elim f [
   | inl x ↦ x.2.stops (begins_there (xs ++ t ∷ []) there)
   | inr (inl m) ↦ absurd (cc (sym m.fault ∙ (agree old xs t r reach m.place m.stands).faults t u ∙ seen))
   | inr (inr b) ↦ subst IsWhole b.2.broken_is whole
 ]
-
-pub record Here (old : Names_data) (xs : List Sign) (t : Sign) (at : ℕ) (u : Sign) (e : TextFault) : Type 0 where
-  pub at_is : e.at ≡ at
-  pub fault : FaultAt old xs t u e.kind
-  pub only : (k : TextKind) → FaultAt old xs t u k → k ≡ e.kind
 
 -- the next token is faulty
 pub record Next (old : Names_data) (r : Reader_data) (xs : List Sign) (t : Sign) (n : Lexeme) (e : TextFault) : Type 0 where
@@ -205,18 +186,15 @@ pub record Next (old : Names_data) (r : Reader_data) (xs : List Sign) (t : Sign)
   pub broken_is : n.sign ≡ broken kind
   pub kind_is : e.kind ≡ kind_of kind
   pub at_is : e.at ≡ n.from
-  pub clear : Clear old xs t n.sign
+  pub clear : IsClear (FaultAt old) xs t n.sign
   pub place : MachineCut
   pub stands : machine_cut_signs place ≡ xs ++ t ∷ []
   pub reached : IsInReach place
   pub wants : wanted_by r.mode r.frames ≡ wanted.Body
 
 abbrev pub Verdict : Names_data → Reader_data → List Sign → Sign → ℕ → Lexeme → Fed → Type 0
-Verdict old r xs t at n (Ok d) = There (xs ++ t ∷ []) × Clear old xs t n.sign
-Verdict old r xs t at n (Err e) = Here old xs t at n.sign e ⊎ Next old r xs t n e
-
-least_same : (k j : TextKind) → j ≡ k → kind_number k ≤ kind_number j
-least_same k j e = let n : kind_number j ≡ kind_number k = ap kind_number e in omega arith
+Verdict old r xs t at n (Ok d) = There (xs ++ t ∷ []) × IsClear (FaultAt old) xs t n.sign
+Verdict old r xs t at n (Err e) = Here (FaultAt old) xs t at n.sign e ⊎ Next old r xs t n e
 
 no_landing : (x : Fed) (w : Wanted) (seen : Option TextKind) (t : Sign) (at : ℕ) (n : Lexeme) (Q : Reader_data → Type 0) → Steps w seen t at n x → takes w t ≡ false → Lands x Q → ⊥
 no_landing (Ok d) w seen t at n Q s h l = absurd (cc (sym s.0 ∙ h))
@@ -227,14 +205,14 @@ no_landing (Err e) w seen t at n Q s h l = elim s [
 ]
 
 -- with an unexpected token the tokens begin no machine
-stops_there : (old : Names_data) (xs : List Sign) (t : Sign) (r : Reader_data) (w : Wanted) (seen : Sign → Option TextKind) → Reached old xs t r → IsWhole t → takes w t ≡ false → ((n : Lexeme) → Steps w (seen n.sign) t 0 n (feed_at r.mode t 0 n r)) → Begins (xs ++ t ∷ []) → ⊥
+stops_there : (old : Names_data) (xs : List Sign) (t : Sign) (r : Reader_data) (w : Wanted) (seen : Sign → Option TextKind) → Reached feeding (begin old) xs t r → IsWhole t → takes w t ≡ false → ((n : Lexeme) → Steps w (seen n.sign) t 0 n (feed_at r.mode t 0 n r)) → Begins (xs ++ t ∷ []) → ⊥
 stops_there old xs t r w seen reach whole h s b =
     let rest : List Sign = b.1 in
     let e : machine_signs b.0 ≡ xs ++ (t ∷ rest) = b.2 ∙ append_assoc xs (t ∷ []) rest in
-    let l : Leads (xs ++ (t ∷ rest)) finish (λ d. Unit {0}) (begin old) = subst (λ (z : List Sign). Leads z finish (λ d. Unit {0}) (begin old)) e (tree_passes old b.0) in
-    let k : Leads (t ∷ rest) finish (λ d. Unit {0}) r = reach (λ d. Leads (t ∷ rest) finish (λ d. Unit {0}) d) (leads_split xs (t ∷ rest) finish (λ d. Unit {0}) (begin old) l) in
+    let l : Leads feeding (xs ++ (t ∷ rest)) finish (λ d. Unit {0}) (begin old) = subst (λ (z : List Sign). Leads feeding z finish (λ d. Unit {0}) (begin old)) e (tree_passes old b.0) in
+    let k : Leads feeding (t ∷ rest) finish (λ d. Unit {0}) r = reach NotExpected (λ d. Leads feeding (t ∷ rest) finish (λ d. Unit {0}) d) (leads_split feeding NotExpected xs (t ∷ rest) finish (λ d. Unit {0}) (begin old) l) in
     let n : Lexeme = lexeme (sign_behind rest finish) 0 0 in
-    no_landing (feed_at r.mode t 0 n r) w (seen n.sign) t 0 n (λ d. Leads rest finish (λ d. Unit {0}) d) (s n) h (subst (λ (x : Fed). Lands x (λ d. Leads rest finish (λ d. Unit {0}) d)) (whole_fed t 0 n r whole) (k 0 0 0))
+    no_landing (feed_at r.mode t 0 n r) w (seen n.sign) t 0 n (λ d. Leads feeding rest finish (λ d. Unit {0}) d) (s n) h (subst (λ (x : Fed). Lands x (λ d. Leads feeding rest finish (λ d. Unit {0}) d)) (whole_fed t 0 n r whole) (k 0 0 0))
 
 -- the reader isn't behind the machine
 not_part : (m : Mode) (fs : List Frame) → (IsMarkMode m → ⊥) → (if no_frames fs then behind_body m else false) ≡ false → wanted_by m fs ≡ wanted.PartOrEnd → ⊥
@@ -245,8 +223,8 @@ not_part mode.Next [] a u h = cc
 not_part mode.Next (f ∷ fs) a u h = cc
 not_part _ fs a u h = cc
 
-here_unexpected : (old : Names_data) (xs : List Sign) (t : Sign) (at : ℕ) (u : Sign) (r : Reader_data) (e : TextFault) → Reached old xs t r → (there : There xs) → IsWhole t → (wanted_by r.mode r.frames ≡ wanted.PartOrEnd → ⊥)
-    → ((n : Lexeme) → Steps (wanted_by r.mode r.frames) (fault_seen r.mode t n.sign r) t 0 n (feed_at r.mode t 0 n r)) → ToldUnexpected (wanted_by r.mode r.frames) (fault_seen r.mode t u r) t at e → Here old xs t at u e
+here_unexpected : (old : Names_data) (xs : List Sign) (t : Sign) (at : ℕ) (u : Sign) (r : Reader_data) (e : TextFault) → Reached feeding (begin old) xs t r → (there : There xs) → IsWhole t → (wanted_by r.mode r.frames ≡ wanted.PartOrEnd → ⊥)
+    → ((n : Lexeme) → Steps (wanted_by r.mode r.frames) (fault_seen r.mode t n.sign r) t 0 n (feed_at r.mode t 0 n r)) → ToldUnexpected (wanted_by r.mode r.frames) (fault_seen r.mode t u r) t at e → Here (FaultAt old) xs t at u e
 here_unexpected old xs t at u r e reach there whole part s x =
     let a : PlaceAgrees old there.0 t r = agree old xs t r reach there.0 there.1 in
     record {
@@ -270,7 +248,7 @@ here_unexpected old xs t at u r e reach there whole part s x =
       ];
     }
 
-here_misplaced : (old : Names_data) (xs : List Sign) (t : Sign) (at : ℕ) (u : Sign) (r : Reader_data) (e : TextFault) → Reached old xs t r → (there : There xs) → There (xs ++ t ∷ []) → IsWhole t → e.at ≡ at → fault_seen r.mode t u r ≡ Some e.kind → Here old xs t at u e
+here_misplaced : (old : Names_data) (xs : List Sign) (t : Sign) (at : ℕ) (u : Sign) (r : Reader_data) (e : TextFault) → Reached feeding (begin old) xs t r → (there : There xs) → There (xs ++ t ∷ []) → IsWhole t → e.at ≡ at → fault_seen r.mode t u r ≡ Some e.kind → Here (FaultAt old) xs t at u e
 here_misplaced old xs t at u r e reach there on whole at_is seen =
     let a : PlaceAgrees old there.0 t r = agree old xs t r reach there.0 there.1 in
     record {
@@ -283,7 +261,7 @@ here_misplaced old xs t at u r e reach there on whole at_is seen =
       ];
     }
 
-on_steps : (old : Names_data) (x : Fed) (xs : List Sign) (t : Sign) (at : ℕ) (n : Lexeme) (r : Reader_data) → Reached old xs t r → (there : There xs) → IsProper t → IsWhole t → (wanted_by r.mode r.frames ≡ wanted.PartOrEnd → ⊥)
+on_steps : (old : Names_data) (x : Fed) (xs : List Sign) (t : Sign) (at : ℕ) (n : Lexeme) (r : Reader_data) → Reached feeding (begin old) xs t r → (there : There xs) → IsProper t → IsWhole t → (wanted_by r.mode r.frames ≡ wanted.PartOrEnd → ⊥)
     → ((n : Lexeme) → Steps (wanted_by r.mode r.frames) (fault_seen r.mode t n.sign r) t 0 n (feed_at r.mode t 0 n r)) → Steps (wanted_by r.mode r.frames) (fault_seen r.mode t n.sign r) t at n x → Verdict old r xs t at n x
 on_steps old (Ok d) xs t at n r reach there proper whole part all s =
     let a : PlaceAgrees old there.0 t r = agree old xs t r reach there.0 there.1 in
@@ -314,20 +292,20 @@ mark_unseen : (m : Mode) (t u : Sign) (r : Reader_data) → IsMarkMode m → fau
 mark_unseen (mode.AtMark from s) t u r a = refl
 mark_unseen _ t u r a = absurd a
 
-marked_verdict : (old : Names_data) (r : Reader_data) (c : Bool) (xs : List Sign) (t : Sign) (at : ℕ) (n : Lexeme) (e : TextFault) (d : Reader_data) → c ≡ false → There (xs ++ t ∷ []) → Clear old xs t n.sign → Verdict old r xs t at n (if c then Err e else Ok d)
+marked_verdict : (old : Names_data) (r : Reader_data) (c : Bool) (xs : List Sign) (t : Sign) (at : ℕ) (n : Lexeme) (e : TextFault) (d : Reader_data) → c ≡ false → There (xs ++ t ∷ []) → IsClear (FaultAt old) xs t n.sign → Verdict old r xs t at n (if c then Err e else Ok d)
 marked_verdict old r true xs t at n e d h on clear = absurd (cc h)
 marked_verdict old r false xs t at n e d h on clear = (on, clear)
 
-mark_verdict_by : (old : Names_data) (k : Mark) (m : Mode) (xs : List Sign) (at : ℕ) (n : Lexeme) (r : Reader_data) → IsMarkMode m → nat_le 256 (length r.drafts) ≡ false → There (xs ++ mark_sign k ∷ []) → Clear old xs (mark_sign k) n.sign → Verdict old r xs (mark_sign k) at n (feed_at m (mark_sign k) at n r)
+mark_verdict_by : (old : Names_data) (k : Mark) (m : Mode) (xs : List Sign) (at : ℕ) (n : Lexeme) (r : Reader_data) → IsMarkMode m → nat_le 256 (length r.drafts) ≡ false → There (xs ++ mark_sign k ∷ []) → IsClear (FaultAt old) xs (mark_sign k) n.sign → Verdict old r xs (mark_sign k) at n (feed_at m (mark_sign k) at n r)
 mark_verdict_by old mark.Puts (mode.AtMark from s) xs at n r a room on clear = marked_verdict old r (nat_le 256 (length r.drafts)) xs bang at n _ _ room on clear
 mark_verdict_by old mark.Takes (mode.AtMark from s) xs at n r a room on clear = marked_verdict old r (nat_le 256 (length r.drafts)) xs question at n _ _ room on clear
 mark_verdict_by old k _ xs at n r a room on clear = absurd a
 
-mark_verdict : (old : Names_data) (k : Mark) (xs : List Sign) (t : Sign) (at : ℕ) (n : Lexeme) (r : Reader_data) → t ≡ mark_sign k → IsMarkMode r.mode → nat_le 256 (length r.drafts) ≡ false → There (xs ++ t ∷ []) → Clear old xs t n.sign → Verdict old r xs t at n (feed_at r.mode t at n r)
+mark_verdict : (old : Names_data) (k : Mark) (xs : List Sign) (t : Sign) (at : ℕ) (n : Lexeme) (r : Reader_data) → t ≡ mark_sign k → IsMarkMode r.mode → nat_le 256 (length r.drafts) ≡ false → There (xs ++ t ∷ []) → IsClear (FaultAt old) xs t n.sign → Verdict old r xs t at n (feed_at r.mode t at n r)
 mark_verdict old k xs t at n r e a room on clear =
-    subst (λ (z : Sign). Verdict old r xs z at n (feed_at r.mode z at n r)) (sym e) (mark_verdict_by old k r.mode xs at n r a room (subst (λ (z : Sign). There (xs ++ z ∷ [])) e on) (subst (λ (z : Sign). Clear old xs z n.sign) e clear))
+    subst (λ (z : Sign). Verdict old r xs z at n (feed_at r.mode z at n r)) (sym e) (mark_verdict_by old k r.mode xs at n r a room (subst (λ (z : Sign). There (xs ++ z ∷ [])) e on) (subst (λ (z : Sign). IsClear (FaultAt old) xs z n.sign) e clear))
 
-whole_verdict : (old : Names_data) (xs : List Sign) (t : Sign) (at : ℕ) (n : Lexeme) (r : Reader_data) → Reached old xs t r → There xs → IsProper t → IsWhole t → is_read r ≡ false → Verdict old r xs t at n (feed_sign t at n r)
+whole_verdict : (old : Names_data) (xs : List Sign) (t : Sign) (at : ℕ) (n : Lexeme) (r : Reader_data) → Reached feeding (begin old) xs t r → There xs → IsProper t → IsWhole t → is_read r ≡ false → Verdict old r xs t at n (feed_sign feeding t at n r)
 whole_verdict old xs t at n r reach there proper whole unread =
     let a : PlaceAgrees old there.0 t r = agree old xs t r reach there.0 there.1 in
     subst (λ (z : Fed). Verdict old r xs t at n z) (sym (whole_fed t at n r whole)) (elim (mark_or r.mode) [
@@ -356,7 +334,7 @@ no_arrow m j b r h a = let f = mark_facts m (broken j) b r a h in no_mark f.0.0 
 broken_same : (i j : FaultKind) → broken i ≡ broken j → i ≡ j
 broken_same i j h = cc
 
-broken_verdict : (old : Names_data) (xs : List Sign) (j : FaultKind) (at : ℕ) (n : Lexeme) (r : Reader_data) → Reached old xs (broken j) r → There xs → is_read r ≡ false → Verdict old r xs (broken j) at n (feed_sign (broken j) at n r)
+broken_verdict : (old : Names_data) (xs : List Sign) (j : FaultKind) (at : ℕ) (n : Lexeme) (r : Reader_data) → Reached feeding (begin old) xs (broken j) r → There xs → is_read r ≡ false → Verdict old r xs (broken j) at n (feed_sign feeding (broken j) at n r)
 broken_verdict old xs j at n r reach there unread =
     let a : PlaceAgrees old there.0 (broken j) r = agree old xs (broken j) r reach there.0 there.1 in
     inl (record {
@@ -369,25 +347,16 @@ broken_verdict old xs j at n r reach there unread =
       ];
     })
 
-pub data Wholeness : Sign → Type 0 where
-  a_faulty : (k : FaultKind) → Wholeness (broken k)
-  a_whole : (t : Sign) → IsWhole t → Wholeness t
-
-pub wholeness : (t : Sign) → Wholeness t
-wholeness (broken k) = a_faulty k
-wholeness t = a_whole t tt
-
-verdict_by : (old : Names_data) (t : Sign) → Wholeness t → (xs : List Sign) (at : ℕ) (n : Lexeme) (r : Reader_data) → Reached old xs t r → There xs → IsProper t → is_read r ≡ false → Verdict old r xs t at n (feed_sign t at n r)
+verdict_by : (old : Names_data) (t : Sign) → Wholeness t → (xs : List Sign) (at : ℕ) (n : Lexeme) (r : Reader_data) → Reached feeding (begin old) xs t r → There xs → IsProper t → is_read r ≡ false → Verdict old r xs t at n (feed_sign feeding t at n r)
 verdict_by old _ (a_faulty k) xs at n r reach there proper unread = broken_verdict old xs k at n r reach there unread
 verdict_by old _ (a_whole t w) xs at n r reach there proper unread = whole_verdict old xs t at n r reach there proper w unread
 
 -- what a token is, and what the reader says of it
-pub verdict : (old : Names_data) (xs : List Sign) (t : Sign) (at : ℕ) (n : Lexeme) (r : Reader_data) → Reached old xs t r → There xs → IsProper t → is_read r ≡ false → Verdict old r xs t at n (feed_sign t at n r)
+pub verdict : (old : Names_data) (xs : List Sign) (t : Sign) (at : ℕ) (n : Lexeme) (r : Reader_data) → Reached feeding (begin old) xs t r → There xs → IsProper t → is_read r ≡ false → Verdict old r xs t at n (feed_sign feeding t at n r)
 verdict old xs t at n r reach there proper unread = verdict_by old t (wholeness t) xs at n r reach there proper unread
 
--- ---- all tokens
+-- ---- the end
 
--- the end and a faulty token are never taken, and what stands behind them doesn't count
 end_next : (fs : List Frame) (at : ℕ) (r d : Reader_data) → feed_next fs finish at r ≡ Ok d → ⊥
 end_next [] at r d h = cc
 end_next (f ∷ fs) at r d h = cc
@@ -400,85 +369,11 @@ end_same : (m : Mode) (at : ℕ) (n k : Lexeme) (r : Reader_data) → feed_at m 
 end_same mode.Next at n k r = refl
 end_same _ at n k r = refl
 
-last_same : (t : Sign) (at : ℕ) (n k : Lexeme) (r : Reader_data) → is_last t ≡ true → feed_sign t at n r ≡ feed_sign t at k r
-last_same finish at n k r h = end_same r.mode at n k r
-last_same (broken j) at n k r h = refl
-last_same _ at n k r h = cc
+-- the end is never taken, and nothing behind it counts
+pub at_end : StopsAtEnd feeding
+at_end = record { never = λ at n r d h. end_stops r.mode at n r d h; same = λ at n k r. end_same r.mode at n k r }
 
-pub last_faulty : (t : Sign) (at : ℕ) (n : Lexeme) (r d : Reader_data) → is_last t ≡ true → feed_sign t at n r ≡ Ok d → ⊥
-last_faulty finish at n r d h e = end_stops r.mode at n r d e
-last_faulty (broken j) at n r d h e = cc
-last_faulty _ at n r d h e = cc
-
-pub proper_sign : (s : Sign) → ((name : List ℕ) → s ≡ plain name → is_role_word name ≡ true) → IsProper s
-proper_sign (plain text) h = proper_word text (h text refl)
-proper_sign _ h = tt
-
-pub proper_of : (bytes : List ℕ) (now : ℕ) (l : Lexeme) → l ≡ next_lexeme bytes now → IsProper l.sign
-proper_of bytes now l h = proper_sign l.sign (λ name e. plain_law bytes now l name (subst (λ (z : Lexeme). IsNext bytes now z) (sym h) (next_is_next bytes now)) e)
-
-pub unread_if : (c : Bool) (x : Reading) (y : Result Reading TextFault) (e : TextFault) → (if c then Ok x else y) ≡ Err e → (c ≡ false) × (y ≡ Err e)
-unread_if true x y e h = cc
-unread_if false x y e h = (refl, h)
-
-pub signs_append : (xs ys : List Lexeme) → signs_of (xs ++ ys) ≡ signs_of xs ++ signs_of ys
-signs_append [] ys = refl
-signs_append (x ∷ xs) ys = ap (λ z. x.sign ∷ z) (signs_append xs ys)
-
--- the first fault among the tokens behind these, the only one of its token, and the labels before it
-pub record Found (old : Names_data) (before : List Sign) (ls : List Lexeme) (kind : TextKind) (offset : ℕ) (labels : List (List ℕ)) : Type 0 where
-  pub xs : List Lexeme
-  pub t : Lexeme
-  pub ys : List Lexeme
-  pub split : ls ≡ xs ++ t ∷ ys
-  pub stands : t.from ≡ offset
-  pub fault : FaultAt old (before ++ signs_of xs) t.sign (next_of (signs_of ys)) kind
-  pub clear : AllClear old before (signs_of xs) (signs_of (t ∷ ys))
-  pub only : (k : TextKind) → FaultAt old (before ++ signs_of xs) t.sign (next_of (signs_of ys)) k → k ≡ kind
-  pub left : labels ≡ grown old.labels (labels_among false (before ++ signs_of xs))
-
-abbrev HasLabels : Names_data → List Sign → List (List ℕ) → Type 0
-HasLabels old xs labels = labels ≡ grown old.labels (labels_among false xs)
-
-found_here : (old : Names_data) (xs : List Sign) (l : Lexeme) (ls : List Lexeme) (g e : TextFault) (labels : List (List ℕ)) → g ≡ e → HasLabels old xs labels → Here old xs l.sign l.from (next_of (signs_of ls)) g → Found old xs (l ∷ ls) e.kind e.at labels
-found_here old xs l ls g e labels same left h = subst (λ (z : TextFault). Found old xs (l ∷ ls) z.kind z.at labels) same (record {
-  xs = [];
-  t = l;
-  ys = ls;
-  split = refl;
-  stands = sym h.at_is;
-  fault = subst (λ (z : List Sign). FaultAt old z l.sign (next_of (signs_of ls)) g.kind) (sym (append-nil xs)) h.fault;
-  clear = tt;
-  only = λ k f. h.only k (subst (λ (z : List Sign). FaultAt old z l.sign (next_of (signs_of ls)) k) (append-nil xs) f);
-  left = subst (λ (z : List Sign). HasLabels old z labels) (sym (append-nil xs)) left;
-})
-
-found_later : (old : Names_data) (xs : List Sign) (l : Lexeme) (ls : List Lexeme) (kind : TextKind) (at : ℕ) (labels : List (List ℕ)) → Clear old xs l.sign (next_of (signs_of ls)) → Found old (xs ++ l.sign ∷ []) ls kind at labels → Found old xs (l ∷ ls) kind at labels
-found_later old xs l ls kind at labels c h =
-    let signs : signs_of ls ≡ signs_of h.xs ++ signs_of (h.t ∷ h.ys) = ap signs_of h.split ∙ signs_append h.xs (h.t ∷ h.ys) in
-    let shape : (xs ++ l.sign ∷ []) ++ signs_of h.xs ≡ xs ++ (l.sign ∷ signs_of h.xs) = append_assoc xs (l.sign ∷ []) (signs_of h.xs) in
-    record {
-      xs = l ∷ h.xs;
-      t = h.t;
-      ys = h.ys;
-      split = ap (λ z. l ∷ z) h.split;
-      stands = h.stands;
-      fault = subst (λ (z : List Sign). FaultAt old z h.t.sign (next_of (signs_of h.ys)) kind) shape h.fault;
-      clear = ((λ j f. c j (subst (λ (z : List Sign). FaultAt old xs l.sign (next_of z) j) (sym signs) f)), h.clear);
-      only = λ j f. h.only j (subst (λ (z : List Sign). FaultAt old z h.t.sign (next_of (signs_of h.ys)) j) (sym shape) f);
-      left = subst (λ (z : List Sign). HasLabels old z labels) shape h.left;
-    }
-
-err_same : (g e : TextFault) (ls : List Lexeme) → read_all (Err g) ls ≡ Err e → g ≡ e
-err_same g e ls h = cc
-
-end_found : (old : Names_data) (x : Fed) (xs : List Sign) (l : Lexeme) (r : Reader_data) (e : TextFault) → feed_sign l.sign l.from (lexeme finish 0 0) r ≡ x → Tracks old xs r → Verdict old r xs l.sign l.from (lexeme finish 0 0) x → is_last l.sign ≡ true → read_all x [] ≡ Err e
-    → Found old xs (l ∷ []) e.kind e.at (last_of r x []).labels
-end_found old (Ok d) xs l r e g k v h f = absurd (last_faulty l.sign l.from (lexeme finish 0 0) r d h g)
-end_found old (Err g) xs l r e q k v h f = elim v [
-  | inl x ↦ found_here old xs l [] g e r.labels (err_same g e [] f) k.labels x
-  | inr x ↦ absurd (cc x.broken_is)
-]
+-- ---- faulty tokens behind a word
 
 -- no place sees a faulty token
 unfaulty_by : (w : Wanted) (j : FaultKind) (n : Sign) (s : Scene) → fault_by w (broken j) n s ≡ None
@@ -494,7 +389,7 @@ unfaulty old at_role j n = refl
 unfaulty old (behind_role x) j n = refl
 unfaulty old (in_body x body) j n = unfaulty_by _ j n _
 
-next_here : (old : Names_data) (r : Reader_data) (xs : List Sign) (t : Sign) (x : Lexeme) (u : Sign) (g : TextFault) → Next old r xs t x g → Here old (xs ++ t ∷ []) x.sign x.from u g
+pub next_here : (old : Names_data) (r : Reader_data) (xs : List Sign) (t : Sign) (x : Lexeme) (u : Sign) (g : TextFault) → Next old r xs t x g → Here (FaultAt old) (xs ++ t ∷ []) x.sign x.from u g
 next_here old r xs t x u g h = record {
   at_is = h.at_is;
   fault = inr (inr (h.kind, h.kind_is, record { broken_is = h.broken_is; place = h.place; stands = h.stands; reached = h.reached }));
@@ -504,70 +399,3 @@ next_here old r xs t x u g h = record {
     | inr (inr b) ↦ b.1 ∙ ap kind_of (broken_same b.0 h.kind (sym b.2.broken_is ∙ h.broken_is)) ∙ sym h.kind_is
   ];
 }
-
-more_found : (old : Names_data) (y : Fed) (xs : List Sign) (l x : Lexeme) (ls : List Lexeme) (r : Reader_data) (e : TextFault) → Reached old xs l.sign r → Tracks old xs r → feed_sign l.sign l.from x r ≡ y → Verdict old r xs l.sign l.from x y → read_all y (x ∷ ls) ≡ Err e
-    → ((d : Reader_data) → Reached old (xs ++ l.sign ∷ []) x.sign d → Tracks old (xs ++ l.sign ∷ []) d → There (xs ++ l.sign ∷ []) → read_all (Ok d) (x ∷ ls) ≡ Err e → Found old (xs ++ l.sign ∷ []) (x ∷ ls) e.kind e.at (last_of d (Ok d) (x ∷ ls)).labels)
-    → Found old xs (l ∷ x ∷ ls) e.kind e.at (last_of r y (x ∷ ls)).labels
-more_found old (Ok d) xs l x ls r e reach track g v f k =
-    found_later old xs l (x ∷ ls) e.kind e.at (last_of r (Ok d) (x ∷ ls)).labels v.1 (k d (reach_on old xs l.sign x.sign l.from x.from x.until r d reach g) (track_on old xs l.sign l.from x r d track g) v.0 f)
-more_found old (Err g) xs l x ls r e reach track q v f k = elim v [
-  | inl h ↦ found_here old xs l (x ∷ ls) g e r.labels (err_same g e (x ∷ ls) f) track.labels h
-  | inr h ↦ found_later old xs l (x ∷ ls) e.kind e.at r.labels h.clear (found_here old (xs ++ l.sign ∷ []) x ls g e r.labels (err_same g e (x ∷ ls) f) (track_word old xs l.sign r track h.wants) (next_here old r xs l.sign x (next_of (signs_of ls)) g h))
-]
-
-last_goes : (r : Reader_data) (l : Lexeme) (ls : List Lexeme) → is_read r ≡ false → last_of r (feed_sign l.sign l.from (next_lexeme_of l ls) r) ls ≡ last_of r (Ok r) (l ∷ ls)
-last_goes r l ls e = rw e refl
-
-go : (ls : List Lexeme) (old : Names_data) (l : Lexeme) (xs : List Sign) (r : Reader_data) (e : TextFault) (bytes : List ℕ) (now : ℕ) → Lexed bytes now (l ∷ ls) → Reached old xs l.sign r → Tracks old xs r → There xs → read_all (Ok r) (l ∷ ls) ≡ Err e
-    → Found old xs (l ∷ ls) e.kind e.at (last_of r (Ok r) (l ∷ ls)).labels
-go [] old l xs r e bytes now h reach track there f =
-    let u = unread_if (is_read r) _ _ e f in
-    subst (λ (z : Reader_data). Found old xs (l ∷ []) e.kind e.at z.labels) (last_goes r l [] u.0) (elim (true_or_false (is_last l.sign)) [
-      | inl last ↦ (
-          let same : feed_sign l.sign l.from (lexeme finish 0 0) r ≡ feed_sign l.sign l.from l r = last_same l.sign l.from (lexeme finish 0 0) l r last in
-          subst (λ (z : Fed). Found old xs (l ∷ []) e.kind e.at (last_of r z []).labels) same
-          (end_found old (feed_sign l.sign l.from (lexeme finish 0 0) r) xs l r e refl track (verdict old xs l.sign l.from (lexeme finish 0 0) r reach there (proper_of bytes now l h.0) u.0) last (ap (λ z. read_all z []) same ∙ u.1)))
-      | inr more ↦ absurd (h.2 more)
-    ])
-go (x ∷ ls) old l xs r e bytes now h reach track there f =
-    let u = unread_if (is_read r) _ _ e f in
-    subst (λ (z : Reader_data). Found old xs (l ∷ x ∷ ls) e.kind e.at z.labels) (last_goes r l (x ∷ ls) u.0) (elim (true_or_false (is_last l.sign)) [
-      | inl last ↦ absurd (cc (h.1 last))
-      | inr more ↦ more_found old (feed_sign l.sign l.from x r) xs l x ls r e reach track refl (verdict old xs l.sign l.from x r reach there (proper_of bytes now l h.0) u.0) u.1
-          (λ d k track p q. go ls old x (xs ++ l.sign ∷ []) d e bytes l.until (h.2 more) k track p q)
-    ])
-
--- the fault that the reading of these tokens gives is the first one, and the labels that the reader has then are those before it
-pub found : (old : Names_data) (bytes : List ℕ) (at : ℕ) (ls : List Lexeme) (e : TextFault) → Lexed bytes at ls → read_all (Ok (begin old)) ls ≡ Err e → Found old [] ls e.kind e.at (last_of (begin old) (Ok (begin old)) ls).labels
-found old bytes at [] e h f = absurd h
-found old bytes at (l ∷ ls) e h f = go ls old l [] (begin old) e bytes at h (λ Q k. k) (track_first old) (at_begin, refl) f
-
-first_of : (old : Names_data) (bytes : List ℕ) (at : ℕ) (ls : List Lexeme) (e : TextFault) (labels : List (List ℕ)) → Lexed bytes at ls → Found old [] ls e.kind e.at labels → FirstFault old bytes at e.kind e.at
-first_of old bytes at ls e labels h x =
-    record { before = x.xs; token = x.t; others = x.ys; lexed = subst (λ (z : List Lexeme). Lexed bytes at z) x.split h; stands = x.stands; fault = x.fault; clear = x.clear; least = λ k g. least_same e.kind k (x.only k g) }
-
-pub told : (old : Names_data) (bytes : List ℕ) (at : ℕ) (ls : List Lexeme) (e : TextFault) → Lexed bytes at ls → read_all (Ok (begin old)) ls ≡ Err e → FirstFault old bytes at e.kind e.at
-told old bytes at ls e h f = first_of old bytes at ls e (last_of (begin old) (Ok (begin old)) ls).labels h (found old bytes at ls e h f)
-
-abbrev names : List (List ℕ) → List (List ℕ) → Names_data
-names roles labels = record { roles = roles; labels = labels }
-
--- the names that are left
-pub leaves : (old new : Names_data) (bytes : List ℕ) (at : ℕ) (ls : List Lexeme) (e : TextFault) → Lexed bytes at ls → read_all (Ok (begin old)) ls ≡ Err e → new.roles ≡ old.roles → (last_of (begin old) (Ok (begin old)) ls).labels ≡ new.labels → LeavesNames old new bytes at e.kind e.at
-unfolding first_of
-leaves old new bytes at ls e h f roles labels =
-    let x = found old bytes at ls e h f in (
-      first_of old bytes at ls e (last_of (begin old) (Ok (begin old)) ls).labels h x,
-      ap (λ z. names z new.labels) roles ∙ ap (λ z. names old.roles z) (sym labels ∙ x.left),
-    )
-
-pub answered_err : (x : Result Reading TextFault) (e : TextFault) → answered x ≡ Err e → x ≡ Err e
-answered_err (Ok x) e h = cc
-answered_err (Err g) e h = cc
-
--- whatever fault the reader tells is the first fault of the text
-pub first_fault : (old : Names_data) (bytes : List ℕ) (at : ℕ) (e : TextFault) → at ≤ length bytes → ReadsAs old bytes at (Err e) → FirstFault old bytes at e.kind e.at
-first_fault old bytes at e within h =
-    let x = exists bytes at within in
-    let lexed : Lexed bytes at x.0 = are_lexed bytes x.0 at x.1 in
-    told old bytes at x.0 e lexed (answered_err (read_all (Ok (begin old)) x.0) e (h x.0 lexed))

@@ -18,8 +18,9 @@ use Rattle.rs_machines.specs.declared.reading.Mode.{Mode}
 use Rattle.rs_machines.specs.declared.reading.Mode.TheVariants as mode
 use Rattle.rs_machines.specs.Data.{Reader_data}
 use Rattle.rs_machines.specs.Faults.{opens_arm, label_there, labels_among}
-use Rattle.rs_machines.specs.Feeding.{Fed, begin, in_mode, linked, feed_at, feed_sign, feed_machine, role_by, met_by, feed_word, feed_body, named, feed_next, feed_head, labelled_by, sorted_by}
+use Rattle.rs_machines.specs.Feeding.{Fed, begin, in_mode, linked, feed_at, feed_machine, role_by, met_by, feed_word, feed_body, named, feed_next, feed_head, labelled_by, sorted_by, feeding}
 use Rattle.rs_machines.proofs.FaultPlaces.{wanted_by}
+use Rattle.rs_text.specs.Readings.{feed_sign}
 
 -- the reader is at a label
 abbrev pub at_arm : Mode → Bool
@@ -121,7 +122,7 @@ take_at (mode.ArmDot act l s) dot at next r = (refl, refl)
 take_at (mode.ArmDot act l s) _ at next r = tt
 take_at mode.Next t at next r = take_next r.frames t at r
 
-take_sign : (t : Sign) (at : ℕ) (next : Lexeme) (r : Reader_data) → IfOk (feed_sign t at next r) (Takes t r)
+take_sign : (t : Sign) (at : ℕ) (next : Lexeme) (r : Reader_data) → IfOk (feed_sign feeding t at next r) (Takes t r)
 take_sign (broken k) at next r = tt
 take_sign t at next r = take_at r.mode t at next r
 
@@ -156,9 +157,9 @@ on_ok : (x : Fed) (d : Reader_data) (t : Sign) (r : Reader_data) → x ≡ Ok d 
 on_ok (Ok e) d t r same h = let k : e ≡ d = cc in subst (λ (z : Reader_data). Takes t r z) k h
 on_ok (Err e) d t r same h = absurd (cc same)
 
-pub track_on : (old : Names_data) (xs : List Sign) (t : Sign) (at : ℕ) (n : Lexeme) (r d : Reader_data) → Tracks old xs r → feed_sign t at n r ≡ Ok d → Tracks old (xs ++ t ∷ []) d
+pub track_on : (old : Names_data) (xs : List Sign) (t : Sign) (at : ℕ) (n : Lexeme) (r d : Reader_data) → Tracks old xs r → feed_sign feeding t at n r ≡ Ok d → Tracks old (xs ++ t ∷ []) d
 track_on old xs t at n r d k e =
-    let h = on_ok (feed_sign t at n r) d t r e (take_sign t at n r) in
+    let h = on_ok (feed_sign feeding t at n r) d t r e (take_sign t at n r) in
     record { labels = h.0 ∙ more_labels old xs r t k; mode = h.1 ∙ sym (opened_on xs false t) }
 
 no_arm : (m : Mode) (fs : List Frame) → wanted_by m fs ≡ wanted.Body → at_arm m ≡ false

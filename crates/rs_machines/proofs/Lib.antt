@@ -1,5 +1,4 @@
 pub mod Bindings
-pub mod Standing
 pub mod Sounding
 pub mod FaultRuns
 pub mod FaultPlaces

@@ -1,4 +1,4 @@
-use Rattle.std.proofs.Common.{◌≡◌, ℕ, ◌≤◌, List, [], ◌∷◌, length, Bool, true, false, Option, Some, None, Result, Ok, Err, IfErr, inl, inr, sym, ap, subst, arith, cond, nat_le, nat_lt}
+use Rattle.std.proofs.Common.{ℕ, ◌≤◌, List, [], ◌∷◌, length, Bool, true, false, Option, Some, None, Ok, Err, IfErr, cond, nat_le, nat_lt}
 use Rattle.std.specs.Prelude.{codes}
 use Rattle.rs_model.specs.declared.graph.Role.{Role}
 use Rattle.rs_model.specs.declared.graph.Label.{Label}
@@ -8,26 +8,18 @@ use Rattle.rs_text.specs.declared.faults.TextKind.TheVariants as kind
 use Rattle.rs_text.specs.declared.faults.Wanted.{Wanted}
 use Rattle.rs_text.specs.declared.faults.Wanted.TheVariants as wanted
 use Rattle.rs_machines.specs.declared.marks.Mark.{Mark}
-use Rattle.rs_text.specs.Lexemes.{Lexeme, Lexed, is_last}
+use Rattle.rs_text.specs.Lexemes.{Lexeme}
 use Rattle.rs_text.specs.Names.{place_of, bound_to}
 use Rattle.rs_text.specs.Signs.{Sign, rec_word, end_word, plain, bang, question, colon, dot, comma, open_brace, close_brace, open_paren, close_paren, broken}
-use Rattle.rs_text.specs.Tokens.{IsWithin}
-use Rattle.rs_text.proofs.Gaps.{true_or_false}
-use Rattle.rs_text.proofs.Nexts.{next_is_next, within}
 use Rattle.rs_text.specs.Seen.{sort_named, plain_text, word_text, is_text}
 use Rattle.rs_machines.specs.declared.reading.Frame.{Frame}
 use Rattle.rs_machines.specs.declared.reading.Link.{Link}
 use Rattle.rs_machines.specs.declared.reading.Mode.{Mode}
 use Rattle.rs_machines.specs.declared.reading.Mode.TheVariants as mode
-use Rattle.rs_machines.specs.declared.reading.Stop.{Stop}
-use Rattle.rs_machines.specs.declared.reading.Stop.TheVariants as stops
 use Rattle.rs_machines.specs.Data.{Reader_data}
-use Rattle.rs_machines.specs.Feeding.{Fed, Reading, Reads, StopsAs, told, in_mode, linked, placed, opened, marked, met_by, role_by, feed_role, feed_at, feed_sign, feed_word, feed_body, named, feed_next, feed_head, feed_label, label_wanted, labelled_by, sorted_by, is_read, next_lexeme_of, read_all}
-use Rattle.rs_machines.proofs.Answers.{tokens}
-
--- the fault stands at an offset of at most n
-abbrev Below : ℕ → TextFault → Type 0
-Below n e = e.at ≤ n
+use Rattle.rs_machines.specs.Feeding.{Fed, in_mode, linked, placed, opened, marked, met_by, role_by, feed_role, feed_at, feed_word, feed_body, named, feed_next, feed_head, feed_label, label_wanted, labelled_by, sorted_by, feeding}
+use Rattle.rs_text.specs.Readings.{feed_sign}
+use Rattle.rs_text.proofs.Keeping.{Below, StaysBelow}
 
 below_if : (n : ℕ) (c : Bool) (e : TextFault) (x : Fed) → e.at ≤ n → IfErr x (Below n) → IfErr (cond c (Err e) x) (Below n)
 below_if n true e x h k = h
@@ -116,47 +108,9 @@ at_mode n (mode.ArmDot act l s) dot at next r h k = tt
 at_mode n (mode.ArmDot act l s) _ at next r h k = h
 at_mode n mode.Next t at next r h k = at_next n r.frames t at r h
 
-at_sign : (n : ℕ) (t : Sign) (at : ℕ) (next : Lexeme) (r : Reader_data) → at ≤ n → next.from ≤ n → IfErr (feed_sign t at next r) (Below n)
+at_sign : (n : ℕ) (t : Sign) (at : ℕ) (next : Lexeme) (r : Reader_data) → at ≤ n → next.from ≤ n → IfErr (feed_sign feeding t at next r) (Below n)
 at_sign n (broken j) at next r h k = h
 at_sign n t at next r h k = at_mode n r.mode t at next r h k
 
--- all tokens
-abbrev AllBelow : ℕ → List Lexeme → Type 0
-AllBelow n [] = Unit {0}
-AllBelow n (l ∷ ls) = (l.from ≤ n) × AllBelow n ls
-
-all_below : (bytes : List ℕ) (ls : List Lexeme) (at : ℕ) → at ≤ length bytes → Lexed bytes at ls → AllBelow (length bytes) ls
-all_below bytes [] at b h = tt
-all_below bytes (l ∷ ls) at b h =
-    let w : IsWithin bytes at l = within bytes at l b (rw h.0 (next_is_next bytes at)) in
-    let order = w.order in
-    let inside = w.inside in
-    let here : l.from ≤ length bytes = omega arith in
-    elim (true_or_false (is_last l.sign)) [
-      | inl last ↦ (here, subst (λ (z : List Lexeme). AllBelow (length bytes) z) (sym (h.1 last)) tt)
-      | inr more ↦ (here, all_below bytes ls l.until inside (h.2 more))
-    ]
-
-next_below : (n : ℕ) (l : Lexeme) (ls : List Lexeme) → l.from ≤ n → AllBelow n ls → (next_lexeme_of l ls).from ≤ n
-next_below n l [] h k = h
-next_below n l (x ∷ xs) h k = k.0
-
-at_read : (n : ℕ) (c : Bool) (x y : Result Reading TextFault) → IfErr x (Below n) → IfErr y (Below n) → IfErr (cond c x y) (Below n)
-at_read n true x y h k = h
-at_read n false x y h k = k
-
-at_all : (n : ℕ) (ls : List Lexeme) (x : Fed) → AllBelow n ls → IfErr x (Below n) → IfErr (read_all x ls) (Below n)
-at_all n [] (Err e) b h = h
-at_all n (l ∷ ls) (Err e) b h = h
-at_all n [] (Ok r) b h = omega arith
-at_all n (l ∷ ls) (Ok r) b h = at_read n (is_read r) (Ok (record { reader = r; until = l.from })) (read_all (feed_sign l.sign l.from (next_lexeme_of l ls) r) ls) tt (at_all n ls (feed_sign l.sign l.from (next_lexeme_of l ls) r) b.1 (at_sign n l.sign l.from (next_lexeme_of l ls) r b.0 (next_below n l ls b.0 b.1)))
-
--- a fault stands within the text
-pub fault_within : (o : Reader_data) (bytes : List ℕ) (at : ℕ) (f : TextFault) → at ≤ length bytes → Reads o bytes at (Err f) → f.at ≤ length bytes
-fault_within o bytes at f h p =
-    let t = tokens bytes at h in
-    subst (λ (z : Result Reading TextFault). IfErr z (Below (length bytes))) (p t.0 t.1) (at_all (length bytes) t.0 (Ok o) (all_below bytes t.0 at h t.1) tt)
-
-pub told_within : (s : Stop) (o : Reader_data) (bytes : List ℕ) (at : ℕ) (labels : List (List ℕ)) (f : TextFault) → f ≡ told s at → at ≤ length bytes → StopsAs s o bytes at labels → f.at ≤ length bytes
-told_within stops.Memory o bytes at labels f e h p = subst (λ (k : ℕ). k ≤ length bytes) (sym (ap (λ z. z.at) e)) h
-told_within (stops.Fault g) o bytes at labels f e h p = subst (λ (k : ℕ). k ≤ length bytes) (sym (ap (λ z. z.at) e)) (fault_within o bytes at g h p.0)
+pub stays_below : StaysBelow feeding
+stays_below n t at next r h k = at_sign n t at next r h k

@@ -20,10 +20,12 @@ use Rattle.rs_machines.specs.Trees.{Body, ends, again, binds, acts, offers, Bran
 use Rattle.rs_machines.specs.Machines.{labels_of, labels_of_arms, acts_in, acts_in_arms, has_end, has_end_arms, Numbering, role_of, label_of}
 use Rattle.rs_machines.specs.Scenes.{Scene, with_label, in_act, in_braces, in_rec, behind}
 use Rattle.rs_machines.specs.Spells.{is_guarded, has_room_for, body_fits, arms_fit}
-use Rattle.rs_machines.specs.Feeding.{Fed, fault, in_mode, linked, linked_start, linked_drafts, met_by, named, feed_word, feed_sign, placed, opened}
-use Rattle.rs_machines.proofs.FaultRuns.{sign_behind, by_name, placed_length, frame_at, restored_bound}
+use Rattle.rs_machines.specs.Feeding.{Fed, in_mode, linked, linked_start, linked_drafts, met_by, named, feed_word, placed, opened, feeding}
+use Rattle.rs_machines.proofs.FaultRuns.{by_name, placed_length, frame_at, restored_bound}
 use Rattle.rs_machines.proofs.FaultPlaces.{scene_of}
-use Rattle.rs_machines.proofs.SpeltSteps.{Tells, Exact, Hangs, hangs_both, tells_if, full, roomy, fits_in, target, arm_to, arms_to, draft, drafts_of, drafts_in, with_all, mid_arm, linked_length, Stays, stays_before, numbered, arm_exact}
+use Rattle.rs_machines.proofs.SpeltSteps.{target, arm_to, arms_to, draft, drafts_of, drafts_in, with_all, mid_arm, linked_length, Stays, stays_before, numbered, arm_exact}
+use Rattle.rs_text.specs.Readings.{fault, feed_sign}
+use Rattle.rs_text.proofs.Leading.{sign_behind, Tells, Exact, Hangs, hangs_both, tells_if, full, roomy, fits_in}
 
 or_false : (a : Bool) → a ≡ (a || false)
 or_false true = refl
@@ -64,7 +66,7 @@ peer_exact : (m : Mark) (x : List ℕ) (from : Link) (at next : ℕ) (r : Reader
 peer_exact mark.Puts x from at next r N K Q h k = met_exact (place_of x r.roles) x from at r N K Q refl h k
 peer_exact mark.Takes x from at next r N K Q h k = met_exact (place_of x r.roles) x from at r N K Q refl h k
 
-marked_exact : (m : Mark) (from : Link) (p : Role) (at : ℕ) (n : Lexeme) (r : Reader_data) (N : Type 0) (Q : Reader_data → Type 0) → nat_lt (length r.drafts) 256 ≡ true → Q (placed from p m r) → Tells (feed_sign (mark_sign m) at n (record r { mode = mode.AtMark from p })) N Q
+marked_exact : (m : Mark) (from : Link) (p : Role) (at : ℕ) (n : Lexeme) (r : Reader_data) (N : Type 0) (Q : Reader_data → Type 0) → nat_lt (length r.drafts) 256 ≡ true → Q (placed from p m r) → Tells (feed_sign feeding (mark_sign m) at n (record r { mode = mode.AtMark from p })) N Q
 marked_exact mark.Puts from p at n r N Q room h = tells_if (nat_le 256 (length r.drafts)) kind.TooManyNodes at (Ok (placed from p mark.Puts r)) N Q (λ f. absurd (roomy 256 (length r.drafts) room f)) (λ f. h)
 marked_exact mark.Takes from p at n r N Q room h = tells_if (nat_le 256 (length r.drafts)) kind.TooManyNodes at (Ok (placed from p mark.Takes r)) N Q (λ f. absurd (roomy 256 (length r.drafts) room f)) (λ f. h)
 
@@ -101,22 +103,22 @@ rehang a b N K L e h k = (λ f. h.0 (sym e ∙ f), λ f. k (h.1 (sym e ∙ f)))
 
 mutual
   pub body_exact : (b : Body) (from : Link) (r : Reader_data) (all : List (List ℕ)) (last : ℕ) (ts : List Sign) (u : Sign) (N : Type 0) (Q : Reader_data → Type 0) → (ends_by_name b ≡ true → ends_a_name (sign_behind ts u) ≡ true) → Stays (grown r.labels (labels_of b)) all
-      → Hangs (body_fits b (scene_of r)) N (Goes b from r all last (λ d. Exact ts u N Q d)) → Exact (body_signs b ++ ts) u N Q (record r { mode = mode.Body from })
+      → Hangs (body_fits b (scene_of r)) N (Goes b from r all last (λ d. Exact feeding ts u N Q d)) → Exact feeding (body_signs b ++ ts) u N Q (record r { mode = mode.Body from })
   body_exact ends from r all last ts u N Q settled stays h = λ at f n. h.1 refl r.labels (linked_drafts from None r.drafts) (linked_start from None r.start) true r.bound [] r.depth refl (sym (append-nil (linked_drafts from None r.drafts))) refl (or_true r.ended) refl
   body_exact (again name) from r all last ts u N Q settled stays h = λ at f n.
-      subst (λ (x : Fed). Tells x N (λ d. Exact ts u N Q d)) (sym (by_name (sign_behind ts u) from name at f (record r { mode = mode.Body from }) (settled refl)))
-      (named_exact (bound_to name r.bound) from at (record r { mode = mode.Body from }) N (λ d. Exact ts u N Q d)
+      subst (λ (x : Fed). Tells x N (λ d. Exact feeding ts u N Q d)) (sym (by_name (sign_behind ts u) from name at f (record r { mode = mode.Body from }) (settled refl)))
+      (named_exact (bound_to name r.bound) from at (record r { mode = mode.Body from }) N (λ d. Exact feeding ts u N Q d)
       (h.0, λ g. h.1 g r.labels (linked_drafts from (Some (number_or (bound_to name r.bound))) r.drafts) (linked_start from (Some (number_or (bound_to name r.bound))) r.start) r.ended r.bound [] r.depth refl (sym (append-nil (linked_drafts from (Some (number_or (bound_to name r.bound))) r.drafts))) refl (or_false r.ended) refl))
   body_exact (binds name body) from r all last ts u N Q settled stays h = λ at f n.
-      let both : Hangs (nat_lt r.depth 200) N (Hangs (body_fits body (in_rec name (scene_of r))) N (Goes (binds name body) from r all last (λ d. Exact ts u N Q d))) = hangs_both (nat_lt r.depth 200) (body_fits body (in_rec name (scene_of r))) N (Goes (binds name body) from r all last (λ d. Exact ts u N Q d)) h in
-      tells_if (nat_le 200 r.depth) kind.TooDeep at (Ok (record r { depth = suc r.depth; mode = mode.RecName from })) N (λ d. Exact (plain name ∷ dot ∷ (body_signs body ++ ts)) u N Q d) (λ e. both.0 (full 200 r.depth e))
+      let both : Hangs (nat_lt r.depth 200) N (Hangs (body_fits body (in_rec name (scene_of r))) N (Goes (binds name body) from r all last (λ d. Exact feeding ts u N Q d))) = hangs_both (nat_lt r.depth 200) (body_fits body (in_rec name (scene_of r))) N (Goes (binds name body) from r all last (λ d. Exact feeding ts u N Q d)) h in
+      tells_if (nat_le 200 r.depth) kind.TooDeep at (Ok (record r { depth = suc r.depth; mode = mode.RecName from })) N (λ d. Exact feeding (plain name ∷ dot ∷ (body_signs body ++ ts)) u N Q d) (λ e. both.0 (full 200 r.depth e))
       (λ e. λ a f n. λ a f n. body_exact body from (record r { depth = suc r.depth; bound = (name, length r.drafts) ∷ r.bound }) all last ts u N Q settled stays
-      (rehang (body_fits body (in_rec name (scene_of r))) (body_fits body (in_rec name (scene_of r))) N (Goes (binds name body) from r all last (λ d. Exact ts u N Q d)) (Goes body from (record r { depth = suc r.depth; bound = (name, length r.drafts) ∷ r.bound }) all last (λ d. Exact ts u N Q d)) refl (both.1 (fits_in 200 r.depth e))
+      (rehang (body_fits body (in_rec name (scene_of r))) (body_fits body (in_rec name (scene_of r))) N (Goes (binds name body) from r all last (λ d. Exact feeding ts u N Q d)) (Goes body from (record r { depth = suc r.depth; bound = (name, length r.drafts) ∷ r.bound }) all last (λ d. Exact feeding ts u N Q d)) refl (both.1 (fits_in 200 r.depth e))
       (λ k labels drafts start ended bound inner depth l d o x b. k labels drafts start ended bound (inner ++ (name, length r.drafts) ∷ []) depth l d o x (b ∙ sym (append_assoc inner ((name, length r.drafts) ∷ []) r.bound)))))
   body_exact (acts x y l s body) from r all last ts u N Q settled stays h = λ at f n.
       let c : ℕ = length r.drafts in
       let m : Numbering = numbered r.roles all last in
-      let K : Type 0 = Goes (acts x y l s body) from r all last (λ d. Exact ts u N Q d) in
+      let K : Type 0 = Goes (acts x y l s body) from r all last (λ d. Exact feeding ts u N Q d) in
       let A : Bool = is_among x r.roles in
       let B : Bool = nat_lt c 256 in
       let D : Bool = has_room_for l (scene_of r) in
@@ -124,16 +126,16 @@ mutual
       let h3 = hangs_both ((A && B) && D) E N K h in
       let h2 = hangs_both (A && B) D N (Hangs E N K) h3 in
       let h1 : Hangs A N (Hangs B N (Hangs D N (Hangs E N K))) = hangs_both A B N (Hangs D N (Hangs E N K)) h2 in
-      peer_exact y x from at f (record r { mode = mode.Body from }) N (Hangs D N (Hangs E N K)) (λ d. Exact (mark_sign y ∷ ((arm_signs l s ++ body_signs body) ++ ts)) u N Q d) h1
-      (λ room hd. λ a f n. marked_exact y from (role_of m x) a _ r N (λ d. Exact (((arm_signs l s ++ body_signs body) ++ ts)) u N Q d) room
+      peer_exact y x from at f (record r { mode = mode.Body from }) N (Hangs D N (Hangs E N K)) (λ d. Exact feeding (mark_sign y ∷ ((arm_signs l s ++ body_signs body) ++ ts)) u N Q d) h1
+      (λ room hd. λ a f n. marked_exact y from (role_of m x) a _ r N (λ d. Exact feeding (((arm_signs l s ++ body_signs body) ++ ts)) u N Q d) room
       (
       let p : Reader_data = placed from (role_of m x) y r in
-      let P : Reader_data → Type 0 = λ d. Exact ts u N Q d in
+      let P : Reader_data → Type 0 = λ d. Exact feeding ts u N Q d in
       let L : List Draft_data = linked_drafts from (Some c) r.drafts in
       let pl : length p.drafts ≡ suc c = placed_length from (role_of m x) y r in
       let S : ℕ → Scene = λ z. scene r.roles r.bound r.depth z (grown r.labels (l ∷ [])) in
       let arm : DraftArm = arm_to m l s (target body r.bound (suc c)) in
-      subst (λ (z : List Sign). Exact z u N Q (record p { mode = mode.AtLabel c true })) (sym (append_assoc (arm_signs l s) (body_signs body) ts))
+      subst (λ (z : List Sign). Exact feeding z u N Q (record p { mode = mode.AtLabel c true })) (sym (append_assoc (arm_signs l s) (body_signs body) ts))
       (arm_exact l s c true p r.roles all last (body_signs body ++ ts) u N Q (stays_before (grown r.labels (l ∷ [])) (labels_of body) all stays) (
         hd.0,
         λ e. body_exact body (link.OfArm c (label_of m l) (sort_or_unit s)) (record p { labels = grown r.labels (l ∷ []) }) all last ts u N Q settled stays
@@ -146,7 +148,7 @@ mutual
   body_exact (offers x y arms) from r all last ts u N Q settled stays h = λ at f n.
       let c : ℕ = length r.drafts in
       let m : Numbering = numbered r.roles all last in
-      let K : Type 0 = Goes (offers x y arms) from r all last (λ d. Exact ts u N Q d) in
+      let K : Type 0 = Goes (offers x y arms) from r all last (λ d. Exact feeding ts u N Q d) in
       let A : Bool = is_among x r.roles in
       let B : Bool = nat_lt c 256 in
       let D : Bool = nat_lt r.depth 200 in
@@ -154,16 +156,16 @@ mutual
       let h3 = hangs_both ((A && B) && D) E N K h in
       let h2 = hangs_both (A && B) D N (Hangs E N K) h3 in
       let h1 : Hangs A N (Hangs B N (Hangs D N (Hangs E N K))) = hangs_both A B N (Hangs D N (Hangs E N K)) h2 in
-      peer_exact y x from at f (record r { mode = mode.Body from }) N (Hangs D N (Hangs E N K)) (λ d. Exact (mark_sign y ∷ open_brace ∷ ((branch_signs arms ++ close_brace ∷ []) ++ ts)) u N Q d) h1
-      (λ room hd. λ a f n. marked_exact y from (role_of m x) a _ r N (λ d. Exact (open_brace ∷ ((branch_signs arms ++ close_brace ∷ []) ++ ts)) u N Q d) room
+      peer_exact y x from at f (record r { mode = mode.Body from }) N (Hangs D N (Hangs E N K)) (λ d. Exact feeding (mark_sign y ∷ open_brace ∷ ((branch_signs arms ++ close_brace ∷ []) ++ ts)) u N Q d) h1
+      (λ room hd. λ a f n. marked_exact y from (role_of m x) a _ r N (λ d. Exact feeding (open_brace ∷ ((branch_signs arms ++ close_brace ∷ []) ++ ts)) u N Q d) room
       (λ a f n.
       let p : Reader_data = placed from (role_of m x) y r in
       let L : List Draft_data = linked_drafts from (Some c) r.drafts in
       let pl : length p.drafts ≡ suc c = placed_length from (role_of m x) y r in
       let S : ℕ → Scene = λ z. scene r.roles r.bound (suc r.depth) z r.labels in
-      let P : Reader_data → Type 0 = λ d. Exact (close_brace ∷ ts) u N Q d in
-      tells_if (nat_le 200 r.depth) kind.TooDeep a (Ok (opened c p)) N (λ d. Exact ((branch_signs arms ++ close_brace ∷ []) ++ ts) u N Q d) (λ e. hd.0 (full 200 r.depth e))
-      (λ e. subst (λ (z : List Sign). Exact z u N Q (opened c p)) (sym (append_assoc (branch_signs arms) (close_brace ∷ []) ts))
+      let P : Reader_data → Type 0 = λ d. Exact feeding (close_brace ∷ ts) u N Q d in
+      tells_if (nat_le 200 r.depth) kind.TooDeep a (Ok (opened c p)) N (λ d. Exact feeding ((branch_signs arms ++ close_brace ∷ []) ++ ts) u N Q d) (λ e. hd.0 (full 200 r.depth e))
+      (λ e. subst (λ (z : List Sign). Exact feeding z u N Q (opened c p)) (sym (append_assoc (branch_signs arms) (close_brace ∷ []) ts))
       (branches_exact arms c (record p { depth = suc r.depth }) r.frames all last (close_brace ∷ ts) u N Q refl stays L (draft (role_of m x) y []) [] refl (linked_length from (Some c) r.drafts)
       (rehang (arms_fit arms (S (length p.drafts))) (arms_fit arms (S (suc c))) N K (GoesArms arms c (record p { depth = suc r.depth }) r.frames all last L (draft (role_of m x) y []) [] P) (ap (λ z. arms_fit arms (S z)) pl) (hd.1 (fits_in 200 r.depth e))
       (λ k labels drafts start ended bound inner depth g d o v b. λ a f n.
@@ -172,16 +174,16 @@ mutual
 
   pub branches_exact : (arms : Branches) (act : ℕ) (r : Reader_data) (fs : List Frame) (all : List (List ℕ)) (last : ℕ) (ts : List Sign) (u : Sign) (N : Type 0) (Q : Reader_data → Type 0) → ends_a_name (sign_behind ts u) ≡ true → Stays (grown r.labels (labels_of_arms arms)) all
       → (xs : List Draft_data) (d : Draft_data) (ys : List Draft_data) → r.drafts ≡ xs ++ d ∷ ys → length xs ≡ act
-      → Hangs (arms_fit arms (scene_of r)) N (GoesArms arms act r fs all last xs d ys (λ d. Exact ts u N Q d)) → Exact (branch_signs arms ++ ts) u N Q (record r { frames = frame_at act r.bound r.depth ∷ fs; mode = mode.AtLabel act false })
+      → Hangs (arms_fit arms (scene_of r)) N (GoesArms arms act r fs all last xs d ys (λ d. Exact feeding ts u N Q d)) → Exact feeding (branch_signs arms ++ ts) u N Q (record r { frames = frame_at act r.bound r.depth ∷ fs; mode = mode.AtLabel act false })
   branches_exact (one l s body) act r fs all last ts u N Q settled stays xs d ys there here h =
       let m : Numbering = numbered r.roles all last in
       let o : Reader_data = record r { frames = frame_at act r.bound r.depth ∷ fs } in
-      let P : Reader_data → Type 0 = λ d. Exact ts u N Q d in
+      let P : Reader_data → Type 0 = λ d. Exact feeding ts u N Q d in
       let K : Type 0 = GoesArms (one l s body) act r fs all last xs d ys P in
       let both : Hangs (has_room_for l (scene_of r)) N (Hangs (body_fits body (with_label l (scene_of r))) N K) = hangs_both (has_room_for l (scene_of r)) (body_fits body (with_label l (scene_of r))) N K h in
       let arm : DraftArm = arm_to m l s (target body r.bound (length r.drafts)) in
       let new : List Draft_data = drafts_of m body r.bound (length r.drafts) in
-      subst (λ (z : List Sign). Exact z u N Q (record o { mode = mode.AtLabel act false })) (sym (append_assoc (arm_signs l s) (body_signs body) ts))
+      subst (λ (z : List Sign). Exact feeding z u N Q (record o { mode = mode.AtLabel act false })) (sym (append_assoc (arm_signs l s) (body_signs body) ts))
       (arm_exact l s act false o r.roles all last (body_signs body ++ ts) u N Q (stays_before (grown r.labels (l ∷ [])) (labels_of body) all stays) (
         both.0,
         λ e. body_exact body (link.OfArm act (label_of m l) (sort_or_unit s)) (record o { labels = grown r.labels (l ∷ []) }) all last ts u N Q (λ _. settled) stays
@@ -195,8 +197,8 @@ mutual
       let o : Reader_data = record r { frames = frame_at act r.bound r.depth ∷ fs } in
       let from : Link = link.OfArm act (label_of m l) (sort_or_unit s) in
       let rest : List Sign = comma ∷ (branch_signs arms ++ ts) in
-      let P : Reader_data → Type 0 = λ d. Exact ts u N Q d in
-      let R : Reader_data → Type 0 = λ d. Exact rest u N Q d in
+      let P : Reader_data → Type 0 = λ d. Exact feeding ts u N Q d in
+      let R : Reader_data → Type 0 = λ d. Exact feeding rest u N Q d in
       let K : Type 0 = GoesArms (more l s body arms) act r fs all last xs d ys P in
       let A : Bool = has_room_for l (scene_of r) in
       let B : Bool = body_fits body (with_label l (scene_of r)) in
@@ -209,7 +211,7 @@ mutual
       let stays_on : Stays (grown (grown first (labels_of body)) (labels_of_arms arms)) all = subst (λ (z : List (List ℕ)). Stays z all) (grown_append (labels_of body) (labels_of_arms arms) first) stays in
       let shape : (arm_signs l s ++ (body_signs body ++ comma ∷ branch_signs arms)) ++ ts ≡ arm_signs l s ++ (body_signs body ++ rest) =
       append_assoc (arm_signs l s) (body_signs body ++ comma ∷ branch_signs arms) ts ∙ ap (λ z. arm_signs l s ++ z) (append_assoc (body_signs body) (comma ∷ branch_signs arms) ts) in
-      subst (λ (z : List Sign). Exact z u N Q (record o { mode = mode.AtLabel act false })) (sym shape)
+      subst (λ (z : List Sign). Exact feeding z u N Q (record o { mode = mode.AtLabel act false })) (sym shape)
       (arm_exact l s act false o r.roles all last (body_signs body ++ rest) u N Q (stays_before first (labels_of body ++ labels_of_arms arms) all stays) (
         h1.0,
         λ e. body_exact body from (record o { labels = first }) all last rest u N Q (λ _. refl) (stays_before (grown first (labels_of body)) (labels_of_arms arms) all stays_on)
@@ -219,7 +221,7 @@ mutual
             let mid : drafts ≡ xs ++ with_all d (arm ∷ []) ∷ (ys ++ new) = w ∙ ap (λ q. with_arm arm (slice_get q act) q act ++ new) there ∙ ap (λ q. q ++ new) (mid_arm xs d ys arm act here) ∙ append_assoc xs (with_all d (arm ∷ []) ∷ ys) new in
             let size : length drafts ≡ c + acts_in body = ap length w ∙ length-append (linked_drafts from (target body r.bound c) r.drafts) new ∙ ap (λ q. q + length new) (linked_length from (target body r.bound c) r.drafts) ∙ ap (λ q. c + q) (drafts_count m body r.bound c) in
             let S : ℕ → List (List ℕ) → Scene = λ q k. scene r.roles r.bound r.depth q k in
-            subst (λ (q : Bound). Exact (branch_signs arms ++ ts) u N Q (record back { bound = q; frames = frame_at act r.bound r.depth ∷ fs; mode = mode.AtLabel act false })) (sym (restored_bound inner bound r.bound b))
+            subst (λ (q : Bound). Exact feeding (branch_signs arms ++ ts) u N Q (record back { bound = q; frames = frame_at act r.bound r.depth ∷ fs; mode = mode.AtLabel act false })) (sym (restored_bound inner bound r.bound b))
             (branches_exact arms act back fs all last ts u N Q settled (subst (λ (q : List (List ℕ)). Stays (grown q (labels_of_arms arms)) all) (sym g) stays_on) xs (with_all d (arm ∷ [])) (ys ++ new) mid here
             (rehang (arms_fit arms (S (length drafts) labels)) C N K (GoesArms arms act back fs all last xs (with_all d (arm ∷ [])) (ys ++ new) P) (ap (λ q. arms_fit arms (S q labels)) size ∙ ap (λ q. arms_fit arms (S (c + acts_in body) q)) g) hc
             (λ k labels' drafts' start' ended' bound' inner' depth' g' w' v' z' b'. k labels' drafts' start' ended' bound' inner' depth'

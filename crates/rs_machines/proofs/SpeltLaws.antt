@@ -9,8 +9,7 @@ use Rattle.rs_machines.specs.Faults.{FirstFault, Keeps}
 use Rattle.rs_machines.specs.Feeding.{Answer, ReadsAs, Reads, answered, begin}
 use Rattle.rs_machines.specs.Spells.{SpellsMachine}
 use Rattle.rs_machines.proofs.Answers.{an_answer}
-use Rattle.rs_machines.proofs.FirstFaults.{first_fault}
-use Rattle.rs_machines.proofs.OneFault.{no_fault}
+use Rattle.rs_machines.proofs.OneFault.{no_fault, first_fault}
 use Rattle.rs_machines.proofs.SpeltRuns.{sound, complete}
 
 abbrev answer : Names_data → Machine_data → ℕ → Answer

@@ -13,9 +13,10 @@ use Rattle.rs_machines.specs.Drafts.{settled, settled_arm, settled_target, machi
 use Rattle.rs_machines.specs.Trees.{Body, ends, again, binds, acts, offers, Branches, one, more, MachineTree, body_signs, machine_signs, ends_by_name, ends_a_name}
 use Rattle.rs_machines.specs.Machines.{labels_of, acts_in, has_end, Numbering, role_of, first_state, arm_of, arms_of, act_of, states_of, states_of_arms, numbering, names_of, machine_of, done_of}
 use Rattle.rs_machines.specs.Spells.{Fits}
-use Rattle.rs_machines.specs.Feeding.{begin, role_by, is_read}
-use Rattle.rs_machines.proofs.SpeltSteps.{Tells, Exact, target, arms_to, drafts_of, drafts_in}
+use Rattle.rs_machines.specs.Feeding.{begin, role_by, is_read, feeding}
+use Rattle.rs_machines.proofs.SpeltSteps.{target, arms_to, drafts_of, drafts_in}
 use Rattle.rs_machines.proofs.SpeltBodies.{drafts_count, body_exact}
+use Rattle.rs_text.proofs.Leading.{Tells, Exact}
 
 -- ---- states
 
@@ -71,15 +72,15 @@ role_exact : (found : Option ℕ) (x : List ℕ) (at : ℕ) (r : Reader_data) (N
 role_exact None x at r N Q e n h = n (not_among r.roles x 0 e)
 role_exact (Some k) x at r N Q e n h = h (among r.roles x 0 k e)
 
-pub tree_exact : (old : Names_data) (t : MachineTree) (u : Sign) → (ends_by_name t.body ≡ true → ends_a_name u ≡ true) → Exact (machine_signs t) u (Fits old t → ⊥) (IsRead old t) (begin old)
+pub tree_exact : (old : Names_data) (t : MachineTree) (u : Sign) → (ends_by_name t.body ≡ true → ends_a_name u ≡ true) → Exact feeding (machine_signs t) u (Fits old t → ⊥) (IsRead old t) (begin old)
 tree_exact old t u settled =
     let N : Type 0 = Fits old t → ⊥ in
     let all : List (List ℕ) = grown old.labels (labels_of t.body) in
     let role : Role = record { 0 = number_or (place_of t.role old.roles) } in
-    λ a f n. λ a f n. role_exact (place_of t.role old.roles) t.role a (record (begin old) { mode = mode.AtRole }) N (λ d. Exact (colon ∷ body_signs t.body) u N (IsRead old t) d) refl
+    λ a f n. λ a f n. role_exact (place_of t.role old.roles) t.role a (record (begin old) { mode = mode.AtRole }) N (λ d. Exact feeding (colon ∷ body_signs t.body) u N (IsRead old t) d) refl
     (λ e fits. absurd (cc (sym e ∙ fits.role)))
     (λ known. λ a f n.
-    subst (λ (z : List Sign). Exact z u N (IsRead old t) (record (begin old) { role = role; mode = mode.Body link.Start })) (append-nil (body_signs t.body))
+    subst (λ (z : List Sign). Exact feeding z u N (IsRead old t) (record (begin old) { role = role; mode = mode.Body link.Start })) (append-nil (body_signs t.body))
     (body_exact t.body link.Start (record (begin old) { role = role }) all (acts_in t.body) [] u N (IsRead old t) settled (λ name k e. e) (
       (λ e fits. absurd (cc (sym e ∙ fits.body))),
       (λ fit labels drafts start ended bound inner depth g w v x b.

@@ -1,25 +1,22 @@
 -- The first fault of a text, and the names that it leaves.
-use Rattle.std.specs.Prelude.{◌≡◌, ℕ, ◌≤◌, ◌⊎◌, List, [], ◌∷◌, ◌++◌, codes, Bool, true, false, Some}
+use Rattle.std.specs.Prelude.{◌≡◌, ℕ, ◌⊎◌, List, [], ◌∷◌, ◌++◌, codes, Bool, true, false, Some}
 use Rattle.rs_model.specs.Data.{Names_data}
 use Rattle.rs_text.specs.declared.tokens.FaultKind.{FaultKind}
 use Rattle.rs_text.specs.declared.faults.Wanted.{Wanted}
 use Rattle.rs_text.specs.declared.faults.TextKind.{TextKind}
 use Rattle.rs_text.specs.declared.faults.TextKind.TheVariants as kind
-use Rattle.rs_text.specs.Faults.{kind_of, kind_number}
-use Rattle.rs_text.specs.Lexemes.{Lexeme, Lexed, signs_of}
+use Rattle.rs_text.specs.Faults.{kind_of}
+use Rattle.rs_text.specs.Lexemes.{signs_of}
 use Rattle.rs_text.specs.Names.{grown}
-use Rattle.rs_text.specs.Signs.{Sign, rec_word, end_word, plain, bang, question, comma, open_brace, broken, finish}
+use Rattle.rs_text.specs.Signs.{Sign, rec_word, end_word, plain, bang, question, comma, open_brace, broken}
 use Rattle.rs_machines.specs.Trees.{MachineTree, machine_signs}
 use Rattle.rs_machines.specs.Cuts.{Cut, behind_end, behind_name, in_binds, in_acts, behind_brace, MachineCut, in_body, IsBehind, machine_cut_signs, wanted_of}
 use Rattle.rs_machines.specs.Scenes.{fault_of}
+use Rattle.rs_text.specs.FirstFaults.{IsWhole, FirstFaultBy}
 
 -- the tokens begin a machine
 abbrev pub Begins : List Sign → Type 0
 Begins signs = (tree : MachineTree) × (rest : List Sign) × (machine_signs tree ≡ signs ++ rest)
-
-abbrev pub IsWhole : Sign → Type 0
-IsWhole (broken k) = ⊥
-IsWhole _ = Unit {0}
 
 -- the place is within the machine, not behind it
 abbrev pub IsWithin : MachineCut → Type 0
@@ -65,26 +62,9 @@ pub record IsBroken (before : List Sign) (t : Sign) (kind : FaultKind) : Type 0 
 abbrev pub FaultAt : (old : Names_data) → (before : List Sign) → (t next : Sign) → TextKind → Type 0
 FaultAt old before t next k = ((w : Wanted) × (k ≡ kind.Expected w) × IsUnexpected before t w) ⊎ (IsMisplaced old before t next k ⊎ ((j : FaultKind) × (k ≡ kind_of j) × IsBroken before t j))
 
--- the sign behind a token; nothing stands behind the end
-abbrev pub next_of : List Sign → Sign
-next_of [] = finish
-next_of (t ∷ ts) = t
-
--- none of these tokens is at fault
-abbrev pub AllClear : (old : Names_data) → (before these after : List Sign) → Type 0
-AllClear old before [] after = Unit {0}
-AllClear old before (t ∷ ts) after = ((k : TextKind) → FaultAt old before t (next_of (ts ++ after)) k → ⊥) × AllClear old (before ++ t ∷ []) ts after
-
 -- the fault at the least offset, and at one token the one with the least number
-pub record FirstFault (old : Names_data) (bytes : List ℕ) (at : ℕ) (kind : TextKind) (offset : ℕ) : Type 0 where
-  pub before : List Lexeme
-  pub token : Lexeme
-  pub others : List Lexeme
-  pub lexed : Lexed bytes at (before ++ token ∷ others)
-  pub stands : token.from ≡ offset
-  pub fault : FaultAt old (signs_of before) token.sign (next_of (signs_of others)) kind
-  pub clear : AllClear old [] (signs_of before) (signs_of (token ∷ others))
-  pub least : (k : TextKind) → FaultAt old (signs_of before) token.sign (next_of (signs_of others)) k → kind_number kind ≤ kind_number k
+abbrev pub FirstFault : (old : Names_data) → (bytes : List ℕ) → (at : ℕ) → TextKind → (offset : ℕ) → Type 0
+FirstFault old bytes at kind offset = FirstFaultBy (FaultAt old) bytes at kind offset
 
 -- behind a mark, a brace that opens and a comma a label stands
 abbrev pub opens_arm : Sign → Bool

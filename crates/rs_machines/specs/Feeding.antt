@@ -6,7 +6,6 @@ use Rattle.rs_model.specs.declared.graph.Label.{Label}
 use Rattle.rs_model.specs.declared.values.Sort.{Sort}
 use Rattle.rs_model.specs.declared.values.Sort.TheVariants as sort
 use Rattle.rs_text.specs.declared.faults.TextFault.{TextFault}
-use Rattle.rs_text.specs.declared.faults.TextKind.{TextKind}
 use Rattle.rs_text.specs.declared.faults.TextKind.TheVariants as kind
 use Rattle.rs_text.specs.declared.faults.Wanted.{Wanted}
 use Rattle.rs_text.specs.declared.faults.Wanted.TheVariants as wanted
@@ -23,22 +22,17 @@ use Rattle.rs_machines.specs.declared.reading.Link.{Link}
 use Rattle.rs_machines.specs.declared.reading.Link.TheVariants as link
 use Rattle.rs_machines.specs.declared.reading.Mode.{Mode}
 use Rattle.rs_machines.specs.declared.reading.Mode.TheVariants as mode
-use Rattle.rs_machines.specs.declared.reading.Stop.{Stop}
-use Rattle.rs_machines.specs.declared.reading.Stop.TheVariants as stops
+use Rattle.rs_text.specs.declared.reading.Stop.{Stop}
+use Rattle.rs_text.specs.declared.reading.Stop.TheVariants as stops
 use Rattle.rs_machines.specs.Data.{Reader_data, Draft_data}
 use Rattle.rs_machines.specs.Drafts.{with_arm, machine_read, names_read}
+use Rattle.rs_text.specs.Readings.{Automaton, Reading, fault, expected, read_all, ReadsBy, last_of}
 
 abbrev pub Fed : Type 0
 Fed = Result Reader_data TextFault
 
 abbrev pub begin : Names_data → Reader_data
 begin old = record { roles = old.roles; labels = old.labels; role = record { 0 = 0 }; drafts = []; start = None; ended = false; bound = []; depth = 0; frames = []; mode = mode.Machine }
-
-abbrev pub fault : TextKind → ℕ → Fed
-fault k at = Err (record { kind = k; at = at })
-
-abbrev pub expected : Wanted → ℕ → Fed
-expected w at = fault (kind.Expected w) at
 
 abbrev pub in_mode : Mode → Reader_data → Fed
 in_mode m r = Ok (record r { mode = m })
@@ -202,11 +196,6 @@ feed_at mode.Next t at next r = feed_behind t at r
 abbrev pub feed_of : Sign → ℕ → Lexeme → Reader_data → Fed
 feed_of t at next r = feed_at r.mode t at next r
 
--- a faulty token is its own fault, whatever was wanted
-abbrev pub feed_sign : Sign → ℕ → Lexeme → Reader_data → Fed
-feed_sign (broken k) at next r = fault (kind_of k) at
-feed_sign t at next r = feed_of t at next r
-
 abbrev pub behind_body : Mode → Bool
 behind_body mode.Next = true
 behind_body _ = false
@@ -219,20 +208,9 @@ no_frames (f ∷ fs) = false
 abbrev pub is_read : Reader_data → Bool
 is_read r = if no_frames r.frames then behind_body r.mode else false
 
-pub record Reading : Type 0 where
-  pub reader : Reader_data
-  pub until : ℕ
-
--- nothing stands behind the last token
-abbrev pub next_lexeme_of : Lexeme → List Lexeme → Lexeme
-next_lexeme_of l [] = l
-next_lexeme_of l (x ∷ xs) = x
-
--- all tokens, as far as the machine goes
-abbrev pub read_all : Fed → List Lexeme → Result Reading TextFault
-read_all (Err e) ls = Err e
-read_all (Ok r) [] = Err (record { kind = kind.Expected wanted.PartOrEnd; at = 0 })
-read_all (Ok r) (l ∷ ls) = if is_read r then Ok (record { reader = r; until = l.from }) else read_all (feed_sign l.sign l.from (next_lexeme_of l ls) r) ls
+-- the reader of machines
+abbrev pub feeding : Automaton Reader_data
+feeding = record { feed = λ t at next r. feed_of t at next r; is_read = λ r. is_read r }
 
 -- names, machine and the offset behind them
 pub record Answer : Type 0 where
@@ -240,44 +218,24 @@ pub record Answer : Type 0 where
   pub machine : Machine_data
   pub until : ℕ
 
-abbrev pub answered : Result Reading TextFault → Result Answer TextFault
+abbrev pub answered : Result (Reading Reader_data) TextFault → Result Answer TextFault
 answered (Err e) = Err e
 answered (Ok x) = Ok (record { names = names_read x.reader; machine = machine_read x.reader; until = x.until })
 
 -- what the tokens of the bytes from `at` on are read as, with the old names
 abbrev pub ReadsAs : Names_data → List ℕ → ℕ → Result Answer TextFault → Type 0
-ReadsAs old bytes at answer = (lexemes : List Lexeme) → Lexed bytes at lexemes → answered (read_all (Ok (begin old)) lexemes) ≡ answer
+ReadsAs old bytes at answer = (lexemes : List Lexeme) → Lexed bytes at lexemes → answered (read_all feeding (Ok (begin old)) lexemes) ≡ answer
 
 -- what the tokens lead a reader to
-abbrev pub Reads : Reader_data → List ℕ → ℕ → Result Reading TextFault → Type 0
-Reads r bytes at reading = (lexemes : List Lexeme) → Lexed bytes at lexemes → read_all (Ok r) lexemes ≡ reading
+abbrev pub Reads : Reader_data → List ℕ → ℕ → Result (Reading Reader_data) TextFault → Type 0
+Reads r bytes at reading = ReadsBy feeding r bytes at reading
 
--- the reader as it stands before the first token that it refuses, or behind the machine; r is the one before this token
-abbrev pub last_of : Reader_data → Fed → List Lexeme → Reader_data
-last_of r (Err e) ls = r
-last_of r (Ok d) [] = d
-last_of r (Ok d) (l ∷ ls) = if is_read d then d else last_of d (feed_sign l.sign l.from (next_lexeme_of l ls) d) ls
-
--- the labels that the reader has then
-abbrev pub Leaves : Reader_data → List ℕ → ℕ → List (List ℕ) → Type 0
-Leaves r bytes at labels = (lexemes : List Lexeme) → Lexed bytes at lexemes → (last_of r (Ok r) lexemes).labels ≡ labels
-
--- a stop at a fault leaves these labels; one by want of memory may come anywhere
-abbrev pub StopsAs : Stop → Reader_data → List ℕ → ℕ → List (List ℕ) → Type 0
-StopsAs stops.Memory r bytes at labels = Unit {0}
-StopsAs (stops.Fault f) r bytes at labels = Reads r bytes at (Err f) × Leaves r bytes at labels
-
--- a refusal of memory is told at the offset where the reading began
-abbrev pub told : Stop → ℕ → TextFault
-told stops.Memory at = record { kind = kind.NoMemory; at = at }
-told (stops.Fault f) at = f
+-- the labels that the reader has at the fault; a stop by want of memory may come anywhere
+abbrev pub Leaves : Stop → Reader_data → List ℕ → ℕ → List (List ℕ) → Type 0
+Leaves stops.Memory r bytes at labels = Unit {0}
+Leaves (stops.Fault f) r bytes at labels = (lexemes : List Lexeme) → Lexed bytes at lexemes → (last_of feeding r (Ok r) lexemes).labels ≡ labels
 
 -- the last number that a name is bound to, by bindings in order
 abbrev pub last_bound : List ℕ → Bound → Option ℕ → Option ℕ
 last_bound name [] found = found
 last_bound name (b ∷ bs) found = last_bound name bs (if bytes_eq b.0 name then Some b.1 else found)
-
--- a stop by want of memory may come at any token; any other one is the fault that was fed
-abbrev pub Fails : Stop → Fed → Type 0
-Fails stops.Memory fed = Unit {0}
-Fails (stops.Fault f) fed = fed ≡ Err f

@@ -1,17 +1,16 @@
 ghost use Rattle.std.specs.Prelude.{◌≡◌, ◌≤◌, length, IfOk, IfErr, ◌⊎◌, Ok};
 ghost use Rattle.rs_text.specs.declared.faults.TextKind.TheVariants as kind;
 ghost use Rattle.rs_machines.specs.Drafts.{names_read, machine_read};
-ghost use Rattle.rs_machines.specs.Feeding as spec;
 ghost use Rattle.rs_machines.specs.Faults.{FirstFault, Keeps, LeavesNames};
-ghost use Rattle.rs_machines.specs.Feeding.{Reads, StopsAs};
+ghost use Rattle.rs_machines.specs.Feeding.{feeding, Leaves, Reads};
 ghost use Rattle.rs_machines.specs.Spells.{SpellsMachine};
-ghost use Rattle.rs_text.specs.Lexemes.{next_lexeme};
+ghost use Rattle.rs_text.specs.Readings.{StopsBy};
 ghost use Rattle.rs_text.specs.Sound.{IsSound};
 
 use crate::drafts::{settled_number, states};
-use crate::reading::{Reader, Stop};
+use crate::reading::Reader;
 use rs_model::{Machine, Names, NoMemory};
-use rs_text::{Lexer, TextFault, TextKind};
+use rs_text::{Lexer, Stop, TextFault};
 use std::alloc::Global;
 use std::mem;
 
@@ -52,19 +51,7 @@ pub fn read_machine(
     names.labels = reader.labels;
     match result {
         Ok(read) => Ok(read),
-        Err(stop) => Err(told(stop, at)),
-    }
-}
-
-fn told(stop: Stop, at: usize) -> TextFault
-    ensures { result ≡ spec.told stop at }
-{
-    match stop {
-        Stop::Fault(fault) => fault,
-        Stop::Memory => TextFault {
-            kind: TextKind::NoMemory,
-            at,
-        },
+        Err(stop) => Err(stop.told(at)),
     }
 }
 
@@ -81,7 +68,8 @@ fn read_with<'a>(
     ensures machine { IfOk result (λ r. r.0 ≡ machine_read reader.new) }
     ensures states { IfOk result (λ r. length r.0.states ≤ 257) }
     ensures within { IfOk result (λ r. r.1 ≤ length bytes.now) }
-    ensures err { IfErr result (λ e. StopsAs e reader.old bytes.now at reader.new.labels) }
+    ensures err { IfErr result (λ e. StopsBy feeding e reader.old bytes.now at) }
+    ensures left { IfErr result (λ e. Leaves e reader.old bytes.now at reader.new.labels) }
     ensures sound { IsSound (names_read reader.new) }
     ensures kept { Keeps (names_read reader.old) (names_read reader.new) }
 {
@@ -108,7 +96,8 @@ fn read<'a>(reader: &mut Reader<'a>, bytes: &'a [u8], at: usize) -> Result<usize
     requires sound { IsSound (names_read reader.old) }
     ensures ok { IfOk result (λ until. Reads reader.old bytes.now at (Ok (record { reader = reader.new; until = until }))) }
     ensures within { IfOk result (λ until. until ≤ length bytes.now) }
-    ensures err { IfErr result (λ e. StopsAs e reader.old bytes.now at reader.new.labels) }
+    ensures err { IfErr result (λ e. StopsBy feeding e reader.old bytes.now at) }
+    ensures left { IfErr result (λ e. Leaves e reader.old bytes.now at reader.new.labels) }
     ensures sound { IsSound (names_read reader.new) }
     ensures kept { Keeps (names_read reader.old) (names_read reader.new) }
 {
@@ -117,18 +106,5 @@ fn read<'a>(reader: &mut Reader<'a>, bytes: &'a [u8], at: usize) -> Result<usize
         let token = lexer.next()?;
         reader.feed(bytes, token)?;
     }
-    Ok(behind(lexer))
-}
-
-/// The offset of the next token, or of the faulty one there.
-
-fn behind(lexer: Lexer) -> usize
-    ensures offset { result ≡ (next_lexeme lexer.entry.bytes lexer.entry.at).from }
-    ensures within { result ≤ length lexer.entry.bytes }
-{
-    let mut lexer = lexer;
-    match lexer.next() {
-        Ok(token) => token.from,
-        Err(fault) => fault.at,
-    }
+    Ok(lexer.next_offset())
 }

@@ -5,13 +5,13 @@ ghost use Rattle.rs_text.specs.Names.{bound_to};
 ghost use Rattle.rs_text.specs.Seen.{plain_text, word_text};
 ghost use Rattle.rs_machines.specs.Drafts.{names_read};
 ghost use Rattle.rs_machines.specs.Feeding as spec;
-ghost use Rattle.rs_machines.specs.Feeding.{Fails};
+ghost use Rattle.rs_text.specs.Readings.{Fails};
 
 use crate::drafts::{Draft, DraftArm, add_arm};
 use crate::marks::Mark;
-use rs_model::{Label, Name, NoMemory, Role, Sort};
-use rs_text::{Fault, Kind, Lexer, TextFault, TextKind, Token, Wanted, find, seen};
-use std::alloc::{AllocError, AllocFailed, Global};
+use rs_model::{Label, Name, Role, Sort};
+use rs_text::{Kind, Lexer, Stop, TextKind, Token, Wanted, expected, fault, find, seen};
+use std::alloc::Global;
 use std::marker::Model;
 
 const DEEPEST: u32 = 200;
@@ -19,58 +19,6 @@ const DEEPEST: u32 = 200;
 const MOST_ACTS: usize = 256;
 
 const MOST_LABELS: usize = 256;
-
-/// Why the reading stopped.
-#[derive(Clone, Copy, Debug, PartialEq, Eq)]
-pub(crate) enum Stop {
-    Memory,
-    Fault(TextFault),
-}
-
-impl From<NoMemory> for Stop {
-    ghost use Rattle.std.specs.Prelude.{◌≡◌};
-    ghost use Rattle.rs_machines.specs.declared.reading.Stop.TheVariants as stops;
-
-    ghost from_gives = { λ _ e. e ≡ stops.Memory };
-
-    fn from(_refused: NoMemory) -> Self {
-        Stop::Memory
-    }
-}
-
-impl From<AllocError> for Stop {
-    ghost use Rattle.std.specs.Prelude.{◌≡◌};
-    ghost use Rattle.rs_machines.specs.declared.reading.Stop.TheVariants as stops;
-
-    ghost from_gives = { λ _ e. e ≡ stops.Memory };
-
-    fn from(_error: AllocError) -> Self {
-        Stop::Memory
-    }
-}
-
-impl<T: Drop> From<AllocFailed<T>> for Stop {
-    ghost use Rattle.std.specs.Prelude.{◌≡◌};
-    ghost use Rattle.rs_machines.specs.declared.reading.Stop.TheVariants as stops;
-
-    ghost from_gives = { λ _ e. e ≡ stops.Memory };
-
-    fn from(_refused: AllocFailed<T>) -> Self {
-        Stop::Memory
-    }
-}
-
-impl From<Fault> for Stop {
-    ghost use Rattle.std.specs.Prelude.{◌≡◌};
-    ghost use Rattle.rs_text.specs.Faults.{kind_of};
-    ghost use Rattle.rs_machines.specs.declared.reading.Stop.TheVariants as stops;
-
-    ghost from_gives = { λ fault e. e ≡ stops.Fault (record { kind = kind_of fault.kind; at = fault.at }) };
-
-    fn from(fault: Fault) -> Self {
-        Stop::Fault(TextFault::from(fault))
-    }
-}
 
 /// A recursion name, and the number of the first act of its body.
 #[derive(Drop, Debug)]
@@ -150,18 +98,6 @@ impl<'a> Model for Reader<'a> {
     ghost view = { λ r. record { roles = r.roles.now; labels = r.labels.items; role = r.role; drafts = r.drafts.items; start = r.start; ended = r.ended; bound = reverse r.bound.items; depth = r.depth; frames = reverse r.frames.items; mode = r.mode } };
 
     ghost invariant = { λ r. (length r.roles.now ≤ 16) × ((length r.labels.items ≤ 256) × (length r.drafts.items ≤ 256)) };
-}
-
-fn fault(kind: TextKind, at: usize) -> Result<(), Stop>
-    ensures { result ≡ Err (Stop.Fault (record { kind = kind; at = at })) }
-{
-    Err(Stop::Fault(TextFault { kind, at }))
-}
-
-fn expected(wanted: Wanted, at: usize) -> Result<(), Stop>
-    ensures { result ≡ Err (Stop.Fault (record { kind = TextKind.Expected wanted; at = at })) }
-{
-    fault(TextKind::Expected(wanted), at)
 }
 
 /// What is wanted at a label; right behind a mark a brace may stand too.

@@ -1,7 +1,8 @@
 -- The fault that a reader tells is the first one of the text, and a text that is read has none: for any kind of reader of
 -- which it is known what it says of one token.
 use Rattle.std.proofs.Common.{◌≡◌, ℕ, ◌≤◌, List, [], ◌∷◌, ◌++◌, Bool, true, false, if◌then◌else◌, Result, Ok, Err, refl, sym, ap, ◌∙◌, subst, ◌⊎◌, inl, inr, append_assoc, append-nil, arith}
-use Rattle.std.proofs.Common.{length}
+use Rattle.std.proofs.Common.{codes, ◌&&◌, not}
+use Rattle.std.specs.Str.{bytes_eq}
 use Rattle.rs_text.specs.declared.tokens.FaultKind.{FaultKind}
 use Rattle.rs_text.specs.declared.faults.TextFault.{TextFault}
 use Rattle.rs_text.specs.declared.faults.TextKind.{TextKind}
@@ -9,11 +10,11 @@ use Rattle.rs_text.specs.Faults.{kind_number}
 use Rattle.rs_text.specs.FirstFaults.{FaultRule, IsWhole, IsClear, AllClear, FirstFaultBy, next_of}
 use Rattle.rs_text.specs.Lexemes.{Lexeme, Lexed, signs_of, is_last, next_lexeme}
 use Rattle.rs_text.specs.Readings.{Automaton, Reading, feed_sign, next_lexeme_of, read_all, last_of}
-use Rattle.rs_text.specs.Signs.{Sign, plain, broken, finish}
+use Rattle.rs_text.specs.Signs.{Sign, rec_word, end_word, plain, broken, finish, word_sign}
 use Rattle.rs_text.specs.Tokens.{IsNext}
-use Rattle.rs_text.specs.Words.{is_role_word}
+use Rattle.rs_text.specs.Words.{is_word, is_role_word}
 use Rattle.rs_text.proofs.Gaps.{true_or_false}
-use Rattle.rs_text.proofs.Leading.{sign_behind, lexeme}
+use Rattle.rs_text.proofs.Leading.{sign_behind, lexeme, Tells, Exact}
 use Rattle.rs_text.proofs.Nexts.{next_is_next, plain_law, one_list}
 use Rattle.rs_text.proofs.Standing.{StopsAtEnd}
 
@@ -23,6 +24,33 @@ IsNamed t = (name : List ℕ) → t ≡ plain name → is_role_word name ≡ tru
 
 pub named : (bytes : List ℕ) (now : ℕ) (l : Lexeme) → l ≡ next_lexeme bytes now → IsNamed l.sign
 named bytes now l h = λ name e. plain_law bytes now l name (subst (λ (z : Lexeme). IsNext bytes now z) (sym h) (next_is_next bytes now)) e
+
+-- a word has its own sign: rec and end are never plain
+abbrev pub IsProper : Sign → Type 0
+IsProper (plain text) = word_sign text ≡ plain text
+IsProper _ = Unit {0}
+
+proper_if : (a b c : Bool) (text : List ℕ) → (a && (not b && not c)) ≡ true → (if b then rec_word else if c then end_word else plain text) ≡ plain text
+proper_if true true c text h = cc
+proper_if true false true text h = cc
+proper_if true false false text h = refl
+proper_if false b c text h = cc
+
+pub proper_word : (text : List ℕ) → is_role_word text ≡ true → word_sign text ≡ plain text
+proper_word text h = proper_if (is_word text) (bytes_eq text (codes "rec")) (bytes_eq text (codes "end")) text h
+
+pub proper_sign : (s : Sign) → IsNamed s → IsProper s
+proper_sign (plain text) h = proper_word text (h text refl)
+proper_sign _ h = tt
+
+-- a token is faulty or not
+pub data Wholeness : Sign → Type 0 where
+  a_faulty : (k : FaultKind) → Wholeness (broken k)
+  a_whole : (t : Sign) → IsWhole t → Wholeness t
+
+pub wholeness : (t : Sign) → Wholeness t
+wholeness (broken k) = a_faulty k
+wholeness t = a_whole t tt
 
 -- the token has this fault and no other
 pub record Here (rule : FaultRule) (xs : List Sign) (t : Sign) (at : ℕ) (u : Sign) (e : TextFault) : Type 0 where
@@ -238,7 +266,7 @@ no_fault j o bytes at y k offset f begins e = clear_of_read j f.before f.token f
 
 -- ---- one fault at most
 
-same_place : (rule : FaultRule) (b c : List Lexeme) (t s : Lexeme) (os ps : List Lexeme) (xs : List Sign) (j k : TextKind) → b ++ t ∷ os ≡ c ++ s ∷ ps → rule (xs ++ signs_of b) t.sign (next_of (signs_of os)) j → AllClear rule xs (signs_of b) (signs_of (t ∷ os))
+pub same_place : (rule : FaultRule) (b c : List Lexeme) (t s : Lexeme) (os ps : List Lexeme) (xs : List Sign) (j k : TextKind) → b ++ t ∷ os ≡ c ++ s ∷ ps → rule (xs ++ signs_of b) t.sign (next_of (signs_of os)) j → AllClear rule xs (signs_of b) (signs_of (t ∷ os))
     → rule (xs ++ signs_of c) s.sign (next_of (signs_of ps)) k → AllClear rule xs (signs_of c) (signs_of (s ∷ ps)) → (b ≡ c) × ((t ≡ s) × (os ≡ ps))
 same_place rule [] [] t s os ps xs j k h f cf g cg = (refl, (cc, cc))
 same_place rule [] (x ∷ c) t s os ps xs j k h f cf g cg =
@@ -357,3 +385,33 @@ halts {R} {a} {rule} {At} j (y ∷ ls) l before r x bytes now h stands f = elim 
 pub halt : {R : Type 0} {a : Automaton R} {rule : FaultRule} {At : List Sign → Sign → R → Type 1} {Left : List Sign → R → Type 0} (j : Judges a rule At Left) (o : R) (bytes : List ℕ) (at : ℕ) (ls : List Lexeme) (x : Reading R) → ((t : Sign) → At [] t o) → Lexed bytes at ls → read_all a (Ok o) ls ≡ Ok x → Halt a At [] ls x
 halt j o bytes at [] x begins lexed h = absurd lexed
 halt j o bytes at (l ∷ ls) x begins lexed h = halts j ls l [] o x bytes at lexed (begins l.sign) h
+
+-- ---- a text that is spelt is read
+
+next_sign : (x : Lexeme) (xs : List Lexeme) (l : Lexeme) (others : List Lexeme) → (next_lexeme_of x (xs ++ l ∷ others)).sign ≡ sign_behind (signs_of xs) l.sign
+next_sign x [] l others = refl
+next_sign x (y ∷ xs) l others = refl
+
+exact_first : {R : Type 0} (a : Automaton R) (t u : Sign) (at : ℕ) (n : Lexeme) (ts : List Sign) (r : R) (N : Type 0) (Q : R → Type 0) → n.sign ≡ sign_behind ts u → Exact a (t ∷ ts) u N Q r → Tells (feed_sign a t at n r) N (λ d. Exact a ts u N Q d)
+exact_first a t u at n ts r N Q e h = subst (λ (z : Sign). Tells (feed_sign a t at (lexeme z n.from n.until) r) N (λ d. Exact a ts u N Q d)) (sym e) (h at n.from n.until)
+
+-- the tokens are read as far as l, and lead to such a reader
+abbrev pub Runs : {R : Type 0} → Automaton R → Result R TextFault → List Lexeme → Lexeme → (R → Type 0) → Type 0
+Runs {R} a x ls l Q = (d : R) × (Q d × (read_all a x ls ≡ Ok (record { reader = d; until = l.from })))
+
+on_fed : {R : Type 0} (a : Automaton R) (x : Result R TextFault) (ls : List Lexeme) (l : Lexeme) (N : Type 0) (P Q : R → Type 0) → (N → ⊥) → Tells x N P → ((d : R) → P d → Runs a (Ok d) ls l Q) → Runs a x ls l Q
+on_fed a (Ok d) ls l N P Q never h k = k d h
+on_fed a (Err e) ls l N P Q never h k = absurd (never h)
+
+-- `over` says that a reader that has read all takes no token
+pub runs : {R : Type 0} (a : Automaton R) (over : (t : Sign) (at : ℕ) (n : Lexeme) (r : R) (N : Type 0) (Q : R → Type 0) → a.is_read r ≡ true → Tells (feed_sign a t at n r) N Q → N) (xs : List Lexeme) (l : Lexeme) (others : List Lexeme) (r : R) (N : Type 0) (Q : R → Type 0)
+    → (N → ⊥) → ((d : R) → Q d → a.is_read d ≡ true) → Exact a (signs_of xs) l.sign N Q r → Runs a (Ok r) (xs ++ l ∷ others) l Q
+runs a over [] l others r N Q never q h = (r, (h, ap (λ z. if z then Ok (record { reader = r; until = l.from }) else read_all a (feed_sign a l.sign l.from (next_lexeme_of l others) r) others) (q r h)))
+runs a over (x ∷ xs) l others r N Q never q h =
+    let n : Lexeme = next_lexeme_of x (xs ++ l ∷ others) in
+    let told : Tells (feed_sign a x.sign x.from n r) N (λ d. Exact a (signs_of xs) l.sign N Q d) = exact_first a x.sign l.sign x.from n (signs_of xs) r N Q (next_sign x xs l others) h in
+    elim (true_or_false (a.is_read r)) [
+      | inl e ↦ absurd (never (over x.sign x.from n r N (λ d. Exact a (signs_of xs) l.sign N Q d) e told))
+      | inr e ↦ (let g = on_fed a (feed_sign a x.sign x.from n r) (xs ++ l ∷ others) l N (λ d. Exact a (signs_of xs) l.sign N Q d) Q never told (λ d k. runs a over xs l others d N Q never q k) in
+          (g.0, (g.1.0, ap (λ z. if z then Ok (record { reader = r; until = x.from }) else read_all a (feed_sign a x.sign x.from n r) (xs ++ l ∷ others)) e ∙ g.1.1)))
+    ]

@@ -9,3 +9,4 @@ pub mod Written
 pub mod Leading
 pub mod Standing
 pub mod Judging
+pub mod Keeping

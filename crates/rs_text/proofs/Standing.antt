@@ -1,7 +1,7 @@
 -- A loop that feeds a reader token after token reads what the tokens of the text lead the reader to.
-use Rattle.std.proofs.Common.{◌≡◌, ℕ, ◌+◌, ◌-◌, ◌<◌, ◌≤◌, List, [], ◌∷◌, length, Bool, true, false, Result, Ok, Err, refl, sym, ap, ◌∙◌, subst, arith, cond}
+use Rattle.std.proofs.Common.{◌≡◌, ℕ, ◌+◌, ◌-◌, ◌<◌, ◌≤◌, List, [], ◌∷◌, length, Bool, true, false, Ok, Err, refl, sym, ap, ◌∙◌, subst, arith, cond}
 use Rattle.std.specs.Str.{bytes_eq}
-use Rattle.std.specs.Prelude.{codes, IfErr}
+use Rattle.std.specs.Prelude.{codes}
 use Rattle.rs_text.specs.declared.tokens.Kind.{Kind}
 use Rattle.rs_text.specs.declared.tokens.Kind.TheVariants as kind
 use Rattle.rs_text.specs.declared.tokens.Token.{Token}
@@ -11,8 +11,8 @@ use Rattle.rs_text.specs.declared.reading.Stop.{Stop}
 use Rattle.rs_text.specs.declared.reading.Stop.TheVariants as stops
 use Rattle.rs_text.specs.Faults.{kind_of}
 use Rattle.rs_text.specs.Lexemes.{Lexeme, Lexed, next_lexeme, lexeme_of, broken_at, sign_of, text_of, is_last}
-use Rattle.rs_text.specs.Readings.{Automaton, Reading, feed_sign, next_lexeme_of, read_all, last_of, ReadsBy, StopsBy, RefusedBy, Fails}
-use Rattle.rs_text.specs.Signs.{Sign, finish, broken, rec_word, end_word, plain}
+use Rattle.rs_text.specs.Readings.{Automaton, feed_sign, next_lexeme_of, read_all, last_of, ReadsBy, StopsBy, RefusedBy, Fails}
+use Rattle.rs_text.specs.Signs.{finish, rec_word, end_word, plain}
 use Rattle.rs_text.specs.Tokens.{IsNext}
 use Rattle.rs_text.specs.Data.{Lexer_data}
 use Rattle.rs_text.proofs.Nexts.{next_is_next, within, takes_up}

@@ -51,6 +51,18 @@ impl<'a> Lexer<'a> {
         self.at = token.until;
         Ok(token)
     }
+
+    /// The offset of the next token, or of the faulty one there.
+    #[tactic(auto, using(crate::proofs::Standing::from_within))]
+    pub fn next_offset(&self) -> usize
+        ensures offset { result ≡ (next_lexeme self.now.bytes self.now.at).from }
+        ensures within { result ≤ length self.now.bytes }
+    {
+        match next_token(self.bytes, self.at) {
+            Ok(token) => token.from,
+            Err(fault) => fault.at,
+        }
+    }
 }
 
 fn next_token(bytes: &[u8], at: usize) -> Result<Token, Fault>

@@ -1,6 +1,6 @@
 use Rattle.std.proofs.lemmas.Bool.{ltb-false}
 use Rattle.rs_model.specs.declared.graph.Node.{Node}
-use Rattle.std.proofs.Common.{◌≡◌, ◌≤◌, List, subst, ◌-◌, length, Some, None, true, false, sym, ap, ◌∙◌, slice_get}
+use Rattle.std.proofs.Common.{◌≡◌, ◌≤◌, List, subst, ◌-◌, length, Some, sym, ap, ◌∙◌, slice_get}
 use Rattle.std.proofs.lemmas.Option.{slice_get-get_or}
 use Rattle.rs_global.specs.Shapes.{talk_met, visited}
 use Rattle.rs_global.proofs.ShapeSteps.{visited_step, visited_past}

@@ -1,4 +1,4 @@
-use Rattle.std.proofs.Common.{◌≡◌, ◌+◌, suc, ◌≤◌, ℕ, sym, ap, ◌∙◌, subst, arith}
+use Rattle.std.proofs.Common.{◌≡◌, ◌+◌, ◌≤◌, ℕ, ap, ◌∙◌, subst, arith}
 use Rattle.rs_global.specs.Shapes.{last_of, met, visited, begin}
 use Rattle.rs_global.proofs.ShapeSteps.{shaped_is}
 use Rattle.rs_global.proofs.shapes.is_shaped.Goals as goal

@@ -1,21 +1,33 @@
-use Rattle.std.proofs.Common.{rules}
+use Rattle.std.proofs.Common.{rules, ◌≡◌, refl, sym, ap}
 use Rattle.rs_machines.proofs.Sounding.{good_first, good_fed, good_keeps, good_sound, same_keeps, same_sound}
-use Rattle.rs_machines.proofs.Standing.{starts_at, shrinks, goes_on, fails_in, breaks_in, ends_in}
+use Rattle.rs_machines.specs.Feeding.{feeding, Leaves}
+use Rattle.rs_machines.proofs.FirstFaults.{at_end}
+use Rattle.rs_machines.proofs.Refusals.{labels_left}
+use Rattle.rs_text.proofs.Standing.{starts_at, shrinks, goes_on, fails_in, breaks_in, ends_in}
 use Rattle.rs_machines.proofs.machines.read.Goals as goal
+use Rattle.rs_text.specs.Faults.{kind_of}
+use Rattle.rs_text.specs.declared.reading.Stop.{Stop}
+use Rattle.rs_text.specs.declared.reading.Stop.TheVariants as stops
 
 pub loop-lexer-init : goal.loop-lexer-init
-loop-lexer-init c = (search rules, (search rules, (starts_at c.args.reader.now c.args.bytes.now c.args.at c.new-lexer.result.at (search rules), good_first c.args.reader.now c.requires.sound)))
+loop-lexer-init c = (search rules, (search rules, (starts_at feeding c.args.reader.now c.args.reader.now c.args.bytes.now c.args.at c.new-lexer.result.at (search rules) refl, good_first c.args.reader.now c.requires.sound)))
 
 pub loop-lexer-smaller : goal.loop-lexer-smaller
-loop-lexer-smaller c = shrinks c.args.bytes.now c.loop-lexer.lexer c.next.new.self c.in_ok-token.token c.loop-lexer.reader c.feed.new.self c.loop-lexer.invariant.0 c.in_ok-token.ensures.moved c.in_ok-token.ensures.token c.in_ok-token.ensures.ahead c.in_ok-token.ensures.within c.in_ok-feed.ensures.ok
+loop-lexer-smaller c = shrinks at_end c.args.bytes.now c.loop-lexer.lexer c.next.new.self c.in_ok-token.token c.loop-lexer.reader c.feed.new.self c.loop-lexer.invariant.0 c.in_ok-token.ensures.moved c.in_ok-token.ensures.token c.in_ok-token.ensures.ahead c.in_ok-token.ensures.within c.in_ok-feed.ensures.ok
 
 pub loop-lexer-preserved : goal.loop-lexer-preserved
 loop-lexer-preserved c =
-    let on = goes_on c.args.reader.now c.args.bytes.now c.args.at c.loop-lexer.lexer c.next.new.self c.in_ok-token.token c.loop-lexer.reader c.feed.new.self c.loop-lexer.invariant.0 c.loop-lexer.invariant.1.1.0 c.in_ok-token.ensures.moved c.in_ok-token.ensures.token c.in_ok-token.ensures.within (search rules) c.in_ok-feed.ensures.ok in
+    let on = goes_on at_end c.args.reader.now c.args.bytes.now c.args.at c.loop-lexer.lexer c.next.new.self c.in_ok-token.token c.loop-lexer.reader c.feed.new.self c.loop-lexer.invariant.0 c.loop-lexer.invariant.1.1.0 c.in_ok-token.ensures.moved c.in_ok-token.ensures.token c.in_ok-token.ensures.within (search rules) c.in_ok-feed.ensures.ok in
     (on.0, (on.1.0, (on.1.1, good_fed c.args.reader.now c.args.bytes.now c.loop-lexer.lexer c.in_ok-token.token c.loop-lexer.reader c.feed.new.self c.loop-lexer.invariant.0 c.in_ok-token.ensures.token c.in_ok-feed.ensures.ok c.loop-lexer.invariant.1.1.1)))
 
 pub returns-in_err-token-clause-err : goal.returns-in_err-token-clause-err
-returns-in_err-token-clause-err c = search (breaks_in c.args.reader.now c.args.bytes.now c.args.at c.loop-lexer.lexer c.in_err-token.field-0.0 c.loop-lexer.reader c.loop-lexer.invariant.0 c.loop-lexer.invariant.1.1.0 c.in_err-token.ensures.fault (search rules), rules)
+returns-in_err-token-clause-err c = search (breaks_in feeding c.args.reader.now c.args.bytes.now c.args.at c.loop-lexer.lexer c.in_err-token.field-0.0 c.loop-lexer.reader c.loop-lexer.invariant.0 c.loop-lexer.invariant.1.1.0 c.in_err-token.ensures.fault (search rules), rules)
+
+pub returns-in_err-token-clause-left : goal.returns-in_err-token-clause-left
+returns-in_err-token-clause-left c =
+    let left : (s : Stop) → s ≡ stops.Fault (record { kind = kind_of c.in_err-token.field-0.0.kind; at = c.in_err-token.field-0.0.at }) → Leaves s c.args.reader.now c.args.bytes.now c.args.at c.loop-lexer.reader.labels = λ s k.
+    labels_left s c.args.reader.now c.loop-lexer.reader c.args.bytes.now c.args.at c.loop-lexer.reader.labels (breaks_in feeding c.args.reader.now c.args.bytes.now c.args.at c.loop-lexer.lexer c.in_err-token.field-0.0 c.loop-lexer.reader c.loop-lexer.invariant.0 c.loop-lexer.invariant.1.1.0 c.in_err-token.ensures.fault (search rules) s k).1 refl in
+    search (left, rules)
 
 pub returns-in_err-token-clause-sound : goal.returns-in_err-token-clause-sound
 returns-in_err-token-clause-sound c = good_sound _ c.loop-lexer.reader c.requires.sound c.loop-lexer.invariant.1.1.1
@@ -24,7 +36,12 @@ pub returns-in_err-token-clause-kept : goal.returns-in_err-token-clause-kept
 returns-in_err-token-clause-kept c = good_keeps _ c.loop-lexer.reader c.loop-lexer.invariant.1.1.1
 
 pub returns-in_err-feed-clause-err : goal.returns-in_err-feed-clause-err
-returns-in_err-feed-clause-err c = search (fails_in c.args.reader.now c.args.bytes.now c.args.at c.loop-lexer.lexer c.in_ok-token.token c.loop-lexer.reader c.feed.new.self c.in_err-feed.field-0.0 c.loop-lexer.invariant.0 c.loop-lexer.invariant.1.1.0 c.in_ok-token.ensures.token (search rules) c.in_err-feed.ensures.err c.in_err-feed.ensures.kept, rules)
+returns-in_err-feed-clause-err c = search ((fails_in at_end c.args.reader.now c.args.bytes.now c.args.at c.loop-lexer.lexer c.in_ok-token.token c.loop-lexer.reader c.in_err-feed.field-0.0 c.loop-lexer.invariant.0 c.loop-lexer.invariant.1.1.0 c.in_ok-token.ensures.token (search rules) c.in_err-feed.ensures.err).0, rules)
+
+pub returns-in_err-feed-clause-left : goal.returns-in_err-feed-clause-left
+returns-in_err-feed-clause-left c =
+    let fails = fails_in at_end c.args.reader.now c.args.bytes.now c.args.at c.loop-lexer.lexer c.in_ok-token.token c.loop-lexer.reader c.in_err-feed.field-0.0 c.loop-lexer.invariant.0 c.loop-lexer.invariant.1.1.0 c.in_ok-token.ensures.token (search rules) c.in_err-feed.ensures.err in
+    search (labels_left c.in_err-feed.field-0.0 c.args.reader.now c.loop-lexer.reader c.args.bytes.now c.args.at c.feed.new.self.labels fails.1 (sym (ap (λ z. z.labels) c.in_err-feed.ensures.kept)), rules)
 
 pub returns-in_err-feed-clause-sound : goal.returns-in_err-feed-clause-sound
 returns-in_err-feed-clause-sound c = same_sound c.loop-lexer.reader c.feed.new.self c.in_err-feed.ensures.kept (good_sound _ c.loop-lexer.reader c.requires.sound c.loop-lexer.invariant.1.1.1)
@@ -33,7 +50,7 @@ pub returns-in_err-feed-clause-kept : goal.returns-in_err-feed-clause-kept
 returns-in_err-feed-clause-kept c = same_keeps _ c.loop-lexer.reader c.feed.new.self c.in_err-feed.ensures.kept (good_keeps _ c.loop-lexer.reader c.loop-lexer.invariant.1.1.1)
 
 pub returns-clause-ok : goal.returns-clause-ok
-returns-clause-ok c = ends_in c.args.reader.now c.args.bytes.now c.args.at c.loop-lexer.lexer c.loop-lexer.reader c.behind.result c.loop-lexer.invariant.0 c.loop-lexer.invariant.1.1.0 (search rules) c.behind.ensures.offset
+returns-clause-ok c = ends_in feeding c.args.reader.now c.args.bytes.now c.args.at c.loop-lexer.lexer c.loop-lexer.reader c.next_offset.result c.loop-lexer.invariant.0 c.loop-lexer.invariant.1.1.0 (search rules) c.next_offset.ensures.offset
 
 pub returns-clause-sound : goal.returns-clause-sound
 returns-clause-sound c = good_sound _ c.loop-lexer.reader c.requires.sound c.loop-lexer.invariant.1.1.1

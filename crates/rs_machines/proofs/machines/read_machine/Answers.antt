@@ -1,10 +1,13 @@
-use Rattle.std.proofs.Common.{rules, ◌≡◌, ap}
+use Rattle.std.proofs.Common.{rules, ◌≡◌, ap, subst}
 use Rattle.rs_machines.specs.Drafts.{names_read}
-use Rattle.rs_machines.specs.Feeding.{begin}
-use Rattle.rs_machines.proofs.Placing.{told_within}
-use Rattle.rs_machines.proofs.Refusals.{begins_with, left, refused}
+use Rattle.rs_machines.specs.Feeding.{begin, feeding}
+use Rattle.rs_machines.proofs.Refusals.{begins_with, left}
 use Rattle.rs_machines.proofs.SpeltLaws.{reads_spelt}
 use Rattle.rs_machines.proofs.machines.read_machine.Goals as goal
+use Rattle.rs_text.proofs.Keeping.{told_within, refused}
+use Rattle.rs_machines.proofs.OneFault.{judges, begins}
+use Rattle.rs_machines.proofs.Placing.{stays_below}
+use Rattle.rs_text.specs.Readings.{StopsBy}
 
 pub returns-in-Ok-clause-ok : goal.returns-in-Ok-clause-ok
 returns-in-Ok-clause-ok c =
@@ -14,12 +17,12 @@ returns-in-Ok-clause-ok c =
 pub returns-clause-err : goal.returns-clause-err
 returns-clause-err c =
     let first : c.new-reader.result ≡ begin c.args.names.now = begins_with c.new-reader.result c.args.names.now _ _ c.new-reader.ensures (search rules) (search rules) in
-    refused c.in-Err.stop c.args.names.now c.new-reader.result c.args.bytes.now c.args.at _ c.told.result c.told.ensures first c.requires.at c.in-Err.ensures.err
+    refused (judges c.args.names.now) (begin c.args.names.now) (begins c.args.names.now) c.in-Err.stop c.args.bytes.now c.args.at c.told.result c.told.ensures c.requires.at (subst (λ z. StopsBy feeding c.in-Err.stop z c.args.bytes.now c.args.at) first c.in-Err.ensures.err)
 
 pub returns-clause-left : goal.returns-clause-left
 returns-clause-left c =
     let first : c.new-reader.result ≡ begin c.args.names.now = begins_with c.new-reader.result c.args.names.now _ _ c.new-reader.ensures (search rules) (search rules) in
-    left c.in-Err.stop c.args.names.now _ c.new-reader.result c.args.bytes.now c.args.at _ c.told.result c.told.ensures first c.requires.at c.in-Err.ensures.err (search rules) (search rules)
+    left c.in-Err.stop c.args.names.now _ c.new-reader.result c.args.bytes.now c.args.at _ c.told.result c.told.ensures first c.requires.at c.in-Err.ensures.err c.in-Err.ensures.left (search rules) (search rules)
 
 pub returns-clause-place : goal.returns-clause-place
-returns-clause-place c = told_within c.in-Err.stop c.new-reader.result c.args.bytes.now c.args.at _ c.told.result c.told.ensures c.requires.at c.in-Err.ensures.err
+returns-clause-place c = told_within feeding stays_below c.in-Err.stop c.new-reader.result c.args.bytes.now c.args.at c.told.result c.told.ensures c.requires.at c.in-Err.ensures.err
