@@ -3,10 +3,11 @@ use Rattle.std.specs.Prelude.{ℕ, ◌<◌, ◌≤◌, List, length, map, eqb}
 use Rattle.std.specs.List.{All, flat_map}
 use Rattle.std.specs.Set.{distinct_count}
 use Rattle.rs_model.specs.Data.{Names_data}
-use Rattle.rs_model.specs.declared.limits.TheConstants.{MOST_LABELS}
+use Rattle.rs_model.specs.declared.limits.TheConstants.{MOST_LABELS, MOST_CANDIDATES}
 use Rattle.rs_model.specs.declared.machines.Act.{Act}
 use Rattle.rs_model.specs.declared.machines.Act.TheVariants.{Puts, Takes}
 use Rattle.rs_derive.specs.Data.{Derivation_data}
+use Rattle.rs_derivations.specs.Spells.{IsBound}
 
 -- the number of the peer
 abbrev pub peer_of : Act → ℕ
@@ -34,3 +35,12 @@ LabelsHaveNames names d = All (λ a. label_of a < length names.labels) (acts_of 
 -- there are at most 256 different labels
 abbrev pub HasFewLabels : Derivation_data → Type 0
 HasFewLabels d = distinct_count eqb (map label_of (acts_of d)) ≤ MOST_LABELS
+
+-- all that a text needs
+pub record IsPrintable (names : Names_data) (d : Derivation_data) : Type 0 where
+  pub roles : RolesHaveNames names d
+  pub labels : LabelsHaveNames names d
+  pub few_labels : HasFewLabels d
+  pub bound : IsBound d.bound
+  pub some : 1 ≤ length d.nodes
+  pub nodes : length d.nodes ≤ MOST_CANDIDATES

@@ -48,7 +48,7 @@ number_signs n = number n ∷ []
 abbrev pub numbers_signs : List ℕ → List Sign
 numbers_signs numbers = separated (comma ∷ []) number_signs numbers
 
--- what stands behind the pending acts of a node
+-- behind the pending acts of a node: "]" NUM "rank" NUM "next" "[" numbers "]"
 abbrev pub rest_signs : NodeTree → List Sign
 rest_signs t = close_bracket ∷ number t.above ∷ plain (codes "rank") ∷ number t.rank ∷ plain (codes "next") ∷ open_bracket ∷ (numbers_signs t.next ++ close_bracket ∷ [])
 
@@ -61,6 +61,10 @@ abbrev pub nodes_signs : ℕ → List NodeTree → List Sign
 nodes_signs n [] = []
 nodes_signs n (t ∷ ts) = node_signs n t ++ nodes_signs (suc n) ts
 
--- "derivation" ROLE "bound" NUM "{" nodes "}"
+-- "derivation" ROLE "bound" NUM "{"
+abbrev pub head_signs : List ℕ → ℕ → List Sign
+head_signs role bound = plain (codes "derivation") ∷ plain role ∷ plain (codes "bound") ∷ number bound ∷ open_brace ∷ []
+
+-- the head, the nodes and "}"
 abbrev pub derivation_signs : DerivationTree → List Sign
-derivation_signs t = plain (codes "derivation") ∷ plain t.role ∷ plain (codes "bound") ∷ number t.bound ∷ open_brace ∷ (nodes_signs 0 t.nodes ++ close_brace ∷ [])
+derivation_signs t = head_signs t.role t.bound ++ (nodes_signs 0 t.nodes ++ close_brace ∷ [])

@@ -33,17 +33,6 @@ pub fn print_derivation(
     requires nodes { (1 ≤ length derivation.now.nodes) × (length derivation.now.nodes ≤ MOST_CANDIDATES) }
     ensures canonical { IfOk result (λ text. text ≡ canonical_text names.now derivation.now) }
 {
-    whole_text(alloc, names, derivation)
-}
-
-/// The text, where names that are missing are written as nothing.
-pub(crate) fn whole_text(
-    alloc: Global,
-    names: &Names,
-    derivation: &Derivation,
-) -> Result<Text, NoMemory>
-    ensures { IfOk result (λ text. text ≡ canonical_text names.now derivation.now) }
-{
     let mut text = Text::new(alloc);
     push_head(&mut text, names, derivation.role, derivation.bound)?;
     push_nodes(&mut text, names, derivation.nodes.as_slice())?;
