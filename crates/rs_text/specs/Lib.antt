@@ -9,6 +9,7 @@ pub mod Names
 pub mod Sound
 pub mod Faults
 pub mod Arms
+pub mod Shown
 pub mod Seen
 pub mod FirstFaults
 pub mod Readings

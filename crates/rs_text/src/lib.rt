@@ -10,6 +10,7 @@ mod output;
 mod places;
 mod reading;
 pub mod seen;
+pub mod shown;
 #[cfg(test)]
 mod tests;
 mod tokens;

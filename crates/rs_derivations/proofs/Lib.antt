@@ -1,0 +1,11 @@
+pub mod Joins
+pub mod Grows
+pub mod Paths
+pub mod Changes
+pub mod Fitting
+pub mod Standings
+pub mod Judged
+pub mod Placing
+pub mod Sounding
+pub mod Writable
+pub mod Spelt

@@ -1,0 +1,145 @@
+-- Faults stand at the token that is read.
+use Rattle.std.proofs.Common.{◌≡◌, ℕ, ◌≤◌, List, length, Bool, true, false, ◌==◌, ◌&&◌, nat_le, if◌then◌else◌, Option, Some, None, Result, Ok, Err}
+use Rattle.std.specs.Prelude.{IfErr, IfOk}
+use Rattle.rs_model.specs.declared.graph.Label.{Label}
+use Rattle.rs_model.specs.declared.graph.Role.{Role}
+use Rattle.rs_model.specs.declared.limits.TheConstants.{MOST_LABELS, MOST_CANDIDATES}
+use Rattle.rs_model.specs.declared.values.Sort.{Sort}
+use Rattle.rs_prefix.specs.declared.earliest.Kind.{Kind}
+use Rattle.rs_text.specs.declared.faults.TextFault.{TextFault}
+use Rattle.rs_text.specs.declared.faults.TextKind.{TextKind}
+use Rattle.rs_text.specs.declared.faults.TextKind.TheVariants as kind
+use Rattle.rs_text.specs.declared.faults.Wanted.{Wanted}
+use Rattle.rs_text.specs.Lexemes.{Lexeme}
+use Rattle.rs_text.specs.Names.{place_of}
+use Rattle.rs_text.specs.Readings.{fault, expected, feed_sign}
+use Rattle.rs_text.specs.Seen.{plain_text, word_text, sort_named}
+use Rattle.rs_text.specs.Signs.{Sign, broken}
+use Rattle.rs_text.proofs.Keeping.{StaysBelow, Below}
+use Rattle.rs_derivations.specs.declared.reading.Mode.{Mode}
+use Rattle.rs_derivations.specs.declared.reading.Mode.TheVariants as mode
+use Rattle.rs_derivations.specs.Data.{Reader_data}
+use Rattle.rs_derivations.specs.Faults.{number_value}
+use Rattle.rs_derivations.specs.Feeding.{Fed, in_mode, passes, played_by, feed_role, feed_bound, feed_node, feed_state, met_by, feed_act, feed_mark, labelled_by, feed_label, pended, sorted_by, feed_sort, feed_close_paren, feed_behind_act, feed_above, feed_rank, ended, feed_next, feed_behind_next, feed_rest, feed_at, feeding, is_bound, is_some_of, is_none_of, is_comma, is_close_bracket, is_close_brace, is_close_paren, mark_kind}
+
+-- the fault stands there
+abbrev Stays : ℕ → Fed → Type 0
+Stays n x = IfErr x (Below n)
+
+either : (n : ℕ) (b : Bool) (x y : Fed) → Stays n x → Stays n y → Stays n (if b then x else y)
+either n true x y h k = h
+either n false x y h k = k
+
+passed : (n : ℕ) (b : Bool) (w : Wanted) (m : Mode) (at : ℕ) (r : Reader_data) → at ≤ n → Stays n (passes b w m at r)
+passed n true w m at r h = tt
+passed n false w m at r h = h
+
+played : (n : ℕ) (o : Option ℕ) (at : ℕ) (r : Reader_data) → at ≤ n → Stays n (played_by o at r)
+played n None at r h = h
+played n (Some k) at r h = tt
+
+role : (n : ℕ) (o : Option (List ℕ)) (at : ℕ) (r : Reader_data) → at ≤ n → Stays n (feed_role o at r)
+role n None at r h = h
+role n (Some w) at r h = played n (place_of w r.roles) at r h
+
+bound : (n : ℕ) (o : Option ℕ) (at : ℕ) (r : Reader_data) → at ≤ n → Stays n (feed_bound o at r)
+bound n None at r h = h
+bound n (Some k) at r h = either n (is_bound k) (Ok (record r { bound = k; mode = mode.AtBrace })) (expected _ at) tt h
+
+node : (n : ℕ) (o : Option ℕ) (c : Bool) (at : ℕ) (r : Reader_data) → at ≤ n → Stays n (feed_node o c at r)
+node n None c at r h = passed n (c && is_some_of r.nodes) _ mode.Behind at r h
+node n (Some k) c at r h = either n (k == length r.nodes) (if nat_le MOST_CANDIDATES (length r.nodes) then fault kind.TooManyNodes at else in_mode mode.AtColon r) (expected _ at)
+    (either n (nat_le MOST_CANDIDATES (length r.nodes)) (fault kind.TooManyNodes at) (in_mode mode.AtColon r) h tt) h
+
+state : (n : ℕ) (o : Option ℕ) (at : ℕ) (r : Reader_data) → at ≤ n → Stays n (feed_state o at r)
+state n None at r h = h
+state n (Some k) at r h = tt
+
+met : (n : ℕ) (o : Option ℕ) (at : ℕ) (r : Reader_data) → at ≤ n → Stays n (met_by o at r)
+met n None at r h = h
+met n (Some k) at r h = tt
+
+act : (n : ℕ) (o : Option (List ℕ)) (c : Bool) (at : ℕ) (r : Reader_data) → at ≤ n → Stays n (feed_act o c at r)
+act n None c at r h = passed n (c && is_none_of r.node.pending) _ mode.AtAbove at r h
+act n (Some w) c at r h = met n (place_of w r.roles) at r h
+
+mark : (n : ℕ) (p : Role) (o : Option Kind) (at : ℕ) (r : Reader_data) → at ≤ n → Stays n (feed_mark p o at r)
+mark n p None at r h = h
+mark n p (Some k) at r h = tt
+
+labelled : (n : ℕ) (o : Option ℕ) (p : Role) (m : Kind) (w : List ℕ) (at : ℕ) (r : Reader_data) → at ≤ n → Stays n (labelled_by o p m w at r)
+labelled n (Some k) p m w at r h = tt
+labelled n None p m w at r h = either n (nat_le MOST_LABELS (length r.labels)) (fault kind.TooManyLabels at) (Ok _) h tt
+
+label : (n : ℕ) (p : Role) (m : Kind) (o : Option (List ℕ)) (at : ℕ) (r : Reader_data) → at ≤ n → Stays n (feed_label p m o at r)
+label n p m None at r h = h
+label n p m (Some w) at r h = labelled n (place_of w r.labels) p m w at r h
+
+sorted : (n : ℕ) (o : Option Sort) (p : Role) (m : Kind) (l : Label) (at : ℕ) (r : Reader_data) → at ≤ n → Stays n (sorted_by o p m l at r)
+sorted n None p m l at r h = h
+sorted n (Some s) p m l at r h = tt
+
+sort : (n : ℕ) (p : Role) (m : Kind) (l : Label) (o : Option (List ℕ)) (c : Bool) (at : ℕ) (r : Reader_data) → at ≤ n → Stays n (feed_sort p m l o c at r)
+sort n p m l (Some w) c at r h = sorted n (sort_named w) p m l at r h
+sort n p m l None true at r h = tt
+sort n p m l None false at r h = h
+
+close : (n : ℕ) (p : Role) (m : Kind) (l : Label) (s : Sort) (c : Bool) (at : ℕ) (r : Reader_data) → at ≤ n → Stays n (feed_close_paren p m l s c at r)
+close n p m l s true at r h = tt
+close n p m l s false at r h = h
+
+behind_act : (n : ℕ) (g c : Bool) (at : ℕ) (r : Reader_data) → at ≤ n → Stays n (feed_behind_act g c at r)
+behind_act n true c at r h = tt
+behind_act n false true at r h = tt
+behind_act n false false at r h = h
+
+above : (n : ℕ) (o : Option ℕ) (at : ℕ) (r : Reader_data) → at ≤ n → Stays n (feed_above o at r)
+above n None at r h = h
+above n (Some k) at r h = tt
+
+rank : (n : ℕ) (o : Option ℕ) (at : ℕ) (r : Reader_data) → at ≤ n → Stays n (feed_rank o at r)
+rank n None at r h = h
+rank n (Some k) at r h = tt
+
+next : (n : ℕ) (o : Option ℕ) (c : Bool) (at : ℕ) (r : Reader_data) → at ≤ n → Stays n (feed_next o c at r)
+next n (Some k) c at r h = tt
+next n None c at r h = either n (c && is_none_of r.node.next) (ended r) (expected _ at) tt h
+
+behind_next : (n : ℕ) (g c : Bool) (at : ℕ) (r : Reader_data) → at ≤ n → Stays n (feed_behind_next g c at r)
+behind_next n true c at r h = tt
+behind_next n false true at r h = tt
+behind_next n false false at r h = h
+
+rest : (n : ℕ) (m : Mode) (t : Sign) (at : ℕ) (r : Reader_data) → at ≤ n → Stays n (feed_rest m t at r)
+rest n mode.BehindAct t at r h = behind_act n (is_comma t) (is_close_bracket t) at r h
+rest n mode.AtAbove t at r h = above n (number_value t) at r h
+rest n mode.AtRankWord t at r h = passed n _ _ mode.AtRank at r h
+rest n mode.AtRank t at r h = rank n (number_value t) at r h
+rest n mode.AtNextWord t at r h = passed n _ _ mode.AtNexts at r h
+rest n mode.AtNexts t at r h = passed n _ _ mode.AtNext at r h
+rest n mode.AtNext t at r h = next n (number_value t) (is_close_bracket t) at r h
+rest n mode.BehindNext t at r h = behind_next n (is_comma t) (is_close_bracket t) at r h
+rest n _ t at r h = h
+
+fed : (n : ℕ) (m : Mode) (t : Sign) (at : ℕ) (r : Reader_data) → at ≤ n → Stays n (feed_at m t at r)
+fed n mode.Derivation t at r h = passed n _ _ mode.AtRole at r h
+fed n mode.AtRole t at r h = role n (plain_text t) at r h
+fed n mode.AtBoundWord t at r h = passed n _ _ mode.AtBound at r h
+fed n mode.AtBound t at r h = bound n (number_value t) at r h
+fed n mode.AtBrace t at r h = passed n _ _ mode.AtNode at r h
+fed n mode.AtNode t at r h = node n (number_value t) (is_close_brace t) at r h
+fed n mode.AtColon t at r h = passed n _ _ mode.AtState at r h
+fed n mode.AtState t at r h = state n (number_value t) at r h
+fed n mode.AtActs t at r h = passed n _ _ mode.AtAct at r h
+fed n mode.AtAct t at r h = act n (plain_text t) (is_close_bracket t) at r h
+fed n (mode.AtMark p) t at r h = mark n p (mark_kind t) at r h
+fed n (mode.AtLabel p m) t at r h = label n p m (word_text t) at r h
+fed n (mode.AtParen p m l) t at r h = passed n _ _ (mode.AtSort p m l) at r h
+fed n (mode.AtSort p m l) t at r h = sort n p m l (plain_text t) (is_close_paren t) at r h
+fed n (mode.CloseParen p m l s) t at r h = close n p m l s (is_close_paren t) at r h
+fed n m t at r h = rest n m t at r h
+
+-- no fault stands further on
+pub stays_below : StaysBelow feeding
+stays_below n (broken k) at next r h k' = h
+stays_below n t at next r h k = fed n r.mode t at r h

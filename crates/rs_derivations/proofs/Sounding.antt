@@ -1,0 +1,232 @@
+-- The names stay sound, and those that were there stay in their places.
+use Rattle.std.proofs.Common.{◌≡◌, ◌∙◌, ℕ, ◌≤◌, List, [], ◌∷◌, ◌++◌, append-nil, append_assoc, codes, length, Bool, true, false, ◌==◌, ◌&&◌, nat_le, if◌then◌else◌, Option, Some, None, Result, Ok, Err, IfOk, refl, sym, ap, subst}
+use Rattle.std.specs.List.{list_all}
+use Rattle.rs_model.specs.Data.{Names_data}
+use Rattle.rs_model.specs.declared.graph.Label.{Label}
+use Rattle.rs_model.specs.declared.graph.Role.{Role}
+use Rattle.rs_model.specs.declared.limits.TheConstants.{MOST_LABELS, MOST_CANDIDATES, MOST_NUMBER}
+use Rattle.rs_model.specs.declared.values.Sort.{Sort}
+use Rattle.rs_prefix.specs.declared.earliest.Kind.{Kind}
+use Rattle.rs_text.specs.declared.faults.TextFault.{TextFault}
+use Rattle.rs_text.specs.declared.faults.TextKind.TheVariants as kind
+use Rattle.rs_text.specs.declared.faults.Wanted.{Wanted}
+use Rattle.rs_text.specs.declared.tokens.Token.{Token}
+use Rattle.rs_text.specs.Data.{Lexer_data}
+use Rattle.rs_text.specs.Lexemes.{Lexeme, next_lexeme, lexeme_of, sign_of, text_of}
+use Rattle.rs_text.specs.Names.{place_of, is_among}
+use Rattle.rs_text.specs.Readings.{fault, expected}
+use Rattle.rs_text.specs.Seen.{plain_text, word_text, sort_named}
+use Rattle.rs_text.specs.Signs.{Sign, rec_word, end_word, plain, number}
+use Rattle.rs_text.specs.Sound.{differ, IsSound}
+use Rattle.rs_text.specs.Tokens.{IsNext}
+use Rattle.rs_text.specs.Words.{is_word, is_role_word}
+use Rattle.rs_text.proofs.Judging.{IsNamed}
+use Rattle.rs_text.proofs.Naming.{grown_differ, grown_all, not_among, decides_sound}
+use Rattle.rs_text.proofs.Nexts.{next_is_next, plain_law}
+use Rattle.rs_derivations.specs.declared.reading.Mode.{Mode}
+use Rattle.rs_derivations.specs.declared.reading.Mode.TheVariants as mode
+use Rattle.rs_derivations.specs.Data.{Reader_data}
+use Rattle.rs_derivations.specs.Faults.{Keeps, number_value}
+use Rattle.rs_derivations.specs.Feeding.{Fed, in_mode, passes, played_by, feed_role, feed_bound, feed_node, feed_state, met_by, feed_act, feed_mark, labelled_by, feed_label, pended, sorted_by, feed_sort, feed_close_paren, feed_behind_act, feed_above, feed_rank, ended, feed_next, feed_behind_next, feed_rest, feed_at, feed_of, names_read, is_bound, is_some_of, is_none_of, is_comma, is_close_bracket, is_close_brace, is_close_paren, mark_kind, IsSmall}
+
+-- names that are still sound, with further labels behind the old ones
+pub record GoodNames (old : Names_data) (roles labels : List (List ℕ)) : Type 0 where
+  pub roles_are : roles ≡ old.roles
+  pub later : List (List ℕ)
+  pub labels_are : labels ≡ old.labels ++ later
+  pub labels_differ : differ labels ≡ true
+  pub words : list_all is_word labels ≡ true
+
+abbrev pub Good : Names_data → Reader_data → Type 0
+Good old d = GoodNames old d.roles d.labels
+
+abbrev Stays : Names_data → Fed → Type 0
+Stays old x = IfOk x (Good old)
+
+new_differ : (names : List (List ℕ)) (w : List ℕ) → is_among w names ≡ false → differ names ≡ true → differ (names ++ w ∷ []) ≡ true
+new_differ names w e h = rw e at (grown_differ (w ∷ []) names h)
+
+new_all : (test : List ℕ → Bool) (names : List (List ℕ)) (w : List ℕ) → is_among w names ≡ false → list_all test names ≡ true → test w ≡ true → list_all test (names ++ w ∷ []) ≡ true
+new_all test names w e h k = rw e at (grown_all test (w ∷ []) names h (rw k refl))
+
+some_is : (x y : List ℕ) → Some x ≡ Some y → x ≡ y
+some_is x y h = cc
+
+and_split : (a b : Bool) → (a && b) ≡ true → (a ≡ true) × (b ≡ true)
+and_split true b h = (refl, h)
+and_split false b h = absurd (cc h)
+
+word_named : (t : Sign) → IsNamed t → (w : List ℕ) → word_text t ≡ Some w → is_word w ≡ true
+word_named rec_word n w h = subst (λ (z : List ℕ). is_word z ≡ true) (some_is (codes "rec") w h) refl
+word_named end_word n w h = subst (λ (z : List ℕ). is_word z ≡ true) (some_is (codes "end") w h) refl
+word_named (plain x) n w h = (and_split (is_word w) _ (n w (ap plain (some_is x w h)))).0
+word_named _ n w h = absurd (cc h)
+
+either : (old : Names_data) (b : Bool) (x y : Fed) → Stays old x → Stays old y → Stays old (if b then x else y)
+either old true x y h k = h
+either old false x y h k = k
+
+passed : (old : Names_data) (b : Bool) (w : Wanted) (m : Mode) (at : ℕ) (r : Reader_data) → Good old r → Stays old (passes b w m at r)
+passed old true w m at r h = h
+passed old false w m at r h = tt
+
+played : (old : Names_data) (o : Option ℕ) (at : ℕ) (r : Reader_data) → Good old r → Stays old (played_by o at r)
+played old None at r h = tt
+played old (Some k) at r h = h
+
+role : (old : Names_data) (o : Option (List ℕ)) (at : ℕ) (r : Reader_data) → Good old r → Stays old (feed_role o at r)
+role old None at r h = tt
+role old (Some w) at r h = played old (place_of w r.roles) at r h
+
+bound : (old : Names_data) (o : Option ℕ) (at : ℕ) (r : Reader_data) → Good old r → Stays old (feed_bound o at r)
+bound old None at r h = tt
+bound old (Some k) at r h = either old (is_bound k) (Ok (record r { bound = k; mode = mode.AtBrace })) (expected _ at) h tt
+
+node : (old : Names_data) (o : Option ℕ) (c : Bool) (at : ℕ) (r : Reader_data) → Good old r → Stays old (feed_node o c at r)
+node old None c at r h = passed old (c && is_some_of r.nodes) _ mode.Behind at r h
+node old (Some k) c at r h = either old (k == length r.nodes) (if nat_le MOST_CANDIDATES (length r.nodes) then fault kind.TooManyNodes at else in_mode mode.AtColon r) (expected _ at)
+    (either old (nat_le MOST_CANDIDATES (length r.nodes)) (fault kind.TooManyNodes at) (in_mode mode.AtColon r) tt h) tt
+
+state : (old : Names_data) (o : Option ℕ) (at : ℕ) (r : Reader_data) → Good old r → Stays old (feed_state o at r)
+state old None at r h = tt
+state old (Some k) at r h = h
+
+met : (old : Names_data) (o : Option ℕ) (at : ℕ) (r : Reader_data) → Good old r → Stays old (met_by o at r)
+met old None at r h = tt
+met old (Some k) at r h = h
+
+act : (old : Names_data) (o : Option (List ℕ)) (c : Bool) (at : ℕ) (r : Reader_data) → Good old r → Stays old (feed_act o c at r)
+act old None c at r h = passed old (c && is_none_of r.node.pending) _ mode.AtAbove at r h
+act old (Some w) c at r h = met old (place_of w r.roles) at r h
+
+mark : (old : Names_data) (p : Role) (o : Option Kind) (at : ℕ) (r : Reader_data) → Good old r → Stays old (feed_mark p o at r)
+mark old p None at r h = tt
+mark old p (Some k) at r h = h
+
+pushed : (c : Bool) (old : Names_data) (w : List ℕ) (at : ℕ) (r : Reader_data) (m : Mode) → is_among w r.labels ≡ false → is_word w ≡ true → Good old r → Stays old (if c then fault kind.TooManyLabels at else Ok (record r { labels = r.labels ++ w ∷ []; mode = m }))
+pushed true old w at r m e k h = tt
+pushed false old w at r m e k h = record {
+  roles_are = h.roles_are;
+  later = h.later ++ w ∷ [];
+  labels_are = ap (λ z. z ++ w ∷ []) h.labels_are ∙ append_assoc old.labels h.later (w ∷ []);
+  labels_differ = new_differ r.labels w e h.labels_differ;
+  words = new_all is_word r.labels w e h.words k;
+}
+
+labelled : (old : Names_data) (o : Option ℕ) (p : Role) (m : Kind) (w : List ℕ) (at : ℕ) (r : Reader_data) → place_of w r.labels ≡ o → is_word w ≡ true → Good old r → Stays old (labelled_by o p m w at r)
+labelled old (Some k) p m w at r e f h = h
+labelled old None p m w at r e f h = pushed (nat_le MOST_LABELS (length r.labels)) old w at r _ (not_among r.labels w 0 e) f h
+
+label : (old : Names_data) (p : Role) (m : Kind) (o : Option (List ℕ)) (at : ℕ) (r : Reader_data) → ((w : List ℕ) → o ≡ Some w → is_word w ≡ true) → Good old r → Stays old (feed_label p m o at r)
+label old p m None at r k h = tt
+label old p m (Some w) at r k h = labelled old (place_of w r.labels) p m w at r refl (k w refl) h
+
+sorted : (old : Names_data) (o : Option Sort) (p : Role) (m : Kind) (l : Label) (at : ℕ) (r : Reader_data) → Good old r → Stays old (sorted_by o p m l at r)
+sorted old None p m l at r h = tt
+sorted old (Some s) p m l at r h = h
+
+sort : (old : Names_data) (p : Role) (m : Kind) (l : Label) (o : Option (List ℕ)) (c : Bool) (at : ℕ) (r : Reader_data) → Good old r → Stays old (feed_sort p m l o c at r)
+sort old p m l (Some w) c at r h = sorted old (sort_named w) p m l at r h
+sort old p m l None true at r h = h
+sort old p m l None false at r h = tt
+
+close : (old : Names_data) (p : Role) (m : Kind) (l : Label) (s : Sort) (c : Bool) (at : ℕ) (r : Reader_data) → Good old r → Stays old (feed_close_paren p m l s c at r)
+close old p m l s true at r h = h
+close old p m l s false at r h = tt
+
+behind_act : (old : Names_data) (g c : Bool) (at : ℕ) (r : Reader_data) → Good old r → Stays old (feed_behind_act g c at r)
+behind_act old true c at r h = h
+behind_act old false true at r h = h
+behind_act old false false at r h = tt
+
+above : (old : Names_data) (o : Option ℕ) (at : ℕ) (r : Reader_data) → Good old r → Stays old (feed_above o at r)
+above old None at r h = tt
+above old (Some k) at r h = h
+
+rank : (old : Names_data) (o : Option ℕ) (at : ℕ) (r : Reader_data) → Good old r → Stays old (feed_rank o at r)
+rank old None at r h = tt
+rank old (Some k) at r h = h
+
+next : (old : Names_data) (o : Option ℕ) (c : Bool) (at : ℕ) (r : Reader_data) → Good old r → Stays old (feed_next o c at r)
+next old (Some k) c at r h = h
+next old None c at r h = either old (c && is_none_of r.node.next) (ended r) (expected _ at) h tt
+
+behind_next : (old : Names_data) (g c : Bool) (at : ℕ) (r : Reader_data) → Good old r → Stays old (feed_behind_next g c at r)
+behind_next old true c at r h = h
+behind_next old false true at r h = h
+behind_next old false false at r h = tt
+
+rest : (old : Names_data) (m : Mode) (t : Sign) (at : ℕ) (r : Reader_data) → Good old r → Stays old (feed_rest m t at r)
+rest old mode.BehindAct t at r h = behind_act old (is_comma t) (is_close_bracket t) at r h
+rest old mode.AtAbove t at r h = above old (number_value t) at r h
+rest old mode.AtRankWord t at r h = passed old _ _ mode.AtRank at r h
+rest old mode.AtRank t at r h = rank old (number_value t) at r h
+rest old mode.AtNextWord t at r h = passed old _ _ mode.AtNexts at r h
+rest old mode.AtNexts t at r h = passed old _ _ mode.AtNext at r h
+rest old mode.AtNext t at r h = next old (number_value t) (is_close_bracket t) at r h
+rest old mode.BehindNext t at r h = behind_next old (is_comma t) (is_close_bracket t) at r h
+rest old _ t at r h = tt
+
+fed : (old : Names_data) (m : Mode) (t : Sign) (at : ℕ) (r : Reader_data) → IsNamed t → Good old r → Stays old (feed_at m t at r)
+fed old mode.Derivation t at r n h = passed old _ _ mode.AtRole at r h
+fed old mode.AtRole t at r n h = role old (plain_text t) at r h
+fed old mode.AtBoundWord t at r n h = passed old _ _ mode.AtBound at r h
+fed old mode.AtBound t at r n h = bound old (number_value t) at r h
+fed old mode.AtBrace t at r n h = passed old _ _ mode.AtNode at r h
+fed old mode.AtNode t at r n h = node old (number_value t) (is_close_brace t) at r h
+fed old mode.AtColon t at r n h = passed old _ _ mode.AtState at r h
+fed old mode.AtState t at r n h = state old (number_value t) at r h
+fed old mode.AtActs t at r n h = passed old _ _ mode.AtAct at r h
+fed old mode.AtAct t at r n h = act old (plain_text t) (is_close_bracket t) at r h
+fed old (mode.AtMark p) t at r n h = mark old p (mark_kind t) at r h
+fed old (mode.AtLabel p m) t at r n h = label old p m (word_text t) at r (word_named t n) h
+fed old (mode.AtParen p m l) t at r n h = passed old _ _ (mode.AtSort p m l) at r h
+fed old (mode.AtSort p m l) t at r n h = sort old p m l (plain_text t) (is_close_paren t) at r h
+fed old (mode.CloseParen p m l s) t at r n h = close old p m l s (is_close_paren t) at r h
+fed old m t at r n h = rest old m t at r h
+
+if_ok : (x : Fed) (d : Reader_data) (Q : Reader_data → Type 0) → x ≡ Ok d → IfOk x Q → Q d
+if_ok (Ok e) d Q same h = let k : e ≡ d = cc in subst Q k h
+if_ok (Err e) d Q same h = absurd (cc same)
+
+next_of : (bytes : List ℕ) (lexer : Lexer_data) (t : Token) → lexer.bytes ≡ bytes → next_lexeme lexer.bytes lexer.at ≡ lexeme_of lexer.bytes t → IsNext bytes lexer.at (lexeme_of bytes t)
+next_of bytes lexer t same e = subst (λ (z : Lexeme). IsNext bytes lexer.at z) (subst (λ (z : List ℕ). next_lexeme z lexer.at ≡ lexeme_of z t) same e) (next_is_next bytes lexer.at)
+
+-- a token that is taken keeps the names good
+pub good_fed : (old : Names_data) (bytes : List ℕ) (lexer : Lexer_data) (t : Token) (r d : Reader_data) → lexer.bytes ≡ bytes → next_lexeme lexer.bytes lexer.at ≡ lexeme_of lexer.bytes t → feed_of (sign_of t.kind (text_of bytes t)) t.from r ≡ Ok d → Good old r → Good old d
+good_fed old bytes lexer t r d same e f h =
+    let is_next : IsNext bytes lexer.at (lexeme_of bytes t) = next_of bytes lexer t same e in
+    let named : IsNamed (sign_of t.kind (text_of bytes t)) = λ name k. plain_law bytes lexer.at (lexeme_of bytes t) name is_next k in
+    if_ok (feed_of (sign_of t.kind (text_of bytes t)) t.from r) d (Good old) f (fed old r.mode (sign_of t.kind (text_of bytes t)) t.from r named h)
+
+-- names that were sound are good at first
+pub good_first : (r : Reader_data) → IsSound (names_read r) → Good (names_read r) r
+good_first r s =
+    let t = and_split (differ r.roles && list_all is_role_word r.roles) (differ r.labels && list_all is_word r.labels) ((decides_sound (names_read r)).1 s) in
+    let u = and_split (differ r.labels) (list_all is_word r.labels) t.1 in
+    record { roles_are = refl; later = []; labels_are = sym (append-nil r.labels); labels_differ = u.0; words = u.1 }
+
+pub good_sound : (old : Names_data) (r : Reader_data) → IsSound old → Good old r → IsSound (names_read r)
+good_sound old r s g =
+    let t = and_split (differ old.roles && list_all is_role_word old.roles) (differ old.labels && list_all is_word old.labels) ((decides_sound old).1 s) in
+    let u : (differ r.roles && list_all is_role_word r.roles) ≡ true = ap (λ z. differ z && list_all is_role_word z) g.roles_are ∙ t.0 in
+    (decides_sound (names_read r)).0 (rw (u, g.labels_differ, g.words) refl)
+
+pub good_keeps : (old : Names_data) (r : Reader_data) → Good old r → Keeps old (names_read r)
+good_keeps old r g = record { later = g.later; roles = g.roles_are; labels = g.labels_are }
+
+pub same_sound : (r d : Reader_data) → names_read d ≡ names_read r → IsSound (names_read r) → IsSound (names_read d)
+same_sound r d e h = subst IsSound (sym e) h
+
+pub same_keeps : (old : Names_data) (r d : Reader_data) → names_read d ≡ names_read r → Keeps old (names_read r) → Keeps old (names_read d)
+same_keeps old r d e h = subst (λ (z : Names_data). Keeps old z) (sym e) h
+
+-- ---- numbers
+
+small_sign : (bytes : List ℕ) (at : ℕ) (s : Sign) (from until : ℕ) → IsNext bytes at (record { sign = s; from = from; until = until }) → IsSmall s
+small_sign bytes at (number n) from until h = subst (λ (z : ℕ). z ≤ MOST_NUMBER) (sym h.token.2) h.token.1
+small_sign bytes at _ from until h = tt
+
+-- a number of a text is small
+pub small : (bytes : List ℕ) (lexer : Lexer_data) (t : Token) → lexer.bytes ≡ bytes → next_lexeme lexer.bytes lexer.at ≡ lexeme_of lexer.bytes t → IsSmall (sign_of t.kind (text_of bytes t))
+small bytes lexer t same e = small_sign bytes lexer.at (sign_of t.kind (text_of bytes t)) t.from t.until (next_of bytes lexer t same e)

@@ -1,0 +1,167 @@
+-- What is spelt can be printed.
+use Rattle.std.proofs.Common.{◌≡◌, ◌⊎◌, inl, inr, ℕ, ◌<◌, ◌≤◌, List, [], ◌∷◌, ◌++◌, length, map, Bool, true, false, ◌&&◌, ◌||◌, eqb, cond, Option, Some, None, refl, sym, ap, ◌∙◌, subst, arith}
+use Rattle.std.proofs.lemmas.Bool.{eqb-true, eq-eqb}
+use Rattle.std.proofs.lemmas.List.{map-append, length-map}
+use Rattle.std.proofs.lemmas.List.Elements.{All-append, All-cons, All-head, All-tail}
+use Rattle.std.proofs.lemmas.List.Folds.{list_all-append}
+use Rattle.std.specs.List.{All, flat_map, list_all, list_any}
+use Rattle.std.specs.Set.{distinct_count}
+use Rattle.rs_model.specs.Data.{Names_data}
+use Rattle.rs_model.specs.declared.limits.TheConstants.{MOST_LABELS, MOST_CANDIDATES}
+use Rattle.rs_model.specs.declared.machines.Act.{Act}
+use Rattle.rs_prefix.specs.declared.earliest.Kind.TheVariants as act
+use Rattle.rs_derive.specs.Data.{Derivation_data}
+use Rattle.rs_text.specs.Names.{grown, is_among, place_of, number_or}
+use Rattle.rs_text.proofs.Naming.{among, not_among}
+use Rattle.rs_text.proofs.Numbers.{place_below}
+use Rattle.rs_derivations.proofs.Standings.{grown_known as known_grown}
+use Rattle.std.proofs.lemmas.Map.Keys.{IsDistinct-cons}
+use Rattle.std.proofs.lemmas.Map.Steps.{length-le_from_distinct_below}
+use Rattle.std.specs.List.{IsDistinct, AllByRecursion}
+use Rattle.std.specs.Set.{unique_keys}
+use Rattle.rs_model.specs.declared.graph.Label.{Label}
+use Rattle.rs_model.specs.declared.graph.Role.{Role}
+use Rattle.rs_model.specs.declared.values.Sort.{Sort}
+use Rattle.rs_prefix.specs.declared.earliest.Kind.{Kind}
+use Rattle.rs_text.specs.Arms.{sort_or_unit}
+use Rattle.rs_derive.specs.Data.{DNode_data}
+use Rattle.rs_derivations.specs.Derivations.{act_of_kind, role_named, label_named, labels_of_acts, labels_of_node, labels_of_nodes, peers_of_acts, peers_of_node, peers_of_nodes, act_of, node_of, derivation_of, names_of}
+use Rattle.rs_derivations.specs.Printable.{peer_of, label_of, acts_of, RolesHaveNames, LabelsHaveNames, HasFewLabels, IsPrintable}
+use Rattle.rs_derivations.specs.Spells.{Fits, AreKnown, IsBound}
+use Rattle.rs_derivations.specs.Trees.{ActTree, NodeTree, DerivationTree}
+
+-- ---- places
+
+below_by : (names : List (List ℕ)) (x : List ℕ) (o : Option ℕ) → place_of x names ≡ o → is_among x names ≡ true → number_or (place_of x names) < length names
+below_by names x None e h = absurd (cc (sym h ∙ not_among names x 0 e))
+below_by names x (Some n) e h = subst (λ (z : Option ℕ). number_or z < length names) (sym e) (place_below names x n e)
+
+-- the place of a name that is there is one
+pub below : (names : List (List ℕ)) (x : List ℕ) → is_among x names ≡ true → number_or (place_of x names) < length names
+below names x h = below_by names x (place_of x names) refl h
+
+abbrev Known : List (List ℕ) → List (List ℕ) → Type 0
+Known names xs = list_all (λ x. is_among x names) xs ≡ true
+
+and_both : (a b : Bool) → (a && b) ≡ true → (a ≡ true) × (b ≡ true)
+and_both true b h = (refl, h)
+and_both false b h = absurd (cc h)
+
+known_parts : (names xs ys : List (List ℕ)) → Known names (xs ++ ys) → Known names xs × Known names ys
+known_parts names xs ys h = and_both (list_all (λ x. is_among x names) xs) (list_all (λ x. is_among x names) ys) (sym (list_all-append (λ x. is_among x names) xs ys) ∙ h)
+
+peer_made : (k : Kind) (p : Role) (l : Label) (s : Sort) → peer_of (act_of_kind k p l s) ≡ p.0
+peer_made act.Send p l s = refl
+peer_made act.Receive p l s = refl
+
+label_made : (k : Kind) (p : Role) (l : Label) (s : Sort) → label_of (act_of_kind k p l s) ≡ l.0
+label_made act.Send p l s = refl
+label_made act.Receive p l s = refl
+
+peer_is : (names : Names_data) (a : ActTree) → peer_of (act_of names a) ≡ number_or (place_of a.peer names.roles)
+peer_is names a = peer_made a.kind (role_named names a.peer) (label_named names a.label) (sort_or_unit a.sort)
+
+label_is : (names : Names_data) (a : ActTree) → label_of (act_of names a) ≡ number_or (place_of a.label names.labels)
+label_is names a = label_made a.kind (role_named names a.peer) (label_named names a.label) (sort_or_unit a.sort)
+
+-- ---- acts and nodes
+
+nothing : (P : Act → Type 0) → All P []
+nothing P = λ k d h. absurd (omega arith)
+
+peers_below : (names : Names_data) (acts : List ActTree) → Known names.roles (peers_of_acts acts) → All (λ a. peer_of a < length names.roles) (map (act_of names) acts)
+peers_below names [] h = nothing (λ a. peer_of a < length names.roles)
+peers_below names (a ∷ acts) h =
+    let k = and_both (is_among a.peer names.roles) (list_all (λ x. is_among x names.roles) (peers_of_acts acts)) h in
+    All-cons (λ a. peer_of a < length names.roles) (act_of names a) (map (act_of names) acts) (subst (λ (z : ℕ). z < length names.roles) (sym (peer_is names a)) (below names.roles a.peer k.0)) (peers_below names acts k.1)
+
+labels_below : (names : Names_data) (acts : List ActTree) → Known names.labels (labels_of_acts acts) → All (λ a. label_of a < length names.labels) (map (act_of names) acts)
+labels_below names [] h = nothing (λ a. label_of a < length names.labels)
+labels_below names (a ∷ acts) h =
+    let k = and_both (is_among a.label names.labels) (list_all (λ x. is_among x names.labels) (labels_of_acts acts)) h in
+    All-cons (λ a. label_of a < length names.labels) (act_of names a) (map (act_of names) acts) (subst (λ (z : ℕ). z < length names.labels) (sym (label_is names a)) (below names.labels a.label k.0)) (labels_below names acts k.1)
+
+abbrev acts_in : Names_data → List NodeTree → List Act
+acts_in names ns = flat_map (λ (n : DNode_data). n.pending) (map (node_of names) ns)
+
+all_peers : (names : Names_data) (ns : List NodeTree) → Known names.roles (peers_of_nodes ns) → All (λ a. peer_of a < length names.roles) (acts_in names ns)
+all_peers names [] h = nothing (λ a. peer_of a < length names.roles)
+all_peers names (n ∷ ns) h =
+    let k = known_parts names.roles (peers_of_node n) (peers_of_nodes ns) h in
+    All-append (λ a. peer_of a < length names.roles) (map (act_of names) n.pending) (acts_in names ns) (peers_below names n.pending k.0) (all_peers names ns k.1)
+
+all_labels : (names : Names_data) (ns : List NodeTree) → Known names.labels (labels_of_nodes ns) → All (λ a. label_of a < length names.labels) (acts_in names ns)
+all_labels names [] h = nothing (λ a. label_of a < length names.labels)
+all_labels names (n ∷ ns) h =
+    let k = known_parts names.labels (labels_of_node n) (labels_of_nodes ns) h in
+    All-append (λ a. label_of a < length names.labels) (map (act_of names) n.pending) (acts_in names ns) (labels_below names n.pending k.0) (all_labels names ns k.1)
+
+-- ---- few labels
+
+or_both : (a b : Bool) → (a || b) ≡ false → (a ≡ false) × (b ≡ false)
+or_both true b h = absurd (cc h)
+or_both false b h = (refl, h)
+
+or_first : (a b : Bool) → (a || b) ≡ true → (a ≡ true) ⊎ (b ≡ true)
+or_first true b h = inl refl
+or_first false b h = inr h
+
+same_by : (b c : Bool) (xs : List ℕ) (x q : ℕ) → list_any (eqb x) xs ≡ b → eqb q x ≡ c → list_any (eqb q) (unique_keys eqb xs) ≡ list_any (eqb q) xs → list_any (eqb q) (cond b (unique_keys eqb xs) (x ∷ unique_keys eqb xs)) ≡ (c || list_any (eqb q) xs)
+same_by true true xs x q m t r = r ∙ ap (λ z. list_any (eqb z) xs) (eqb-true q x t) ∙ m
+same_by true false xs x q m t r = r
+same_by false c xs x q m t r = ap (λ z. z || list_any (eqb q) (unique_keys eqb xs)) t ∙ ap (λ z. c || z) r
+
+absent_apart : (x : ℕ) (ys : List ℕ) → list_any (eqb x) ys ≡ false → AllByRecursion (λ y. eqb x y ≡ false) ys
+absent_apart x [] h = tt
+absent_apart x (y ∷ ys) h = let k = or_both (eqb x y) (list_any (eqb x) ys) h in (k.0, absent_apart x ys k.1)
+
+unique_same : (xs : List ℕ) (q : ℕ) → list_any (eqb q) (unique_keys eqb xs) ≡ list_any (eqb q) xs
+unique_same [] q = refl
+unique_same (x ∷ xs) q = same_by (list_any (eqb x) xs) (eqb q x) xs x q refl refl (unique_same xs q)
+
+distinct_none : IsDistinct eqb []
+unfolding IsDistinct
+distinct_none = tt
+
+distinct_by : (b : Bool) (xs : List ℕ) (x : ℕ) → list_any (eqb x) xs ≡ b → IsDistinct eqb (unique_keys eqb xs) → IsDistinct eqb (cond b (unique_keys eqb xs) (x ∷ unique_keys eqb xs))
+distinct_by true xs x m h = h
+distinct_by false xs x m h = IsDistinct-cons eqb x (unique_keys eqb xs) (absent_apart x (unique_keys eqb xs) (unique_same xs x ∙ m)) h
+
+unique_distinct : (xs : List ℕ) → IsDistinct eqb (unique_keys eqb xs)
+unique_distinct [] = distinct_none
+unique_distinct (x ∷ xs) = distinct_by (list_any (eqb x) xs) xs x refl (unique_distinct xs)
+
+-- numbers below n, each counted once, are n at most
+few_below : (xs : List ℕ) (n : ℕ) → ((q : ℕ) → list_any (eqb q) xs ≡ true → q < n) → distinct_count eqb xs ≤ n
+few_below xs n h = length-le_from_distinct_below (unique_keys eqb xs) n (unique_distinct xs) (λ q e. h q (sym (unique_same xs q) ∙ e))
+
+label_there : (acts : List Act) (n q : ℕ) → All (λ a. label_of a < n) acts → list_any (eqb q) (map label_of acts) ≡ true → q < n
+label_there [] n q h e = absurd (cc e)
+label_there (a ∷ acts) n q h e = elim (or_first (eqb q (label_of a)) (list_any (eqb q) (map label_of acts)) e) [
+  | inl k ↦ subst (λ (z : ℕ). z < n) (sym (eqb-true q (label_of a) k)) (All-head (λ a. label_of a < n) a acts h)
+  | inr k ↦ label_there acts n q (All-tail (λ a. label_of a < n) a acts h) k
+]
+
+-- ---- the whole
+
+grown_known : (old : Names_data) (labels : List (List ℕ)) → Known (grown old.labels labels) labels
+grown_known old labels = known_grown labels old.labels
+
+pub printable : (old : Names_data) (t : DerivationTree) → Fits old t → IsPrintable (names_of old t) (derivation_of (names_of old t) t)
+printable old t f =
+    let names : Names_data = names_of old t in
+    let k = and_both (is_among t.role old.roles) (list_all (λ x. is_among x old.roles) (peers_of_nodes t.nodes)) f.roles in
+    let labels = all_labels names t.nodes (grown_known old (labels_of_nodes t.nodes)) in
+    let few = few_below (map label_of (acts_in names t.nodes)) (length names.labels) (λ q e. label_there (acts_in names t.nodes) (length names.labels) q labels e) in
+    let most = f.labels in
+    let size = length-map t.nodes (node_of names) in
+    let some = f.formed.some in
+    let all = f.nodes in
+    record {
+      roles = record { role = below old.roles t.role k.0; peers = all_peers names t.nodes k.1 };
+      labels = labels;
+      few_labels = omega arith;
+      bound = f.formed.bound;
+      some = omega arith;
+      nodes = omega arith;
+    }

@@ -1,0 +1,240 @@
+-- How the reader goes on, token by token.
+use Rattle.std.specs.Prelude.{◌≡◌, ℕ, ◌≤◌, List, [], ◌∷◌, ◌++◌, codes, length, Option, Some, None, Bool, true, false, ◌&&◌, nat_le, ◌==◌, if◌then◌else◌, Result, Ok, Err}
+use Rattle.rs_model.specs.Data.{Names_data}
+use Rattle.rs_model.specs.declared.graph.Label.{Label}
+use Rattle.rs_model.specs.declared.graph.Role.{Role}
+use Rattle.rs_model.specs.declared.limits.TheConstants.{MOST_LABELS, MOST_BOUND, MOST_CANDIDATES, MOST_NUMBER}
+use Rattle.rs_model.specs.declared.values.Sort.{Sort}
+use Rattle.rs_model.specs.declared.values.Sort.TheVariants as sort
+use Rattle.rs_prefix.specs.declared.earliest.Kind.{Kind}
+use Rattle.rs_prefix.specs.declared.earliest.Kind.TheVariants as act
+use Rattle.rs_derive.specs.Data.{DNode_data, Derivation_data}
+use Rattle.rs_text.specs.declared.faults.TextFault.{TextFault}
+use Rattle.rs_text.specs.declared.faults.TextKind.TheVariants as kind
+use Rattle.rs_text.specs.declared.faults.Wanted.{Wanted}
+use Rattle.rs_text.specs.declared.faults.Wanted.TheVariants as wanted
+use Rattle.rs_text.specs.Lexemes.{Lexeme}
+use Rattle.rs_text.specs.Names.{place_of}
+use Rattle.rs_text.specs.Readings.{Automaton, fault, expected}
+use Rattle.rs_text.specs.Seen.{is_text, plain_text, word_text, sort_named}
+use Rattle.rs_text.specs.Signs.{Sign, number, bang, question, colon, comma, open_brace, close_brace, open_paren, close_paren, open_bracket, close_bracket}
+use Rattle.rs_derivations.specs.declared.reading.Mode.{Mode}
+use Rattle.rs_derivations.specs.declared.reading.Mode.TheVariants as mode
+use Rattle.rs_derivations.specs.Cuts.{node_wanted, act_wanted, next_wanted}
+use Rattle.rs_derivations.specs.Data.{Reader_data}
+use Rattle.rs_derivations.specs.Derivations.{act_of_kind}
+use Rattle.rs_derivations.specs.Faults.{number_value}
+
+-- ---- which token it is
+
+abbrev pub is_colon : Sign → Bool
+is_colon colon = true
+is_colon _ = false
+
+abbrev pub is_comma : Sign → Bool
+is_comma comma = true
+is_comma _ = false
+
+abbrev pub is_open_brace : Sign → Bool
+is_open_brace open_brace = true
+is_open_brace _ = false
+
+abbrev pub is_close_brace : Sign → Bool
+is_close_brace close_brace = true
+is_close_brace _ = false
+
+abbrev pub is_open_paren : Sign → Bool
+is_open_paren open_paren = true
+is_open_paren _ = false
+
+abbrev pub is_close_paren : Sign → Bool
+is_close_paren close_paren = true
+is_close_paren _ = false
+
+abbrev pub is_open_bracket : Sign → Bool
+is_open_bracket open_bracket = true
+is_open_bracket _ = false
+
+abbrev pub is_close_bracket : Sign → Bool
+is_close_bracket close_bracket = true
+is_close_bracket _ = false
+
+abbrev pub mark_kind : Sign → Option Kind
+mark_kind bang = Some act.Send
+mark_kind question = Some act.Receive
+mark_kind _ = None
+
+abbrev pub is_keyword : List ℕ → Sign → Bool
+is_keyword word t = is_text word (plain_text t)
+
+abbrev pub is_none_of : {A : Type 0} → List A → Bool
+is_none_of [] = true
+is_none_of (x ∷ xs) = false
+
+abbrev pub is_some_of : {A : Type 0} → List A → Bool
+is_some_of [] = false
+is_some_of (x ∷ xs) = true
+
+abbrev pub is_bound : ℕ → Bool
+is_bound n = nat_le 1 n && nat_le n MOST_BOUND
+
+-- a number of a text is at most 4,294,967,295
+abbrev pub IsSmall : Sign → Type 0
+IsSmall (number n) = n ≤ MOST_NUMBER
+IsSmall _ = Unit {0}
+
+-- ---- steps
+
+abbrev pub Fed : Type 0
+Fed = Result Reader_data TextFault
+
+abbrev pub no_node : DNode_data
+no_node = record { state = 0; pending = []; above = 0; rank = 0; next = [] }
+
+-- before the first token
+abbrev pub begin : Names_data → Reader_data
+begin old = record { roles = old.roles; labels = old.labels; role = record { 0 = 0 }; bound = 0; nodes = []; node = no_node; mode = mode.Derivation }
+
+abbrev pub in_mode : Mode → Reader_data → Fed
+in_mode m r = Ok (record r { mode = m })
+
+-- the right token is passed
+abbrev pub passes : Bool → Wanted → Mode → ℕ → Reader_data → Fed
+passes right w m at r = if right then in_mode m r else expected w at
+
+-- the role of the derivation
+abbrev pub played_by : Option ℕ → ℕ → Reader_data → Fed
+played_by None at r = fault kind.UnknownRole at
+played_by (Some k) at r = Ok (record r { role = record { 0 = k }; mode = mode.AtBoundWord })
+
+abbrev pub feed_role : Option (List ℕ) → ℕ → Reader_data → Fed
+feed_role None at r = expected wanted.Role at
+feed_role (Some word) at r = played_by (place_of word r.roles) at r
+
+abbrev pub feed_bound : Option ℕ → ℕ → Reader_data → Fed
+feed_bound None at r = expected wanted.BoundNumber at
+feed_bound (Some n) at r = if is_bound n then Ok (record r { bound = n; mode = mode.AtBrace }) else expected wanted.BoundNumber at
+
+-- a further node, by its number, or the end
+abbrev pub feed_node : Option ℕ → Bool → ℕ → Reader_data → Fed
+feed_node (Some n) closes at r = if n == length r.nodes then (if nat_le MOST_CANDIDATES (length r.nodes) then fault kind.TooManyNodes at else in_mode mode.AtColon r) else expected (node_wanted r.nodes) at
+feed_node None closes at r = passes (closes && is_some_of r.nodes) (node_wanted r.nodes) mode.Behind at r
+
+abbrev pub feed_state : Option ℕ → ℕ → Reader_data → Fed
+feed_state None at r = expected wanted.Number at
+feed_state (Some n) at r = Ok (record r { node = record r.node { state = n }; mode = mode.AtActs })
+
+-- a further act, by its peer, or the end of the acts
+abbrev pub met_by : Option ℕ → ℕ → Reader_data → Fed
+met_by None at r = fault kind.UnknownRole at
+met_by (Some k) at r = in_mode (mode.AtMark (record { 0 = k })) r
+
+abbrev pub feed_act : Option (List ℕ) → Bool → ℕ → Reader_data → Fed
+feed_act (Some word) closes at r = met_by (place_of word r.roles) at r
+feed_act None closes at r = passes (closes && is_none_of r.node.pending) (act_wanted r.node.pending) mode.AtAbove at r
+
+abbrev pub feed_mark : Role → Option Kind → ℕ → Reader_data → Fed
+feed_mark p None at r = expected wanted.Mark at
+feed_mark p (Some k) at r = in_mode (mode.AtLabel p k) r
+
+abbrev pub label_of_number : ℕ → Label
+label_of_number k = record { 0 = k }
+
+abbrev pub labelled_by : Option ℕ → Role → Kind → List ℕ → ℕ → Reader_data → Fed
+labelled_by (Some k) p m word at r = in_mode (mode.AtParen p m (label_of_number k)) r
+labelled_by None p m word at r = if nat_le MOST_LABELS (length r.labels) then fault kind.TooManyLabels at else Ok (record r { labels = r.labels ++ word ∷ []; mode = mode.AtParen p m (label_of_number (length r.labels)) })
+
+abbrev pub feed_label : Role → Kind → Option (List ℕ) → ℕ → Reader_data → Fed
+feed_label p m None at r = expected wanted.Label at
+feed_label p m (Some word) at r = labelled_by (place_of word r.labels) p m word at r
+
+-- the act is pending
+abbrev pub pended : Role → Kind → Label → Sort → Reader_data → Fed
+pended p m l s r = Ok (record r { node = record r.node { pending = r.node.pending ++ act_of_kind m p l s ∷ [] }; mode = mode.BehindAct })
+
+abbrev pub sorted_by : Option Sort → Role → Kind → Label → ℕ → Reader_data → Fed
+sorted_by None p m l at r = expected wanted.SortOrCloseParen at
+sorted_by (Some s) p m l at r = in_mode (mode.CloseParen p m l s) r
+
+abbrev pub feed_sort : Role → Kind → Label → Option (List ℕ) → Bool → ℕ → Reader_data → Fed
+feed_sort p m l (Some word) closes at r = sorted_by (sort_named word) p m l at r
+feed_sort p m l None closes at r = if closes then pended p m l sort.Unit r else expected wanted.SortOrCloseParen at
+
+abbrev pub feed_close_paren : Role → Kind → Label → Sort → Bool → ℕ → Reader_data → Fed
+feed_close_paren p m l s closes at r = if closes then pended p m l s r else expected wanted.CloseParen at
+
+abbrev pub feed_behind_act : Bool → Bool → ℕ → Reader_data → Fed
+feed_behind_act goes closes at r = if goes then in_mode mode.AtAct r else passes closes wanted.CommaOrCloseBracket mode.AtAbove at r
+
+abbrev pub feed_above : Option ℕ → ℕ → Reader_data → Fed
+feed_above None at r = expected wanted.Number at
+feed_above (Some n) at r = Ok (record r { node = record r.node { above = n }; mode = mode.AtRankWord })
+
+abbrev pub feed_rank : Option ℕ → ℕ → Reader_data → Fed
+feed_rank None at r = expected wanted.Number at
+feed_rank (Some n) at r = Ok (record r { node = record r.node { rank = n }; mode = mode.AtNextWord })
+
+-- the node is read
+abbrev pub ended : Reader_data → Fed
+ended r = Ok (record r { nodes = r.nodes ++ r.node ∷ []; node = no_node; mode = mode.AtNode })
+
+-- a further next, or the end of the node
+abbrev pub feed_next : Option ℕ → Bool → ℕ → Reader_data → Fed
+feed_next (Some n) closes at r = Ok (record r { node = record r.node { next = r.node.next ++ n ∷ [] }; mode = mode.BehindNext })
+feed_next None closes at r = if closes && is_none_of r.node.next then ended r else expected (next_wanted r.node.next) at
+
+abbrev pub feed_behind_next : Bool → Bool → ℕ → Reader_data → Fed
+feed_behind_next goes closes at r = if goes then in_mode mode.AtNext r else if closes then ended r else expected wanted.CommaOrCloseBracket at
+
+-- one token: of a node from behind an act ..
+abbrev pub feed_rest : Mode → Sign → ℕ → Reader_data → Fed
+feed_rest mode.BehindAct t at r = feed_behind_act (is_comma t) (is_close_bracket t) at r
+feed_rest mode.AtAbove t at r = feed_above (number_value t) at r
+feed_rest mode.AtRankWord t at r = passes (is_keyword (codes "rank") t) wanted.Rank mode.AtRank at r
+feed_rest mode.AtRank t at r = feed_rank (number_value t) at r
+feed_rest mode.AtNextWord t at r = passes (is_keyword (codes "next") t) wanted.Next mode.AtNexts at r
+feed_rest mode.AtNexts t at r = passes (is_open_bracket t) wanted.OpenBracket mode.AtNext at r
+feed_rest mode.AtNext t at r = feed_next (number_value t) (is_close_bracket t) at r
+feed_rest mode.BehindNext t at r = feed_behind_next (is_comma t) (is_close_bracket t) at r
+feed_rest _ t at r = expected wanted.DerivationOrEnd at
+
+-- .. and before that
+abbrev pub feed_at : Mode → Sign → ℕ → Reader_data → Fed
+feed_at mode.Derivation t at r = passes (is_keyword (codes "derivation") t) wanted.DerivationOrEnd mode.AtRole at r
+feed_at mode.AtRole t at r = feed_role (plain_text t) at r
+feed_at mode.AtBoundWord t at r = passes (is_keyword (codes "bound") t) wanted.Bound mode.AtBound at r
+feed_at mode.AtBound t at r = feed_bound (number_value t) at r
+feed_at mode.AtBrace t at r = passes (is_open_brace t) wanted.OpenBrace mode.AtNode at r
+feed_at mode.AtNode t at r = feed_node (number_value t) (is_close_brace t) at r
+feed_at mode.AtColon t at r = passes (is_colon t) wanted.Colon mode.AtState at r
+feed_at mode.AtState t at r = feed_state (number_value t) at r
+feed_at mode.AtActs t at r = passes (is_open_bracket t) wanted.OpenBracket mode.AtAct at r
+feed_at mode.AtAct t at r = feed_act (plain_text t) (is_close_bracket t) at r
+feed_at (mode.AtMark p) t at r = feed_mark p (mark_kind t) at r
+feed_at (mode.AtLabel p m) t at r = feed_label p m (word_text t) at r
+feed_at (mode.AtParen p m l) t at r = passes (is_open_paren t) wanted.OpenParen (mode.AtSort p m l) at r
+feed_at (mode.AtSort p m l) t at r = feed_sort p m l (plain_text t) (is_close_paren t) at r
+feed_at (mode.CloseParen p m l s) t at r = feed_close_paren p m l s (is_close_paren t) at r
+feed_at m t at r = feed_rest m t at r
+
+abbrev pub feed_of : Sign → ℕ → Reader_data → Fed
+feed_of t at r = feed_at r.mode t at r
+
+abbrev pub is_behind : Mode → Bool
+is_behind mode.Behind = true
+is_behind _ = false
+
+-- the whole derivation is read
+abbrev pub is_read : Reader_data → Bool
+is_read r = is_behind r.mode
+
+-- the reader of derivations. What stands behind a token doesn't matter
+abbrev pub feeding : Automaton Reader_data
+feeding = record { feed = λ t at next r. feed_of t at r; is_read = λ r. is_read r }
+
+-- what was read
+abbrev pub names_read : Reader_data → Names_data
+names_read r = record { roles = r.roles; labels = r.labels }
+
+abbrev pub derivation_read : Reader_data → Derivation_data
+derivation_read r = record { role = r.role; bound = r.bound; nodes = r.nodes }

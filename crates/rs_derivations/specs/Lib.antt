@@ -1,0 +1,11 @@
+pub mod Lists
+pub mod Trees
+pub mod Derivations
+pub mod Spells
+pub mod Cuts
+pub mod Faults
+pub mod Texts
+pub mod Canonical
+pub mod Printable
+pub mod Data
+pub mod Feeding

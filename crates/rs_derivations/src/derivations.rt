@@ -1,0 +1,77 @@
+ghost use Rattle.std.specs.Prelude.{◌≡◌, ◌≤◌, length, IfOk, IfErr, ◌⊎◌, Ok};
+ghost use Rattle.rs_model.specs.declared.limits.TheConstants.{MOST_ROLES, MOST_LABELS};
+ghost use Rattle.rs_text.specs.declared.faults.TextKind.TheVariants as kind;
+ghost use Rattle.rs_text.specs.Readings.{ReadsBy, StopsBy};
+ghost use Rattle.rs_text.specs.Sound.{IsSound};
+ghost use Rattle.rs_derivations.specs.Faults.{FirstFault, Keeps};
+ghost use Rattle.rs_derivations.specs.Feeding.{feeding, names_read};
+ghost use Rattle.rs_derivations.specs.Printable.{IsPrintable};
+ghost use Rattle.rs_derivations.specs.Spells.{SpellsDerivation};
+
+use crate::reading::Reader;
+use rs_derive::Derivation;
+use rs_model::Names;
+use rs_text::{Lexer, Stop, TextFault};
+use std::alloc::Global;
+use std::mem;
+
+/// Reads a derivation part from the offset `at` on, and gives the derivation and the offset of the first byte behind it
+/// that is neither a blank nor in a comment, or the length. The names are sound, with at most 16 roles and 256 labels.
+///
+/// Nodes stand in order of their numbers, from 0 on. New labels are added to the names in order of text, and nothing
+/// else changes there; after a fault some of those before it may be there.
+///
+/// A fault has the offset of its token: what was wanted instead (also where a node's number isn't the count of nodes
+/// before it, or a bound isn't from 1 to 64), an unknown role, one too many of nodes or labels, or a faulty token.
+/// Refused memory has the offset `at`.
+pub fn read_derivation(
+    alloc: Global,
+    bytes: &[u8],
+    at: usize,
+    names: &mut Names,
+) -> Result<(Derivation, usize), TextFault>
+    requires at { at ≤ length bytes.now }
+    requires sound { IsSound names.old }
+    requires roles { length names.old.roles ≤ MOST_ROLES }
+    requires labels { length names.old.labels ≤ MOST_LABELS }
+    ensures ok { IfOk result (λ r. SpellsDerivation bytes.now at names.old names.new r.0 r.1) }
+    ensures err { IfErr result (λ e. (e.kind ≡ kind.NoMemory) ⊎ FirstFault names.old bytes.now at e.kind e.at) }
+    ensures sound { IsSound names.new }
+    ensures roles { names.new.roles ≡ names.old.roles }
+    ensures labels { length names.new.labels ≤ MOST_LABELS }
+    ensures kept { Keeps names.old names.new }
+    ensures printable { IfOk result (λ r. IsPrintable names.new r.0) }
+    ensures within { IfOk result (λ r. r.1 ≤ length bytes.now) }
+    ensures place { IfErr result (λ e. e.at ≤ length bytes.now) }
+{
+    let labels = mem::replace(&mut names.labels, Vec::new(alloc));
+    let mut reader = Reader::new(alloc, names.roles.as_slice(), labels);
+    let result = read(&mut reader, bytes, at);
+    names.labels = reader.labels;
+    let derivation = Derivation {
+        role: reader.role,
+        bound: reader.bound,
+        nodes: reader.nodes,
+    };
+    match result {
+        Ok(until) => Ok((derivation, until)),
+        Err(stop) => Err(stop.told(at)),
+    }
+}
+
+fn read(reader: &mut Reader, bytes: &[u8], at: usize) -> Result<usize, Stop>
+    requires at { at ≤ length bytes.now }
+    requires sound { IsSound (names_read reader.old) }
+    ensures ok { IfOk result (λ until. ReadsBy feeding reader.old bytes.now at (Ok (record { reader = reader.new; until = until }))) }
+    ensures within { IfOk result (λ until. until ≤ length bytes.now) }
+    ensures err { IfErr result (λ e. StopsBy feeding e reader.old bytes.now at) }
+    ensures sound { IsSound (names_read reader.new) }
+    ensures kept { Keeps (names_read reader.old) (names_read reader.new) }
+{
+    let mut lexer = Lexer::new(bytes, at);
+    while !reader.is_read() {
+        let token = lexer.next()?;
+        reader.feed(bytes, token)?;
+    }
+    Ok(lexer.next_offset())
+}

@@ -1,0 +1,193 @@
+ghost use Rattle.std.specs.Prelude.{◌≡◌, ◌≤◌, ◌++◌, codes, length, map, IfOk, OnOk};
+ghost use Rattle.std.specs.Fmt.{decimal};
+ghost use Rattle.rs_text.specs.Sound.{IsSound};
+ghost use Rattle.rs_model.specs.declared.limits.TheConstants.{MOST_ROLES, MOST_BOUND, MOST_CANDIDATES};
+ghost use Rattle.rs_prefix.specs.declared.earliest.Kind.TheVariants as act;
+ghost use Rattle.rs_derivations.specs.Canonical.{canonical_text, shown_act, tree_of_act, tree_of_node};
+ghost use Rattle.rs_derivations.specs.Lists.{with_separators};
+ghost use Rattle.rs_derivations.specs.Printable.{RolesHaveNames, LabelsHaveNames, HasFewLabels};
+ghost use Rattle.rs_derivations.specs.Texts as spec;
+ghost use Rattle.rs_text.specs.Shown.{name_at};
+
+use rs_derive::{DNode, Derivation};
+use rs_model::{Act, Label, Names, NoMemory, Role, Sort};
+use rs_prefix::Kind;
+use rs_text::Text;
+use rs_text::shown::{push_name, push_sort};
+use std::alloc::Global;
+
+/// Prints the canonical text of a derivation: a line with its role and its bound, a line a node, and a closing brace.
+///
+/// Refused memory is the only error.
+pub fn print_derivation(
+    alloc: Global,
+    names: &Names,
+    derivation: &Derivation,
+) -> Result<Text, NoMemory>
+    requires sound { IsSound names.now }
+    requires few_roles { length names.now.roles ≤ MOST_ROLES }
+    requires roles { RolesHaveNames names.now derivation.now }
+    requires labels { LabelsHaveNames names.now derivation.now }
+    requires few_labels { HasFewLabels derivation.now }
+    requires bound { (1 ≤ derivation.now.bound) × (derivation.now.bound ≤ MOST_BOUND) }
+    requires nodes { (1 ≤ length derivation.now.nodes) × (length derivation.now.nodes ≤ MOST_CANDIDATES) }
+    ensures canonical { IfOk result (λ text. text ≡ canonical_text names.now derivation.now) }
+{
+    let mut text = Text::new(alloc);
+    push_head(&mut text, names, derivation.role, derivation.bound)?;
+    push_nodes(&mut text, names, derivation.nodes.as_slice())?;
+    text.push(b"}\n")?;
+    Ok(text)
+}
+
+/// The first line.
+fn push_head(text: &mut Text, names: &Names, role: Role, bound: u8) -> Result<(), NoMemory>
+    ensures { OnOk result (text.new ≡ text.old ++ spec.head_text (name_at names.now.roles role.0) bound) }
+{
+    text.push(b"derivation ")?;
+    push_role(text, names, role)?;
+    push_bound(text, bound)
+}
+
+fn push_role(text: &mut Text, names: &Names, role: Role) -> Result<(), NoMemory>
+    ensures { OnOk result (text.new ≡ text.old ++ name_at names.now.roles role.0) }
+{
+    push_name(text, names.roles.as_slice(), usize::from(role.0))
+}
+
+/// What stands behind the role in the first line.
+fn push_bound(text: &mut Text, bound: u8) -> Result<(), NoMemory>
+    ensures { OnOk result (text.new ≡ text.old ++ spec.bound_text bound) }
+{
+    text.push(b" bound ")?;
+    text.push_number(u64::from(bound))?;
+    text.push(b" {\n")
+}
+
+fn push_nodes(text: &mut Text, names: &Names, nodes: &[DNode]) -> Result<(), NoMemory>
+    ensures { OnOk result (text.new ≡ text.old ++ spec.nodes_text 0 (map (tree_of_node names.now) nodes.now)) }
+{
+    for (number, node) in nodes.iter().enumerate() {
+        push_node(text, names, number as u64, node)?;
+    }
+    Ok(())
+}
+
+/// The line of a node.
+fn push_node(text: &mut Text, names: &Names, number: u64, node: &DNode) -> Result<(), NoMemory>
+    ensures { OnOk result (text.new ≡ text.old ++ spec.node_text number (tree_of_node names.now node.now)) }
+{
+    text.push_number(number)?;
+    text.push(b": ")?;
+    text.push_number(u64::from(node.state))?;
+    text.push(b" [")?;
+    push_acts(text, names, node.pending.as_slice())?;
+    push_rest(text, node)
+}
+
+/// What stands behind the pending acts.
+fn push_rest(text: &mut Text, node: &DNode) -> Result<(), NoMemory>
+    ensures { OnOk result (text.new ≡ text.old ++ (codes "] " ++ (decimal node.now.above ++ (codes " rank " ++ (decimal node.now.rank ++ (codes " next [" ++ (spec.numbers_text node.now.next ++ codes "]\n"))))))) }
+{
+    text.push(b"] ")?;
+    text.push_number(u64::from(node.above))?;
+    text.push(b" rank ")?;
+    text.push_number(u64::from(node.rank))?;
+    text.push(b" next [")?;
+    push_numbers(text, node.next.as_slice())?;
+    text.push(b"]\n")
+}
+
+fn push_acts(text: &mut Text, names: &Names, acts: &[Act]) -> Result<(), NoMemory>
+    ensures { OnOk result (text.new ≡ text.old ++ spec.acts_text (map (tree_of_act names.now) acts.now)) }
+{
+    match acts {
+        [] => Ok(()),
+        [first, later @ ..] => {
+            push_act(text, names, *first)?;
+            push_later_acts(text, names, later)
+        }
+    }
+}
+
+fn push_later_acts(text: &mut Text, names: &Names, acts: &[Act]) -> Result<(), NoMemory>
+    ensures { OnOk result (text.new ≡ text.old ++ with_separators (codes ", ") spec.act_text (map (tree_of_act names.now) acts.now)) }
+{
+    for act in acts {
+        push_later_act(text, names, *act)?;
+    }
+    Ok(())
+}
+
+fn push_later_act(text: &mut Text, names: &Names, act: Act) -> Result<(), NoMemory>
+    ensures { OnOk result (text.new ≡ text.old ++ (codes ", " ++ spec.act_text (tree_of_act names.now act))) }
+{
+    text.push(b", ")?;
+    push_act(text, names, act)
+}
+
+fn push_act(text: &mut Text, names: &Names, act: Act) -> Result<(), NoMemory>
+    ensures { OnOk result (text.new ≡ text.old ++ spec.act_text (tree_of_act names.now act)) }
+{
+    match act {
+        Act::Puts { peer, label, sort } => push_pair(text, names, peer, Kind::Send, label, sort),
+        Act::Takes { peer, label, sort } => {
+            push_pair(text, names, peer, Kind::Receive, label, sort)
+        }
+    }
+}
+
+fn push_pair(
+    text: &mut Text,
+    names: &Names,
+    peer: Role,
+    kind: Kind,
+    label: Label,
+    sort: Sort,
+) -> Result<(), NoMemory>
+    ensures { OnOk result (text.new ≡ text.old ++ spec.act_text (shown_act names.now kind peer label sort)) }
+{
+    push_role(text, names, peer)?;
+    text.push(mark_text(kind))?;
+    push_name(text, names.labels.as_slice(), usize::from(label.0))?;
+    text.push(b"(")?;
+    push_sort(text, sort)?;
+    text.push(b")")
+}
+
+fn mark_text(kind: Kind) -> &'static [u8]
+    ensures { result.now ≡ spec.mark_text kind }
+{
+    match kind {
+        Kind::Send => b"!",
+        Kind::Receive => b"?",
+    }
+}
+
+fn push_numbers(text: &mut Text, numbers: &[u32]) -> Result<(), NoMemory>
+    ensures { OnOk result (text.new ≡ text.old ++ spec.numbers_text numbers.now) }
+{
+    match numbers {
+        [] => Ok(()),
+        [first, later @ ..] => {
+            text.push_number(u64::from(*first))?;
+            push_later_numbers(text, later)
+        }
+    }
+}
+
+fn push_later_numbers(text: &mut Text, numbers: &[u32]) -> Result<(), NoMemory>
+    ensures { OnOk result (text.new ≡ text.old ++ with_separators (codes ", ") decimal numbers.now) }
+{
+    for number in numbers {
+        push_later_number(text, *number)?;
+    }
+    Ok(())
+}
+
+fn push_later_number(text: &mut Text, number: u32) -> Result<(), NoMemory>
+    ensures { OnOk result (text.new ≡ text.old ++ (codes ", " ++ decimal number)) }
+{
+    text.push(b", ")?;
+    text.push_number(u64::from(number))
+}
