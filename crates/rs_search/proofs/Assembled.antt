@@ -3,6 +3,7 @@ use Rattle.std.proofs.Common.{◌≡◌, ◌⊎◌, inl, inr, ℕ, ◌<◌, ◌�
 use Rattle.std.proofs.lemmas.Bool.{cases_lt, false≢true}
 use Rattle.std.proofs.lemmas.List.{get_or_past}
 use Rattle.std.proofs.lemmas.Option.{none-some, same_Some}
+use Rattle.rs_model.specs.declared.limits.TheConstants.{MOST_CANDIDATES}
 use Rattle.rs_model.specs.Data.{Machine_data}
 use Rattle.rs_derive.proofs.Rows.{complete}
 use Rattle.rs_derive.specs.Data.{DNode_data, Derivation_data}
@@ -66,7 +67,7 @@ pub record Worked_out (sub above : Machine_data) (bound : ℕ) : Type 0 where
   pub nodes : List DNode_data
   pub proper : IsProper above
   pub discovery : IsDiscovery (nexts_within sub above bound) (begin sub above) found rows
-  pub few : length found ≤ 65536
+  pub few : length found ≤ MOST_CANDIDATES
   pub pictures : Pictures (moves_at sub above bound) found graph.outs
   pub left : IsRemoval graph.outs current order
   pub numbers : IsDiscovery (next_of graph.outs current) 0 items nexts
@@ -247,8 +248,8 @@ rank-on E F to from i rank r = record { end = r.end; walk = walk_on E F to i ran
 pub least_on : (E F : ℕ → ℕ → Type 0) → ((i j : ℕ) → E i j → F i j) → ((i j : ℕ) → F i j → E i j) → (i : ℕ) → IsLeastOnCycle E i → IsLeastOnCycle F i
 least_on E F to from i c = record { cycle = (c.cycle.0, walk_on E F to i (suc c.cycle.0) i c.cycle.1); least = λ k d. c.least k (d.0, walk_on F E from k (suc d.0) k d.1) }
 
-few-are : (sub above : Machine_data) (bound : ℕ) (w : Worked_out sub above bound) → AreMoreThan sub above bound 65536 → ⊥
-few-are sub above bound w m = not_both (nexts_within sub above bound) (begin sub above) w.found w.rows 65536 w.discovery w.few (less_than sub above bound 65536 m)
+few-are : (sub above : Machine_data) (bound : ℕ) (w : Worked_out sub above bound) → AreMoreThan sub above bound MOST_CANDIDATES → ⊥
+few-are sub above bound w m = not_both (nexts_within sub above bound) (begin sub above) w.found w.rows MOST_CANDIDATES w.discovery w.few (less_than sub above bound MOST_CANDIDATES m)
 
 pub is_found : (sub above : Machine_data) (bound : ℕ) (w : Worked_out sub above bound) (kept : List (List ℕ)) → AreKept (map (is_keeping sub above bound) w.found) w.items w.nexts (length w.items) kept
     → ((i : ℕ) → IsRank (Edge kept) i (get_or w.ranks i 0)) → IsFound sub above bound (record { role = sub.role; bound = bound; nodes = w.nodes })

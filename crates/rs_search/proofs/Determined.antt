@@ -2,6 +2,7 @@
 use Rattle.std.proofs.Common.{◌≡◌, ◌≢◌, ◌⊎◌, ◌↔◌, inl, inr, ℕ, ◌<◌, ◌≤◌, ◌+◌, Bool, true, false, List, [], ◌∷◌, ◌++◌, length, map, eqb, refl, sym, ap, ◌∙◌, subst, arith, zero, suc, Some, None, Option, nat_lt, slice_get}
 use Rattle.std.proofs.lemmas.Bool.{cases_lt, eq-eqb, ne_eqb}
 use Rattle.std.proofs.lemmas.Option.{none-some, same_Some}
+use Rattle.rs_model.specs.declared.limits.TheConstants.{MOST_CANDIDATES}
 use Rattle.rs_model.specs.Data.{Machine_data}
 use Rattle.rs_model.specs.declared.graph.Arm.{Arm}
 use Rattle.rs_model.specs.declared.graph.Role.{Role}
@@ -359,8 +360,8 @@ not_both_ways sub above bound d (Forgets node) i r = absurd (no_answer_forgets s
 not_both_ways sub above bound d TooLarge i r = absurd (i.few r)
 not_both_ways sub above bound d NoMemory i r = refl
 
-pub few_nodes : (sub above : Machine_data) (bound : ℕ) (d : Derivation_data) → IsFound sub above bound d → length d.nodes ≤ 65536
-few_nodes sub above bound d f = elim (cases_lt 65536 (length d.nodes)) [
+pub few_nodes : (sub above : Machine_data) (bound : ℕ) (d : Derivation_data) → IsFound sub above bound d → length d.nodes ≤ MOST_CANDIDATES
+few_nodes sub above bound d f = elim (cases_lt MOST_CANDIDATES (length d.nodes)) [
   | inl lt ↦ absurd (f.few record {
     spots = spots d;
     each = λ p m. (let i = at_in (spots d) p m in let n = map-of (λ (x : DNode_data). spot_of x) d.nodes i.0 p i.1 in

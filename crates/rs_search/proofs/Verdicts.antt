@@ -3,6 +3,7 @@ use Rattle.std.proofs.Common.{◌≡◌, ◌≢◌, ◌⊎◌, ◌↔◌, inl, i
 use Rattle.std.specs.List.{list_any}
 use Rattle.std.proofs.lemmas.Bool.{cases_lt}
 use Rattle.std.proofs.lemmas.List.{get_or_past}
+use Rattle.rs_model.specs.declared.limits.TheConstants.{MOST_CANDIDATES}
 use Rattle.rs_graph.proofs.Buckets.{got}
 use Rattle.rs_model.specs.Data.{Machine_data}
 use Rattle.rs_derive.specs.Moves.{Spot, spot}
@@ -118,12 +119,12 @@ cut_from sub above bound found rows d c =
 
 -- where node 0 is removed the start doesn't survive
 pub not_found : (sub above : Machine_data) (bound : ℕ) (found : List Spot) (rows : List (List ℕ)) (anys : List Bool) (g : Graph_data) (current order : List ℕ) (cut : Bool) → IsDiscovery (nexts_within sub above bound) (begin sub above) found rows
-    → length found ≤ 65536 → anys ≡ map (is_any sub above bound) found → cut ≡ list_any (is_cut sub above bound) found → IsBuilt anys rows (length rows) g → IsRemoval g.outs current order → at current 0 ≡ removal.moves_at g.outs 0
+    → length found ≤ MOST_CANDIDATES → anys ≡ map (is_any sub above bound) found → cut ≡ list_any (is_cut sub above bound) found → IsBuilt anys rows (length rows) g → IsRemoval g.outs current order → at current 0 ≡ removal.moves_at g.outs 0
     → IsNotFound sub above bound cut
 not_found sub above bound found rows anys g current order cut d few ea ec b rem all =
     let pic = pictures sub above bound found rows anys g d ea b in
     record {
-      few = λ m. not_both (nexts_within sub above bound) (begin sub above) found rows 65536 d few (less_than sub above bound 65536 m);
+      few = λ m. not_both (nexts_within sub above bound) (begin sub above) found rows MOST_CANDIDATES d few (less_than sub above bound MOST_CANDIDATES m);
       dies = λ s. dies sub above bound found g current order pic rem 0 (begin sub above) d.first (omega arith) s;
       cuts = ((λ e. cut_to sub above bound found rows d (sym ec ∙ e)), (λ c. ec ∙ cut_from sub above bound found rows d c));
     }
@@ -151,7 +152,7 @@ rows_within next start found rows d n r m = elim (cases_lt n (length rows)) [
   | inr a ↦ (let z = get_or_past rows n [] a in let bad : Among [] r = subst (λ (w : List ℕ). Among w r) z m in absurd bad)
 ]
 
-pub few_rows : (rows : List (List ℕ)) → ((n : ℕ) → length (get_or rows n []) ≤ 65536) → (n : ℕ) → length (get_or rows n []) + 1 < 4294967296
+pub few_rows : (rows : List (List ℕ)) → ((n : ℕ) → length (get_or rows n []) ≤ MOST_CANDIDATES) → (n : ℕ) → length (get_or rows n []) + 1 < 4294967296
 few_rows rows h n = let k = h n in omega arith
 
 moves-length : (any : Bool) (row : List ℕ) → length (moves_of any row) ≤ length row + 1

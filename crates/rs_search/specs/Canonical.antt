@@ -1,5 +1,6 @@
--- The canonical derivation, and why there may be none.
+-- Believed: the canonical derivation, and why there may be none.
 use Rattle.std.specs.Prelude.{◌≡◌, ◌↔◌, ℕ, List, length, map, slice_get, Bool, true, Option, Some}
+use Rattle.rs_model.specs.declared.limits.TheConstants.{MOST_CANDIDATES}
 use Rattle.rs_model.specs.Data.{Machine_data}
 use Rattle.rs_derive.specs.Data.{DNode_data, Derivation_data}
 use Rattle.rs_derive.specs.Derivations.{KeepsItsHead, spot_of}
@@ -39,7 +40,7 @@ pub record KeepsHead (sub above : Machine_data) (nodes : List DNode_data) (i j :
 
 -- the canonical derivation: with it each rank is the greatest length of a walk of edges that keep their head
 pub record IsFound (sub above : Machine_data) (bound : ℕ) (d : Derivation_data) : Type 0 where
-  pub few : AreMoreThan sub above bound 65536 → ⊥
+  pub few : AreMoreThan sub above bound MOST_CANDIDATES → ⊥
   pub canonical : IsCanonical sub above bound d
   pub ranks : (i : ℕ) (n : DNode_data) → slice_get d.nodes i ≡ Some n → IsRank (KeepsHead sub above d.nodes) i n.rank
 
@@ -51,13 +52,13 @@ pub record SomeCut (sub above : Machine_data) (bound : ℕ) : Type 0 where
 
 -- the start doesn't survive; cut tells whether some candidate meets a cut
 pub record IsNotFound (sub above : Machine_data) (bound : ℕ) (cut : Bool) : Type 0 where
-  pub few : AreMoreThan sub above bound 65536 → ⊥
+  pub few : AreMoreThan sub above bound MOST_CANDIDATES → ⊥
   pub dies : Survives sub above bound (begin sub above) → ⊥
   pub cuts : (cut ≡ true) ↔ SomeCut sub above bound
 
 -- the canonical derivation has a cycle of edges that keep their head, and the node is the least on one
 pub record IsForgets (sub above : Machine_data) (bound node : ℕ) : Type 0 where
-  pub few : AreMoreThan sub above bound 65536 → ⊥
+  pub few : AreMoreThan sub above bound MOST_CANDIDATES → ⊥
   pub derivation : Derivation_data
   pub canonical : IsCanonical sub above bound derivation
   pub cycle : IsLeastOnCycle (KeepsHead sub above derivation.nodes) node
@@ -66,5 +67,5 @@ pub record IsForgets (sub above : Machine_data) (bound node : ℕ) : Type 0 wher
 abbrev pub Refuses : Machine_data → Machine_data → ℕ → SearchFault → Type 0
 Refuses sub above bound (NotFound cut) = IsNotFound sub above bound cut
 Refuses sub above bound (Forgets node) = IsForgets sub above bound node
-Refuses sub above bound TooLarge = AreMoreThan sub above bound 65536
+Refuses sub above bound TooLarge = AreMoreThan sub above bound MOST_CANDIDATES
 Refuses sub above bound NoMemory = Unit {0}

@@ -1,6 +1,7 @@
 //! Laws over the definitions that the contracts cite. The functions do nothing: the contract is the law.
 ghost use Rattle.std.specs.Prelude.{◌≡◌, ◌≢◌, ◌≤◌, ℕ, length, None};
 ghost use Rattle.rs_model.specs.Data.{Machine_data};
+ghost use Rattle.rs_model.specs.declared.limits.TheConstants.{MOST_CANDIDATES};
 ghost use Rattle.rs_derive.specs.Data.{Derivation_data};
 ghost use Rattle.rs_derive.specs.Derivations.{IsDerivation, IsProper, Remembers};
 ghost use Rattle.rs_derive.specs.Faults.{first_fault};
@@ -25,7 +26,7 @@ pub fn answers_are_one()
     ensures derivation { (sub above : Machine_data) (bound : ℕ) (d e : Derivation_data) → IsFound sub above bound d → IsFound sub above bound e → d ≡ e }
     ensures fault { (sub above : Machine_data) (bound : ℕ) (f g : SearchFault) → f ≢ NoMemory → g ≢ NoMemory → Refuses sub above bound f → Refuses sub above bound g → f ≡ g }
     ensures either { (sub above : Machine_data) (bound : ℕ) (d : Derivation_data) (f : SearchFault) → IsFound sub above bound d → Refuses sub above bound f → f ≡ NoMemory }
-    ensures few { (sub above : Machine_data) (bound : ℕ) (d : Derivation_data) → IsFound sub above bound d → length d.nodes ≤ 65536 }
+    ensures few { (sub above : Machine_data) (bound : ℕ) (d : Derivation_data) → IsFound sub above bound d → length d.nodes ≤ MOST_CANDIDATES }
 {}
 
 /// The start is a candidate, and no candidate owes more than the bound. The start survives where it is that of a

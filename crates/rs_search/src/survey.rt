@@ -14,7 +14,7 @@ ghost use Rattle.rs_search.specs.Turns.{nexts_within};
 use crate::SearchFault;
 use crate::found::{Candidates, Fault, find_all};
 use rs_graph::{Graph, Removal, Steps, graph_of, remove};
-use rs_model::Machine;
+use rs_model::{MOST_CANDIDATES, Machine};
 use std::alloc::Global;
 use std::sync::ledger::Ledger;
 
@@ -39,7 +39,7 @@ pub fn explore<L: Ledger>(
     ensures found { IfOk result (λ s. IsDiscovery (nexts_within sub.now above.now bound) (begin sub.now above.now) s.found.points.items s.found.rows.items) }
     ensures short { IfOk result (λ s. (n : ℕ) → length (slice_index_or s.found.rows.items n []) ≤ 2 ^ 16) }
     ensures keeps { IfOk result (λ s. s.found.keeps.items ≡ map (is_keeping sub.now above.now bound) s.found.points.items) }
-    ensures small { IfOk result (λ s. length s.found.points.items ≤ 65536) }
+    ensures small { IfOk result (λ s. length s.found.points.items ≤ MOST_CANDIDATES) }
     ensures anys { IfOk result (λ s. s.found.anys.items ≡ map (is_any sub.now above.now bound) s.found.points.items) }
     ensures built { IfOk result (λ s. IsBuilt s.found.anys.items s.found.rows.items (length s.found.rows.items) s.graph) }
     ensures left { IfOk result (λ s. IsRemoval s.graph.outs s.left.current.items s.left.order.items) }
@@ -48,7 +48,7 @@ pub fn explore<L: Ledger>(
     ensures steps { IfOk result (λ s. steps.new ≡ steps.old + sum_by (λ n. cost_of s.graph.intos n) s.left.order.items) }
     ensures cost { IfErr result (λ e. Costs sub.now above.now bound e steps.old steps.new) }
 {
-    let found = match find_all(alloc, sub, above, bound, 65_536) {
+    let found = match find_all(alloc, sub, above, bound, MOST_CANDIDATES) {
         Ok(found) => found,
         Err(Fault::TooLarge) => return Err(SearchFault::TooLarge),
         Err(Fault::Memory) => return Err(SearchFault::NoMemory),

@@ -1,4 +1,5 @@
 use Rattle.std.proofs.Common.{rules, arith, ◌≡◌, ◌<◌, ◌≤◌, ◌+◌, [], List, ℕ, Bool, length, map, slice_index_or, sym, subst, ◌∙◌, ap, refl}
+use Rattle.rs_model.specs.declared.limits.TheConstants.{MOST_CANDIDATES}
 use Rattle.rs_model.specs.declared.graph.Role.{Role}
 use Rattle.rs_model.specs.Data.{Machine_data}
 use Rattle.rs_derive.specs.Moves.{Spot}
@@ -27,7 +28,7 @@ kept_of-requires-clause-within g c = λ n m.
 pub rank_rows-requires-clause-few : goal.rank_rows-requires-clause-few
 rank_rows-requires-clause-few g c = λ n.
     let s = c.in-Ok.survey in let e = c.in-Ok.ensures in let d = c.in-Ok-number_all in
-    let f = nexts_few s.found.anys.items s.found.rows.items s.graph c.as_slice-current.result.now d.numbers.items.items d.numbers.nexts.items 65536 e.built e.short d.ensures.found in
+    let f = nexts_few s.found.anys.items s.found.rows.items s.graph c.as_slice-current.result.now d.numbers.items.items d.numbers.nexts.items MOST_CANDIDATES e.built e.short d.ensures.found in
     let a = same_kept c.as_slice.result.now c.as_slice.result.now d.numbers.items.items c.as_slice-items.result.now d.numbers.nexts.items c.as_slice-nexts.result.now c.in-Ok-kept_of.kept.items refl c.as_slice-items.ensures.value c.as_slice-nexts.ensures.value c.in-Ok-kept_of.ensures in
     let k = kept_few c.as_slice.result.now d.numbers.items.items d.numbers.nexts.items c.in-Ok-kept_of.kept.items 65537 a d.ensures.found.all f n in
     let l : length (slice_index_or c.as_slice-2.result.now n []) ≡ length (slice_index_or c.in-Ok-kept_of.kept.items n []) = ap (λ (z : List (List ℕ)). length (slice_index_or z n [])) c.as_slice-2.ensures.value in
@@ -128,4 +129,4 @@ returns-in-Ok-nodes_of-clause-steps g c =
 
 pub number_all-requires-clause-short : goal.number_all-requires-clause-short
 number_all-requires-clause-short g c = λ n. (let s = c.in-Ok.survey in let e = c.in-Ok.ensures in
-    let k = next_few s.found.anys.items s.found.rows.items s.graph c.as_slice-current.result.now 65536 e.built e.short n in omega arith)
+    let k = next_few s.found.anys.items s.found.rows.items s.graph c.as_slice-current.result.now MOST_CANDIDATES e.built e.short n in omega arith)

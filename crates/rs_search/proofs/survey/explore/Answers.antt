@@ -1,4 +1,5 @@
 use Rattle.std.proofs.Common.{rules, arith, ◌≡◌, ◌<◌, ◌≤◌, ◌+◌, ◌^◌, [], List, ℕ, Bool, length, map, slice_index_or, sym, subst, ◌∙◌, ap}
+use Rattle.rs_model.specs.declared.limits.TheConstants.{MOST_CANDIDATES}
 use Rattle.rs_graph.specs.Built.{IsBuilt}
 use Rattle.rs_search.specs.Candidates.{begin}
 use Rattle.rs_graph.specs.Removal.{at}
@@ -10,7 +11,7 @@ use Rattle.rs_search.proofs.Verdicts.{more_than, few_rows, rows_within, moves_fe
 use Rattle.rs_search.proofs.survey.explore.Goals as goal
 
 pub returns-in-Err-TooLarge-clause-err : goal.returns-in-Err-TooLarge-clause-err
-returns-in-Err-TooLarge-clause-err g c = more_than c.args.sub.now c.args.above.now c.args.bound 65536 (c.in-Err-TooLarge.ensures.large c.in-Err-TooLarge.field-0-is)
+returns-in-Err-TooLarge-clause-err g c = more_than c.args.sub.now c.args.above.now c.args.bound MOST_CANDIDATES (c.in-Err-TooLarge.ensures.large c.in-Err-TooLarge.field-0-is)
 
 pub graph_of-requires-clause-few : goal.graph_of-requires-clause-few
 graph_of-requires-clause-few g c = λ n. rw c.as_slice-2.ensures.value (few_rows c.in-Ok.found.rows.items c.in-Ok.ensures.short n)
