@@ -1,4 +1,4 @@
--- What a fault of a run says.
+-- Believed: what a fault of a run says.
 use Rattle.std.specs.Prelude.{ℕ, List}
 use Rattle.rs_model.specs.Data.{Machine_data}
 use Rattle.rs_core.specs.Actors.{Behaviour}

@@ -1,4 +1,4 @@
--- The canonical text of a protocol, and which protocols have one.
+-- Believed: the canonical text of a protocol, and which protocols have one.
 use Rattle.std.specs.Prelude.{◌≡◌, ℕ, ◌<◌, ◌≤◌, ◌+◌, List, [], ◌∷◌, ◌++◌, codes, take, Option, Some, slice_get}
 use Rattle.std.specs.Fmt.{decimal}
 use Rattle.rs_model.specs.Data.{Protocol_data, Names_data}

@@ -1,4 +1,4 @@
--- The faults of names and limits, by the place where a token stands.
+-- Believed: the faults of names and limits, by the place where a token stands.
 use Rattle.std.specs.Prelude.{ℕ, List, [], ◌∷◌, codes, length, Option, Some, None, if◌then◌else◌, nat_lt, nat_le}
 use Rattle.rs_text.specs.declared.faults.TextKind.{TextKind}
 use Rattle.rs_text.specs.declared.faults.TextKind.TheVariants as kind

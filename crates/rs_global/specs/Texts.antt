@@ -1,4 +1,4 @@
--- The text of a protocol tree, with the spacing of canonical texts.
+-- Believed: the text of a protocol tree, with the spacing of canonical texts.
 use Rattle.std.specs.Prelude.{ℕ, List, [], ◌∷◌, ◌++◌, codes}
 use Rattle.rs_text.specs.Arms.{arm_text}
 use Rattle.rs_global.specs.Trees.{Body, ends, again, binds, talks, offers, Branches, one, more, ProtocolTree, roles_of}

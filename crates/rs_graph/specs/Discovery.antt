@@ -1,4 +1,4 @@
--- Discovery: what is reached from a start, numbered in order of first sight.
+-- Believed: discovery: what is reached from a start, numbered in order of first sight.
 use Rattle.std.specs.Prelude.{◌≡◌, ◌⊎◌, ℕ, suc, ◌<◌, ◌≤◌, List, [], ◌∷◌, ◌++◌, length, Some, slice_get, slice_index_or}
 use Rattle.rs_graph.specs.Lists.{Among, Once, Names}
 

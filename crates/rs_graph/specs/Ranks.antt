@@ -1,4 +1,4 @@
--- Ranks over the rows of a graph, along an order in which each number stands behind all that its row leads to.
+-- Believed: ranks over the rows of a graph, along an order in which each number stands behind all that its row leads to.
 use Rattle.std.specs.Prelude.{◌≡◌, ◌⊎◌, ℕ, suc, ◌<◌, ◌≤◌, List, [], length, Some, slice_get, slice_index_or, ◌∷◌, Bool, true, false, if◌then◌else◌, ◌+◌}
 use Rattle.rs_graph.specs.Lists.{Among, Once}
 use Rattle.rs_graph.specs.Walks.{Walk}

@@ -1,4 +1,4 @@
--- The canonical text of a machine, and which machines have one.
+-- Believed: the canonical text of a machine, and which machines have one.
 use Rattle.std.specs.Prelude.{◌≡◌, ℕ, ◌<◌, ◌≤◌, ◌+◌, List, [], ◌∷◌, ◌++◌, codes, Option, Some, slice_get}
 use Rattle.std.specs.Fmt.{decimal}
 use Rattle.rs_model.specs.Data.{Machine_data, Names_data}

@@ -1,4 +1,4 @@
--- How the canonical text is written, step by step: braces that are open are kept on a stack.
+-- Steps: how the canonical text is written, step by step: braces that are open are kept on a stack.
 use Rattle.std.specs.Prelude.{◌≡◌, ℕ, ◌+◌, List, [], ◌∷◌, ◌++◌, codes, length, Option, Some, None, Bool, true, false, get_or, slice_get, slice_set, nat_lt, nat_le, ◌&&◌, ◌||◌, is_some, if◌then◌else◌, ◌↔◌}
 use Rattle.rs_model.specs.Data.{Machine_data, Names_data}
 use Rattle.rs_model.specs.declared.graph.Arm.{Arm}

@@ -1,4 +1,4 @@
--- What the faults of names and limits hang on.
+-- Believed: what the faults of names and limits hang on.
 use Rattle.std.specs.Prelude.{ℕ, suc, ◌+◌, List, [], ◌∷◌}
 use Rattle.rs_model.specs.Data.{Names_data}
 use Rattle.rs_text.specs.Names.{Bound, grown}

@@ -1,4 +1,4 @@
--- The table that a machine is printed as.
+-- Believed: the table that a machine is printed as.
 pub use Rattle.rs_text.specs.Names.{name_at}
 use Rattle.std.specs.Prelude.{ℕ, suc, List, [], ◌∷◌, ◌++◌, codes}
 use Rattle.std.specs.Fmt.{decimal}

@@ -1,4 +1,4 @@
--- The text of a machine tree, with the spacing of canonical texts.
+-- Believed: the text of a machine tree, with the spacing of canonical texts.
 use Rattle.std.specs.Prelude.{ℕ, List, ◌++◌, codes}
 use Rattle.rs_text.specs.Arms.{arm_text}
 use Rattle.rs_machines.specs.declared.marks.Mark.{Mark}

@@ -1,4 +1,4 @@
--- What the work on the states keeps, and what it comes to.
+-- Steps: what the work on the states keeps, and what it comes to.
 use Rattle.std.specs.Prelude.{◌≡◌, ◌≢◌, ◌⊎◌, ℕ, ◌<◌, ◌≤◌, true, List, [], ◌∷◌, ◌++◌, map, length, Option, Some, slice_get}
 use Rattle.std.specs.List.{Contains}
 use Rattle.rs_model.specs.declared.limits.TheConstants.{MOST_STATES}

@@ -1,4 +1,4 @@
--- The canonical derivation, and why there may be none.
+-- Believed: the canonical derivation, and why there may be none.
 use Rattle.std.specs.Prelude.{◌≡◌, ◌↔◌, ℕ, List, length, map, slice_get, Bool, true, Option, Some}
 use Rattle.rs_model.specs.Data.{Machine_data}
 use Rattle.rs_derive.specs.Data.{DNode_data, Derivation_data}

@@ -1,4 +1,4 @@
--- What the search may cost.
+-- Believed: what the search may cost.
 use Rattle.std.specs.Prelude.{◌≡◌, ℕ, ◌+◌, ◌*◌, ◌≤◌, List, length}
 use Rattle.std.specs.List.{sum_by}
 use Rattle.rs_model.specs.Data.{Machine_data}

@@ -1,4 +1,4 @@
--- Two small machines.
+-- Believed: two small machines.
 use Rattle.std.specs.Prelude.{List, [], ◌∷◌}
 use Rattle.rs_model.specs.Data.{Machine_data}
 use Rattle.rs_model.specs.declared.machines.State.TheVariants.{Done, Takes}

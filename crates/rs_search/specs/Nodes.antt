@@ -1,4 +1,4 @@
--- The nodes of a derivation, from numbered spots.
+-- Steps: the nodes of a derivation, from numbered spots.
 use Rattle.std.specs.Prelude.{◌≡◌, ◌<◌, ℕ, List, [], length, slice_get, slice_index_or, Some, Bool, false, if◌then◌else◌}
 use Rattle.rs_derive.specs.Data.{DNode_data}
 use Rattle.rs_derive.specs.Moves.{Spot}

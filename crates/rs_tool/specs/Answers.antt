@@ -1,4 +1,4 @@
--- What the program answers to its words and its input.
+-- Believed: what the program answers to its words and its input.
 use Rattle.std.specs.Prelude.{◌≡◌, ℕ, ◌<◌, ◌≤◌, codes, length, List, true, false, Some, None}
 use Rattle.rs_model.specs.declared.limits.TheConstants.{MOST_BYTES}
 use Rattle.rs_text.specs.declared.faults.TextKind.{TextKind}

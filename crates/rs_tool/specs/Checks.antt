@@ -1,4 +1,4 @@
--- What `check` answers to a document.
+-- Believed: what `check` answers to a document.
 use Rattle.std.specs.Prelude.{◌≡◌, List, Some, None}
 use Rattle.rs_model.specs.Data.{Machine_data}
 use Rattle.rs_model.specs.declared.graph.Role.{Role}

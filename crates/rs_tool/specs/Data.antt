@@ -1,4 +1,4 @@
--- What contracts see of documents and answers.
+-- Believed: what contracts see of documents and answers.
 use Rattle.std.specs.Prelude.{ℕ, List, Option}
 use Rattle.rs_model.specs.Data.{Names_data, Protocol_data, Machine_data}
 use Rattle.rs_tool.specs.declared.statuses.Verdict.{Verdict}

@@ -1,4 +1,4 @@
--- The derivations of a session: those that the search finds for its machines.
+-- Believed: the derivations of a session: those that the search finds for its machines.
 use Rattle.std.specs.Prelude.{◌≡◌, ◌≢◌, ◌⊎◌, ℕ, List, Some, length, slice_get}
 use Rattle.rs_derive.specs.Data.{Derivation_data}
 use Rattle.rs_derive.specs.Derivations.{IsProper}

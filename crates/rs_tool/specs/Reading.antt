@@ -1,4 +1,4 @@
--- How a document is read: token by token behind the protocol, and machine by machine.
+-- Steps: how a document is read: token by token behind the protocol, and machine by machine.
 use Rattle.std.specs.Prelude.{◌+◌, ◌≡◌, ℕ, ◌<◌, ◌≤◌, suc, List, [], ◌∷◌, length, codes, Bool, true, false, Option, Some, None, slice_get, if◌then◌else◌}
 use Rattle.rs_model.specs.declared.limits.TheConstants.{MOST_ACTS, MOST_LABELS, MOST_ROLES, MOST_TALKS}
 use Rattle.rs_model.specs.Data.{Names_data, Machine_data}

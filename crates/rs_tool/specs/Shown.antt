@@ -1,4 +1,4 @@
--- What `show` answers to a document: its canonical text.
+-- Believed: what `show` answers to a document: its canonical text.
 use Rattle.std.specs.Prelude.{◌≡◌, ℕ, List, [], ◌∷◌, ◌++◌, Option, Some, None}
 use Rattle.rs_model.specs.Data.{Names_data, Machine_data}
 use Rattle.rs_global.specs.Canonical.{IsCanonicalText, IsTextShaped}

@@ -1,4 +1,4 @@
--- The words of the program.
+-- Believed: the words of the program.
 use Rattle.std.specs.Prelude.{String, string_bytes, map, List, [], ◌∷◌, ℕ, Bool, false, codes, Option, Some, None, is_some, if◌then◌else◌}
 use Rattle.std.specs.List.{list_any}
 use Rattle.std.specs.Str.{bytes_eq}
