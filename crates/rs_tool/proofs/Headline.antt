@@ -84,7 +84,7 @@ checked-is-safe bytes d a doc (IsAccepted projections machines derivations h fou
       document = d;
       projections = projections;
       spells = doc;
-      well_formed = no_fault d.protocol h.projections_are.well_formed;
+      well_formed = session.well_formed;
       projected = h.projections_are.projected;
       one_each = one_place_each bytes d doc;
       safe = subst IsSafe h.machines_are (canonical_safe d.protocol projections machines derivations session found);

@@ -12,7 +12,6 @@ use Rattle.rs_text.specs.declared.faults.Wanted.TheVariants as wanted
 use Rattle.rs_global.specs.Spells.{SpellsProtocol}
 use Rattle.rs_global.proofs.SpeltLaws as global
 use Rattle.rs_global.proofs.OneFault as one_global
-use Rattle.rs_global.proofs.SpeltLaws as spelt_global
 use Rattle.rs_machines.specs.Machines.{names_of}
 use Rattle.rs_machines.specs.Spells.{SpellsMachine}
 use Rattle.rs_machines.proofs.OneFault.{one_fault}
@@ -106,7 +105,7 @@ one_rest bytes p at names machines x y (Adds a u n v m r z e i h j) (Adds b c o 
 
 one_behind : (bytes : List ℕ) (x y : Content) → IsBehindProtocol bytes x → IsBehindProtocol bytes y → x ≡ y
 one_behind bytes x y a b =
-    let same = spelt_global.one_spelling bytes 0 a.names b.names a.protocol b.protocol a.until b.until a.spells b.spells in
+    let same = global.one_spelling bytes 0 a.names b.names a.protocol b.protocol a.until b.until a.spells b.spells in
     one_rest bytes a.protocol a.until a.names (no_machines a.names.roles) x y a.goes_on
     (subst (λ (n : ℕ). GoesOn bytes a.protocol n a.names (no_machines a.names.roles) y) (sym same.2)
     (subst (λ (n : Names_data). GoesOn bytes a.protocol b.until n (no_machines n.roles) y) (sym same.0)
@@ -241,7 +240,7 @@ pub record SomeFound (bytes : List ℕ) : Type 0 where
   pub is : IsContent bytes what
 
 pub some_found : (bytes : List ℕ) → SomeFound bytes
-some_found bytes = elim (spelt_global.spelt_or_faulty bytes 0 (omega arith)) [
+some_found bytes = elim (global.spelt_or_faulty bytes 0 (omega arith)) [
   | inl h ↦
       let rest = some_rest (suc (free_in (no_machines h.0.roles))) bytes h.1 h.2 h.0 (no_machines h.0.roles) (omega arith) (protocol_within bytes h.0 h.1 h.2 h.3) (map_size h.0.roles) in
       record { what = rest.what; is = content_is bytes rest.what (record { names = h.0; protocol = h.1; until = h.2; spells = h.3; goes_on = rest.is }) }
