@@ -16,7 +16,7 @@ pub struct Move {
     pub place: u32,
 }
 
-/// Numbers.
+/// Numbers of nodes, in order.
 #[derive(Drop, Debug)]
 pub struct Row {
     numbers: Vec<u32>,
@@ -31,6 +31,7 @@ impl Model for Row {
 }
 
 impl Row {
+    /// No numbers.
     pub fn new(alloc: Global) -> Row
         ensures { result ≡ [] }
     {
@@ -39,6 +40,7 @@ impl Row {
         }
     }
 
+    /// The numbers.
     pub fn as_slice(&self) -> &[u32]
         ensures { result.now ≡ self.now }
     {
@@ -54,6 +56,7 @@ impl Row {
         })
     }
 
+    /// One number more; where memory is refused nothing changes.
     pub fn push(&mut self, n: u32) -> Result<(), NoMemory>
         ensures ok { OnOk result (self.new ≡ self.old ++ n ∷ []) }
         ensures err { OnErr result (self.new ≡ self.old) }
@@ -196,6 +199,7 @@ impl Graph {
         }
     }
 
+    /// How many nodes there are.
     pub fn nodes(&self) -> usize
         ensures nodes { result ≡ length self.now.outs }
         ensures same { length self.now.outs ≡ length self.now.intos }

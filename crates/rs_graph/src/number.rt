@@ -91,6 +91,8 @@ pub struct Numbers {
     pub nexts: Vec<Row>,
 }
 
+/// Numbers the nodes that are reached from node 0 by the moves at which they stay, in order of first discovery. Counts
+/// one step for each node and one for each result of its move.
 pub fn number_all<L: Ledger>(
     alloc: Global,
     graph: &Graph,

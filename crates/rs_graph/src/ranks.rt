@@ -43,9 +43,12 @@ pub fn rank_all(alloc: Global, rows: &[Row], order: &[u32]) -> Result<Vec<u32>, 
     Ok(ranks)
 }
 
+/// Why rows have no ranks.
 #[derive(Drop, Debug)]
 pub enum RankFault {
+    /// Some number is on a cycle; this is the least such.
     OnCycle { node: u32 },
+    /// Memory was refused.
     Memory,
 }
 
