@@ -17,7 +17,9 @@ mod texts;
 mod words;
 
 pub use calls::{command, command_serial};
+pub use derivations::{DEFAULT_BOUND, Underivable, derivations_of};
 pub use documents::{Content, Document, read_document};
+pub use sessions::{first_refusal, machines_of, projections_of};
 pub use shown::print_document;
 pub use statuses::{Reply, Serial, Status};
 
