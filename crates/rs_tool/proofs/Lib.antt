@@ -8,6 +8,7 @@ pub mod Derivings
 pub mod Answering
 pub mod Headline
 pub mod Unique
+pub mod Complete
 pub mod SomeAnswer
 pub mod Lines
 pub mod OneSession

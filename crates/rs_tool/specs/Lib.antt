@@ -1,6 +1,7 @@
 pub mod Answers
 pub mod Calls
 pub mod Checks
+pub mod Completeness
 pub mod Data
 pub mod Derivations
 pub mod Documents

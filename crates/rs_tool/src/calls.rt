@@ -5,6 +5,7 @@ ghost use Rattle.std.specs.Io.KnownBytes.{IsAtEnd};
 ghost use Rattle.rs_io.specs.Faults.{Rose};
 ghost use Rattle.rs_tool.specs.Answers.{Answers};
 ghost use Rattle.rs_tool.specs.Calls.{Ends, IsAnswered, IfAnswered};
+ghost use Rattle.rs_tool.specs.Completeness.{IsComplete};
 ghost use Rattle.rs_tool.specs.Headline.{SpellsSafeMachines};
 ghost use Rattle.rs_tool.specs.Words.{bytes_of_words, is_check, reads};
 
@@ -76,6 +77,8 @@ pub fn command_serial<S: Source, K: Sink>(
         source.old source.new status) }
     ensures headline { IfAnswered result (λ status. is_check (bytes_of_words words.now) ≡ true
         → IfSome (S.left source.old) (λ bytes. status ≡ Status.Fine → SpellsSafeMachines bytes)) }
+    ensures complete { IfAnswered result (λ status. IsComplete (bytes_of_words words.now) (S.left source.old)
+        (Rose (S.faults source.old) (S.faults source.new) (S.last source.new)) (Rose (K.faults sink.old) (K.faults sink.new) (K.last sink.new)) status) }
 {
     Serial::Answered(Reply {
         status: carry_out(alloc, words, source, sink),
@@ -96,6 +99,8 @@ pub fn command<R: Threads + Wait + Sync, S: Source, K: Sink>(
         source.old source.new result.status }
     ensures headline { is_check (bytes_of_words words.now) ≡ true
         → IfSome (S.left source.old) (λ bytes. result.status ≡ Status.Fine → SpellsSafeMachines bytes) }
+    ensures complete { IsComplete (bytes_of_words words.now) (S.left source.old)
+        (Rose (S.faults source.old) (S.faults source.new) (S.last source.new)) (Rose (K.faults sink.old) (K.faults sink.new) (K.last sink.new)) result.status }
 {
     match command_serial(alloc, words, source, sink) {
         Serial::Answered(reply) => reply,

@@ -1,7 +1,15 @@
 use Rattle.rs_tool.specs.Words.{bytes_of_words}
+use Rattle.rs_io.specs.Faults.{Rose}
+use Rattle.rs_tool.proofs.Complete.{complete}
 use Rattle.rs_tool.proofs.Headline.{fine-is-safe}
 use Rattle.rs_tool.proofs.calls.command_serial.Goals as goal
 
 pub returns-clause-headline : goal.returns-clause-headline
 returns-clause-headline g c = λ check.
     fine-is-safe (bytes_of_words c.args.words.now) (g.S.Source.left c.args.source.now) (g.K.Sink.written c.args.sink.now) (g.K.Sink.written c.carry_out.new.sink) c.carry_out.result check c.carry_out.ensures.answer
+
+pub returns-clause-complete : goal.returns-clause-complete
+returns-clause-complete g c =
+    complete (bytes_of_words c.args.words.now) (g.S.Source.left c.args.source.now) (g.S.Source.left c.carry_out.new.source) (g.K.Sink.written c.args.sink.now) (g.K.Sink.written c.carry_out.new.sink)
+    (Rose (g.S.Source.faults c.args.source.now) (g.S.Source.faults c.carry_out.new.source) (g.S.Source.last c.carry_out.new.source)) (Rose (g.K.Sink.faults c.args.sink.now) (g.K.Sink.faults c.carry_out.new.sink) (g.K.Sink.last c.carry_out.new.sink))
+    c.args.source.now c.carry_out.new.source c.carry_out.result c.carry_out.ensures
