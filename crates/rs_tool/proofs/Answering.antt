@@ -1,5 +1,5 @@
 -- What an answer that was made says of its document, and a call that wrote it of its source and sink.
-use Rattle.std.proofs.Common.{◌≡◌, ℕ, ◌≤◌, ◌<◌, ◌⊎◌, List, [], ◌∷◌, length, true, false, Option, Some, None, Result, Ok, Err, refl, sym, ap, subst, ◌∙◌, inl, inr}
+use Rattle.std.proofs.Common.{◌≡◌, ℕ, ◌≤◌, ◌<◌, ◌⊎◌, List, length, true, false, Option, Some, None, Result, Ok, Err, refl, sym, ap, subst, ◌∙◌, inl, inr}
 use Rattle.std.specs.Prelude.{IfOk, IfSome, codes}
 use Rattle.std.specs.Io.KnownBytes.{Appends, Keeps, IsAtEnd}
 use Rattle.rs_io.specs.Prefix.{AppendsPrefix}
@@ -37,7 +37,6 @@ use Rattle.rs_tool.specs.Sessions.{Refuses, first_refusal, machines_of}
 use Rattle.rs_tool.specs.Statuses.{status_of}
 use Rattle.rs_tool.specs.Tables as tables
 use Rattle.rs_tool.specs.Tables.{Projects}
-use Rattle.rs_tool.specs.Texts.{joined}
 use Rattle.rs_tool.specs.Words.{reads, task_of}
 
 -- an answer that was made is the one that is meant

@@ -1,6 +1,5 @@
 -- A text whose machines have derivations is accepted.
 use Rattle.std.proofs.Common.{◌≡◌, ◌⊎◌, inl, inr, ℕ, List, Bool, true, Option, Some, None, ap, ◌∙◌, if◌then◌else◌, refl}
-use Rattle.std.specs.Prelude.{IfSome}
 use Rattle.rs_tool.specs.Answers.{Answers, CarriesOut, IsDocument}
 use Rattle.rs_tool.specs.Calls.{Ends, Tells, TellsAll, TellsPart, TellsReadFault, TellsNoMemory}
 use Rattle.rs_tool.specs.Checks.{IsAccepted}
@@ -11,7 +10,6 @@ use Rattle.rs_tool.specs.Statuses.{status_of}
 use Rattle.rs_tool.specs.Words.{is_check, is_show, is_project, task_of}
 use Rattle.rs_tool.specs.declared.statuses.Status.{Status}
 use Rattle.rs_tool.specs.declared.statuses.Status.TheVariants as status
-use Rattle.rs_tool.specs.declared.words.Task.{Task}
 use Rattle.rs_tool.specs.declared.words.Task.TheVariants as task
 use Rattle.rs_tool.proofs.Unique.{one_answer}
 

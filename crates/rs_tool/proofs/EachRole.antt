@@ -1,7 +1,6 @@
 -- The projections and machines of a session, as they are found one by one.
 use Rattle.std.proofs.Common.{min, drop, append-nil, slice_index_or, ◌≡◌, ◌⊎◌, ℕ, zero, suc, ◌+◌, ◌<◌, ◌≤◌, List, [], ◌∷◌, ◌++◌, length, Option, Some, None, refl, sym, ap, subst, ◌∙◌, inl, inr, arith, slice_get, length-append}
 use Rattle.rs_model.specs.Data.{Protocol_data, Machine_data}
-use Rattle.rs_model.specs.declared.graph.Role.{Role}
 use Rattle.rs_model.specs.declared.limits.TheConstants.{MOST_ACTS, MOST_STATES}
 use Rattle.rs_project.specs.Data.{Projection_data}
 use Rattle.rs_project.specs.Numbered.{IsNumberedProjection, AreFirstProjections, AreNumberedProjections}

@@ -1,9 +1,7 @@
 -- What a document that a text spells gives to its session: two to sixteen roles, and each machine in its role's place.
-use Rattle.std.proofs.Common.{◌≡◌, ℕ, ◌≤◌, List, length, Option, Some, None, refl, sym, ap, subst, ◌∙◌, arith}
-use Rattle.rs_model.specs.Data.{Names_data, Protocol_data, Machine_data}
+use Rattle.std.proofs.Common.{◌≡◌, ℕ, ◌≤◌, List, length, Option, Some, refl, sym, ap, subst, ◌∙◌}
+use Rattle.rs_model.specs.Data.{Names_data, Machine_data}
 use Rattle.rs_model.specs.declared.limits.TheConstants.{MOST_ROLES}
-use Rattle.rs_global.specs.Spells.{SpellsProtocol}
-use Rattle.rs_global.specs.Trees.{roles_of}
 use Rattle.rs_tool.specs.Data.{Document_data}
 use Rattle.rs_tool.specs.Spells.{MachinesBehind, NoMore, OneMore, SpellsDocument, no_machines, with_machine}
 use Rattle.rs_tool.specs.Reading.{AreInPlace}

@@ -34,13 +34,12 @@ use Rattle.rs_tool.specs.Checks as checks
 use Rattle.rs_tool.specs.Checks.{Checks}
 use Rattle.rs_tool.specs.Data.{Document_data, Answer_data}
 use Rattle.rs_tool.specs.Documents.{SpellsDocument}
-use Rattle.rs_tool.specs.RefusalTexts.{not_built, too_large, fault_answer, wf_answer, proj_answer, machine_answer, search_answer}
+use Rattle.rs_tool.specs.RefusalTexts.{fault_answer, wf_answer, proj_answer, machine_answer, search_answer}
 use Rattle.rs_tool.specs.Report.{report}
 use Rattle.rs_tool.specs.Sessions.{HasProjections, IsUnprojectable, MachineRefusal, first_refusal, machines_of}
 use Rattle.rs_tool.specs.Shown.{AreCanonicalMachines, AreShown, Shows}
 use Rattle.rs_tool.specs.Tables as tables
 use Rattle.rs_tool.specs.Tables.{Projects, tables_text}
-use Rattle.rs_tool.specs.Texts.{joined}
 use Rattle.rs_tool.specs.Words.{names_command, task_of}
 use Rattle.rs_tool.proofs.CanShow.{role_names}
 use Rattle.rs_project.proofs.OneProjection.{not-both, one-projection}

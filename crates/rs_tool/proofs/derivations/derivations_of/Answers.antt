@@ -1,9 +1,9 @@
-use Rattle.std.proofs.Common.{rules, ◌≡◌, ◌<◌, ◌∷◌, ◌++◌, ◌+◌, [], List, Some, length, slice_get, sym, ap, subst}
+use Rattle.std.proofs.Common.{rules, ◌≡◌, ◌∷◌, ◌++◌, ◌+◌, [], List, sym, ap, subst}
 use Rattle.rs_derive.specs.Data.{Derivation_data}
 use Rattle.rs_derive.specs.Derivations.{IsProper}
 use Rattle.rs_model.specs.Data.{Machine_data}
 use Rattle.rs_project.specs.Data.{Projection_data}
-use Rattle.rs_safety.proofs.Accepts.{gets, machine-proper, projection-proper}
+use Rattle.rs_safety.proofs.Accepts.{gets, projection-proper}
 use Rattle.rs_search.specs.Canonical.{IsFound, Refuses}
 use Rattle.rs_tool.specs.Derivations.{AreFirstCanonical}
 use Rattle.rs_tool.specs.declared.derivations.TheConstants.{DEFAULT_BOUND}

@@ -1,4 +1,4 @@
-use Rattle.std.proofs.Common.{rules, map, ◌∙◌}
+use Rattle.std.proofs.Common.{map, ◌∙◌}
 use Rattle.rs_safety.proofs.Limits.{is-greatest}
 use Rattle.rs_tool.proofs.report.greatest_rank.Goals as goal
 

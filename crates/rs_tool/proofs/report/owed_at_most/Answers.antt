@@ -1,4 +1,4 @@
-use Rattle.std.proofs.Common.{rules, map, length, ◌∙◌}
+use Rattle.std.proofs.Common.{map, length, ◌∙◌}
 use Rattle.rs_safety.proofs.Limits.{is-greatest}
 use Rattle.rs_tool.proofs.report.owed_at_most.Goals as goal
 
