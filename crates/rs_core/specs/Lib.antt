@@ -2,3 +2,12 @@ pub mod Configurations
 pub mod Safety
 pub mod Choices
 pub mod Examples
+pub mod Histories
+pub mod Actors
+pub mod Plain
+pub mod Determined
+pub mod Core
+pub mod Turns
+pub mod Runs
+pub mod Draws
+pub mod Choosing

@@ -1,7 +1,24 @@
 //! Configurations of machines over queues, their steps, and what it means that machines are safe.
 #![tactic(auto)]
 
+mod actors;
+mod cells;
 pub mod laws;
 mod messages;
+mod players;
+mod playing;
+mod rows;
+mod runs;
+mod seeded;
+mod steps;
+#[cfg(test)]
+mod tests;
+mod transcripts;
+mod turns;
 
-pub use messages::{Event, Message};
+pub use actors::Actor;
+pub use messages::{Event, Message, Refused, StepFault, Stepped};
+pub use runs::{Outcome, Run, RunFault, run_bounded, run_plain};
+pub use seeded::SeededActor;
+pub use steps::Core;
+pub use transcripts::{Entry, Transcript, Transcripts};

@@ -1,4 +1,4 @@
--- What contracts see of the reader.
+-- Believed: what contracts see of the reader.
 use Rattle.std.specs.Prelude.{ℕ, List}
 use Rattle.rs_model.specs.declared.graph.Role.{Role}
 use Rattle.rs_derive.specs.Data.{DNode_data}

@@ -1,4 +1,4 @@
--- Lists as texts have them: one after another, with something between.
+-- Believed: lists as texts have them: one after another, with something between.
 use Rattle.std.specs.Prelude.{List, [], ◌∷◌, ◌++◌}
 
 -- what stands for each of these, with the separator before it

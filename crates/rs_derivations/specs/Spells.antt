@@ -1,4 +1,4 @@
--- What a text spells.
+-- Believed: what a text spells.
 use Rattle.std.specs.Prelude.{◌≡◌, ℕ, ◌≤◌, List, ◌∷◌, ◌++◌, length, true}
 use Rattle.std.specs.List.{list_all}
 use Rattle.rs_model.specs.Data.{Names_data}

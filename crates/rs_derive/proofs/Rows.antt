@@ -59,10 +59,10 @@ pub record Turned (p : Spot) (makes : Option ℕ) (rs : List Spot) (o : Option D
   pub agrees : Agrees p.pending makes d.keeps
   pub picks : Chosen d.nexts rs
 
-serve : (a b : Sort) → Serves a b → serves a b ≡ true
+pub serve : (a b : Sort) → Serves a b → serves a b ≡ true
 serve a b e = eq-eqb (sort_number a) (sort_number b) (ap sort_number e)
 
-both_serve : (theirs : List Arm) (pending : List Act) (arms : List Arm) (rs : List Spot) → Both theirs pending arms rs → all_serve theirs arms ≡ true
+pub both_serve : (theirs : List Arm) (pending : List Act) (arms : List Arm) (rs : List Spot) → Both theirs pending arms rs → all_serve theirs arms ≡ true
 both_serve theirs pending [] [] b = refl
 both_serve theirs pending [] (r ∷ rs) b = refl
 both_serve theirs pending (a ∷ later) [] b = absurd b

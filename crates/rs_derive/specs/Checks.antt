@@ -1,4 +1,4 @@
--- The first fault of a derivation, as the code finds it.
+-- Steps: the first fault of a derivation, as the code finds it.
 use Rattle.std.specs.Prelude.{ℕ, ◌+◌, List, [], ◌∷◌, ◌++◌, length, slice_get, Bool, true, false, ◌==◌, ◌&&◌, nat_lt, nat_le, if◌then◌else◌, Option, Some, None}
 use Rattle.std.specs.List.{list_any}
 use Rattle.rs_model.specs.Data.{Machine_data}

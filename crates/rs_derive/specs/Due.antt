@@ -1,4 +1,4 @@
--- The moves of a spot as they are computed: one function for each row of the table.
+-- Steps: the moves of a spot as they are computed: one function for each row of the table.
 use Rattle.std.specs.Prelude.{◌≡◌, ℕ, List, [], ◌∷◌, length, map, slice_get, Bool, false, ◌==◌, ◌&&◌, nat_lt, if◌then◌else◌, Option, Some, None}
 use Rattle.std.specs.List.{list_all}
 use Rattle.rs_model.specs.Data.{Machine_data}

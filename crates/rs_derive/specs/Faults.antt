@@ -1,4 +1,4 @@
--- The first fault of a derivation: all its tests in order, and the first that isn't passed.
+-- Believed: the first fault of a derivation: all its tests in order, and the first that isn't passed.
 use Rattle.std.specs.Prelude.{◌≡◌, ◌≢◌, ◌⊎◌, ℕ, ◌+◌, ◌<◌, ◌≤◌, List, [], ◌∷◌, ◌++◌, length, slice_get, Bool, true, false, not, ◌&&◌, ◌||◌, nat_lt, nat_le, if◌then◌else◌, Option, Some, None}
 use Rattle.rs_model.specs.Data.{Machine_data}
 use Rattle.rs_derive.specs.Checks.{names, starts}

@@ -14,4 +14,6 @@ mod tests;
 pub use checks::check;
 pub use derivations::{DNode, Derivation, longest, top_rank};
 pub use faults::DeriveFault;
+pub use rs_graph::{Graph, Steps};
 pub use rules::{Rule, arm_of, arms_at, rule_at};
+pub use targets::same_acts;

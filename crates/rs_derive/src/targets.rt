@@ -70,7 +70,7 @@ fn is_changed(acts: &[Act], pending: &[Act], change: Change) -> bool
     ensures { result ≡ same_acts acts.now (changed pending.now change) }
 {
     match change {
-        Change::Same => same(acts, pending),
+        Change::Same => same_acts(acts, pending),
         Change::Without(place) => is_without(acts, pending, place),
         Change::With(act) => is_with(acts, pending, act),
     }
@@ -98,10 +98,11 @@ fn is_joined(acts: &[Act], front: &[Act], back: &[Act]) -> bool
         return false;
     }
     let (ours, later) = acts.split_at(front.len());
-    same(ours, front) && same(later, back)
+    same_acts(ours, front) && same_acts(later, back)
 }
 
-fn same(acts: &[Act], others: &[Act]) -> bool
+/// Whether both owe the same acts in the same order.
+pub fn same_acts(acts: &[Act], others: &[Act]) -> bool
     ensures { result ≡ same_acts acts.now others.now }
 {
     acts == others

@@ -10,6 +10,7 @@ use Rattle.rs_model.specs.declared.graph.Node.TheVariants.{Finished, Talk}
 use Rattle.rs_model.specs.declared.graph.Role.{Role}
 use Rattle.rs_global.specs.Canonical.{IsGoneBackTo}
 use Rattle.rs_global.specs.Printing.{marked, marked_node, marked_all, AreBack}
+use Rattle.rs_text.proofs.Basics.{some_is}
 
 abbrev one_marked : ℕ → Arm → List Bool → List Bool
 one_marked node a flags = if nat_le a.next node && nat_lt a.next (length flags) then slice_set flags a.next true else flags
@@ -109,13 +110,10 @@ arms_keep : (arms : List Arm) (node : ℕ) (flags : List Bool) (n : ℕ) → get
 arms_keep [] node flags n h = h
 arms_keep (a ∷ arms) node flags n h = arms_keep arms node (one_marked node a flags) n (one_keeps node a flags n h)
 
-same_arm : (x y : Arm) → Some x ≡ Some y → x ≡ y
-same_arm x y h = cc
-
 arms_mark : (arms : List Arm) (place node : ℕ) (flags : List Bool) (a : Arm) → slice_get arms place ≡ Some a → a.next ≤ node → a.next < length flags → get_or (marked node arms flags) a.next false ≡ true
 arms_mark [] place node flags a h later within = absurd (cc h)
 arms_mark (b ∷ arms) zero node flags a h later within =
-    arms_keep arms node (one_marked node b flags) a.next (subst (λ (x : Arm). get_or (one_marked node b flags) x.next false ≡ true) (same_arm b a h) (one_marks node b flags (rw (same_arm b a h) later) (rw (same_arm b a h) within)))
+    arms_keep arms node (one_marked node b flags) a.next (subst (λ (x : Arm). get_or (one_marked node b flags) x.next false ≡ true) (some_is b a h) (one_marks node b flags (rw (some_is b a h) later) (rw (some_is b a h) within)))
 arms_mark (b ∷ arms) (suc place) node flags a h later within = arms_mark arms place node (one_marked node b flags) a h later (rw (one_length node b flags) within)
 
 node_length : (node : Node) (n : ℕ) (flags : List Bool) → length (marked_node n node flags) ≡ length flags
@@ -130,13 +128,10 @@ all_keep : (nodes : List Node) (k : ℕ) (flags : List Bool) (n : ℕ) → get_o
 all_keep [] k flags n h = h
 all_keep (node ∷ nodes) k flags n h = all_keep nodes (k + 1) (marked_node k node flags) n (node_keeps node k flags n h)
 
-same_node : (x y : Node) → Some x ≡ Some y → x ≡ y
-same_node x y h = cc
-
 all_mark : (nodes : List Node) (i k : ℕ) (flags : List Bool) (s r : Role) (arms : List Arm) (place : ℕ) (a : Arm) → slice_get nodes i ≡ Some (Talk s r arms) → slice_get arms place ≡ Some a → a.next ≤ k + i → a.next < length flags → get_or (marked_all k nodes flags) a.next false ≡ true
 all_mark [] i k flags s r arms place a h stands later within = absurd (cc h)
 all_mark (node ∷ nodes) zero k flags s r arms place a h stands later within =
-    all_keep nodes (k + 1) (marked_node k node flags) a.next (rw (same_node node (Talk s r arms) h) (arms_mark arms place k flags a stands (omega arith) within))
+    all_keep nodes (k + 1) (marked_node k node flags) a.next (rw (some_is node (Talk s r arms) h) (arms_mark arms place k flags a stands (omega arith) within))
 all_mark (node ∷ nodes) (suc i) k flags s r arms place a h stands later within =
     all_mark nodes i (k + 1) (marked_node k node flags) s r arms place a h stands (omega arith) (rw (node_length node k flags) within)
 

@@ -1,57 +1,27 @@
 -- The canonical form of a body, which talks are gone back to, and where names lead.
-use Rattle.std.proofs.Common.{◌≡◌, ℕ, zero, suc, ◌+◌, ◌-◌, ◌<◌, ◌≤◌, List, [], ◌∷◌, ◌++◌, length, drop, Bool, true, false, ◌&&◌, if◌then◌else◌, Option, Some, None, inl, inr, refl, sym, ap, ◌∙◌, arith, slice_get}
+use Rattle.std.proofs.Common.{◌≡◌, ℕ, suc, ◌+◌, ◌-◌, ◌<◌, ◌≤◌, List, [], ◌∷◌, drop, Bool, true, false, if◌then◌else◌, Option, Some, None, refl, sym, ap, ◌∙◌, arith, slice_get}
 use Rattle.std.proofs.lemmas.Bool.{eq-eqb, eqb-true}
-use Rattle.std.specs.List.{list_any}
 use Rattle.std.specs.Str.{bytes_eq}
 use Rattle.rs_model.specs.Data.{Protocol_data, Names_data}
 use Rattle.rs_model.specs.declared.graph.Arm.{Arm}
 use Rattle.rs_model.specs.declared.graph.Node.{Node}
 use Rattle.rs_model.specs.declared.graph.Node.TheVariants.{Finished, Talk}
 use Rattle.rs_model.specs.declared.values.Sort.{Sort}
-use Rattle.rs_text.proofs.Gaps.{true_or_false}
-use Rattle.rs_text.specs.Arms.{sort_or_unit}
+use Rattle.rs_text.specs.Arms.{sort_or_unit, shown_sort}
 use Rattle.rs_text.specs.Names.{Bound, bound_to, number_or}
 use Rattle.rs_global.specs.Trees.{Body, ends, again, binds, talks, offers, Branches, one, more}
 use Rattle.rs_global.specs.Graph.{talks_in, Numbering, role_of, label_of}
 use Rattle.rs_global.specs.Scenes.{Scene, with_label, in_talk, in_braces, in_rec, behind}
 use Rattle.rs_global.specs.Spells.{is_guarded, body_fits, arms_fit}
-use Rattle.rs_global.specs.Canonical.{name_of_node, shown_sort, IsGoneBackTo}
+use Rattle.rs_global.specs.Canonical.{name_of_node, IsGoneBackTo}
 use Rattle.rs_global.specs.Shapes.{leads_to, talk_leads, leads_from}
+use Rattle.rs_text.proofs.Basics.{some_is, both, any_stands, stands_any, drop_get}
 
 -- ---- what stands in a list
-
-pub any_stands : (A : Type 0) (test : A → Bool) (xs : List A) → list_any test xs ≡ true → (i : ℕ) × (x : A) × (slice_get xs i ≡ Some x) × (test x ≡ true)
-any_stands A test [] h = absurd (cc h)
-any_stands A test (x ∷ xs) h = elim (true_or_false (test x)) [
-  | inl e ↦ (0, x, refl, e)
-  | inr e ↦
-      let rest = any_stands A test xs (rw e at h) in
-      (suc rest.0, rest.1, rest.2, rest.3)
-]
-
-some_is : (A : Type 0) (x y : A) → Some x ≡ Some y → x ≡ y
-some_is A x y h = cc
 
 or_true : (a b : Bool) → b ≡ true → (if a then true else b) ≡ true
 or_true true b h = refl
 or_true false b h = h
-
-pub stands_any : (A : Type 0) (test : A → Bool) (xs : List A) (i : ℕ) (x : A) → slice_get xs i ≡ Some x → test x ≡ true → list_any test xs ≡ true
-stands_any A test [] i x e h = absurd (cc e)
-stands_any A test (y ∷ xs) zero x e h = rw (ap test (some_is A y x e) ∙ h) refl
-stands_any A test (y ∷ xs) (suc i) x e h = elim (true_or_false (test y)) [
-  | inl k ↦ rw k refl
-  | inr k ↦ rw k (stands_any A test xs i x e h)
-]
-
-pub drop_get : (A : Type 0) (k : ℕ) (xs : List A) (i : ℕ) → slice_get (drop k xs) i ≡ slice_get xs (k + i)
-drop_get A zero xs i = let e : i ≡ 0 + i = omega arith in ap (λ z. slice_get xs z) e
-drop_get A (suc k) [] i = refl
-drop_get A (suc k) (x ∷ xs) i = let e : suc (k + i) ≡ suc k + i = omega arith in drop_get A k xs i ∙ ap (λ z. slice_get (x ∷ xs) z) e
-
-pub seam : (A : Type 0) (pre : List A) (x : A) (post : List A) → slice_get (pre ++ x ∷ post) (length pre) ≡ Some x
-seam A [] x post = refl
-seam A (y ∷ pre) x post = seam A pre x post
 
 -- ---- going back
 
@@ -136,10 +106,6 @@ abbrev mutual
   NamedArms (one l sort b) bound count = Named b bound count
   NamedArms (more l sort b arms) bound count = Named b bound count × NamedArms arms bound (count + talks_in b)
 
-pub both : (a b : Bool) → (a && b) ≡ true → (a ≡ true) × (b ≡ true)
-both true b h = (refl, h)
-both false b h = absurd (cc h)
-
 mutual
   pub fits_named : (b : Body) (s : Scene) → body_fits b s ≡ true → Named b s.bound s.talks
   fits_named ends s h = tt
@@ -157,7 +123,7 @@ abbrev pub Low : Bound → ℕ → Type 0
 Low bound k = (x : List ℕ) (m : ℕ) → bound_to x bound ≡ Some m → m < k + 1
 
 low_pick : (c : Bool) (k : ℕ) (found : Option ℕ) (m : ℕ) → (if c then Some k else found) ≡ Some m → (found ≡ Some m → m < k + 1) → m < k + 1
-low_pick true k found m e f = let same : k ≡ m = some_is ℕ k m e in omega arith
+low_pick true k found m e f = let same : k ≡ m = some_is k m e in omega arith
 low_pick false k found m e f = f e
 
 pub low_rec : (bound : Bound) (k : ℕ) (x : List ℕ) → Low bound k → Low ((x, k) ∷ bound) k
@@ -171,7 +137,7 @@ abbrev pub Ins : Bound → (from k : ℕ) → Type 0
 Ins bound from k = (x : List ℕ) (m : ℕ) → bound_to x bound ≡ Some m → m < k → m < from
 
 ins_pick : (c : Bool) (k from : ℕ) (found : Option ℕ) (m : ℕ) → m < k → (if c then Some k else found) ≡ Some m → (found ≡ Some m → m < from) → m < from
-ins_pick true k from found m lt e f = let same : k ≡ m = some_is ℕ k m e in absurd (omega arith)
+ins_pick true k from found m lt e f = let same : k ≡ m = some_is k m e in absurd (omega arith)
 ins_pick false k from found m lt e f = f e
 
 pub ins_rec : (bound : Bound) (from k : ℕ) (x : List ℕ) → Ins bound from k → Ins ((x, k) ∷ bound) from k

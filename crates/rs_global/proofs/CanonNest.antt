@@ -17,9 +17,10 @@ use Rattle.rs_global.specs.Scenes.{Scene, with_label, in_talk, in_braces, in_rec
 use Rattle.rs_global.specs.Spells.{is_guarded, has_room_for, body_fits, arms_fit}
 use Rattle.rs_global.specs.Canonical.{name_of_node, IsGoneBackTo}
 use Rattle.rs_global.specs.Shapes.{deeper}
-use Rattle.rs_global.proofs.CanonForms.{goes_back, Writing, role_as, label_as, sort_as, wrapped, canon, canon_arms, Named, NamedArms, Low, low_rec, low_up, both}
+use Rattle.rs_global.proofs.CanonForms.{goes_back, Writing, role_as, label_as, sort_as, wrapped, canon, canon_arms, Named, NamedArms, Low, low_rec, low_up}
 use Rattle.rs_global.proofs.CanonSame.{Leads, Fine, FineArms, Inv, InvAll, inv_rec, inv_talk, inv_all, opened_for, canon_talks}
 use Rattle.rs_global.proofs.Existence.{nodes_length}
+use Rattle.rs_text.proofs.Basics.{some_is, two_true, both}
 
 -- ---- a rec stands right in front of each talk that is gone back to
 
@@ -101,17 +102,11 @@ backs_append : (good : ℕ → Bool) (xs ys : List Node) (n j : ℕ) → n + len
 backs_append good [] ys n j e h k = let same : j ≡ n = omega arith in subst (λ (z : ℕ). Backs good z ys) same k
 backs_append good (x ∷ xs) ys n j e h k = (h.0, backs_append good xs ys (suc n) j (omega arith) h.1 k)
 
-node_some : (x y : Node) → Some x ≡ Some y → x ≡ y
-node_some x y h = cc
-
-arm_some : (x y : Arm) → Some x ≡ Some y → x ≡ y
-arm_some x y h = cc
-
 backs_at : (good : ℕ → Bool) (nodes : List Node) (n i : ℕ) (node : Node) → Backs good n nodes → slice_get nodes i ≡ Some node → NodeGood good (n + i) node
 backs_at good [] n i node h e = absurd (cc e)
 backs_at good (x ∷ nodes) n zero node h e =
     let same : n ≡ n + 0 = omega arith in
-    subst (λ (z : ℕ). NodeGood good z node) same (subst (λ (z : Node). NodeGood good n z) (node_some x node e) h.0)
+    subst (λ (z : ℕ). NodeGood good z node) same (subst (λ (z : Node). NodeGood good n z) (some_is x node e) h.0)
 backs_at good (x ∷ nodes) n (suc i) node h e =
     let same : suc n + i ≡ n + suc i = omega arith in
     subst (λ (z : ℕ). NodeGood good z node) same (backs_at good nodes (suc n) i node h.1 e)
@@ -120,15 +115,12 @@ backs_at good (x ∷ nodes) n (suc i) node h e =
 abbrev NamesGood : (ℕ → Bool) → Bound → ℕ → Type 0
 NamesGood good bound n = (x : List ℕ) (v : ℕ) → bound_to x bound ≡ Some v → v ≤ n → good v ≡ true
 
-number_some : (x y : ℕ) → Some x ≡ Some y → x ≡ y
-number_some x y h = cc
-
 later_name : {P : Type 0} (c : Bool) (j v n : ℕ) (found : Option ℕ) → (if c then Some j else found) ≡ Some v → n < j → v ≤ n → (found ≡ Some v → P) → P
-later_name true j v n found e lt le f = let same : j ≡ v = number_some j v e in absurd (omega arith)
+later_name true j v n found e lt le f = let same : j ≡ v = some_is j v e in absurd (omega arith)
 later_name false j v n found e lt le f = f e
 
 same_name : {P : Type 0} (c : Bool) (j v : ℕ) (found : Option ℕ) → (if c then Some j else found) ≡ Some v → (j ≡ v → P) → (found ≡ Some v → P) → P
-same_name true j v found e f g = f (number_some j v e)
+same_name true j v found e f g = f (some_is j v e)
 same_name false j v found e f g = g e
 
 name_good : (good : ℕ → Bool) (x : List ℕ) (bound : Bound) (n j : ℕ) (found : Option ℕ) → bound_to x bound ≡ found → is_guarded found j ≡ true → NamesGood good bound n → number_or found ≤ n → good (number_or found) ≡ true
@@ -143,11 +135,11 @@ lead_good good (talks s r l sort b) bound n j last named names lt end le = absur
 lead_good good (offers s r arms) bound n j last named names lt end le = absurd (omega arith)
 
 one_good : (good : ℕ → Bool) (n : ℕ) (a : Arm) → (a.next ≤ n → good a.next ≡ true) → BackGood good n (a ∷ [])
-one_good good n a f zero arm e le = let same : a ≡ arm = arm_some a arm e in subst (λ (z : Arm). good z.next ≡ true) same (f (subst (λ (z : Arm). z.next ≤ n) (sym same) le))
+one_good good n a f zero arm e le = let same : a ≡ arm = some_is a arm e in subst (λ (z : Arm). good z.next ≡ true) same (f (subst (λ (z : Arm). z.next ≤ n) (sym same) le))
 one_good good n a f (suc place) arm e le = absurd (cc e)
 
 more_good : (good : ℕ → Bool) (n : ℕ) (a : Arm) (arms : List Arm) → (a.next ≤ n → good a.next ≡ true) → BackGood good n arms → BackGood good n (a ∷ arms)
-more_good good n a arms f g zero arm e le = let same : a ≡ arm = arm_some a arm e in subst (λ (z : Arm). good z.next ≡ true) same (f (subst (λ (z : Arm). z.next ≤ n) (sym same) le))
+more_good good n a arms f g zero arm e le = let same : a ≡ arm = some_is a arm e in subst (λ (z : Arm). good z.next ≡ true) same (f (subst (λ (z : Arm). z.next ≤ n) (sym same) le))
 more_good good n a arms f g (suc place) arm e le = g place arm e le
 
 -- behind talk k the names that lead to k do so by a rec in front of it
@@ -217,10 +209,6 @@ deeper_within : (c here : Bool) (inner d : ℕ) → (c ≡ true → here ≡ tru
 deeper_within true here inner d f le lt = let h = lt (f refl) in omega arith
 deeper_within false here inner d f le lt = le
 
-pub all_true : (a b : Bool) → a ≡ true → b ≡ true → (a && b) ≡ true
-all_true true b h k = k
-all_true false b h k = absurd (cc h)
-
 pub grown_longer : (xs names : List (List ℕ)) → length names ≤ length (grown names xs)
 grown_longer [] names = omega arith
 grown_longer (x ∷ xs) names = elim (true_or_false (is_among x names)) [
@@ -235,7 +223,7 @@ room ls l rest h = elim (true_or_false (is_among l ls)) [
 ]
 
 pub wrapped_fits : (c : Bool) (k : ℕ) (b : Body) (roles : List (List ℕ)) (named : Bound) (d : ℕ) (ls : List (List ℕ)) → (c ≡ true → d < 200) → body_fits b (scene roles (opened_for c k named) (deeper c d) k ls) ≡ true → body_fits (wrapped c k b) (scene roles named d k ls) ≡ true
-wrapped_fits true k b roles named d ls lt h = all_true (nat_lt d 200) (body_fits b (scene roles ((name_of_node k, k) ∷ named) (suc d) k ls)) (lt-ltb d 200 (lt refl)) h
+wrapped_fits true k b roles named d ls lt h = two_true (nat_lt d 200) (body_fits b (scene roles ((name_of_node k, k) ∷ named) (suc d) k ls)) (lt-ltb d 200 (lt refl)) h
 wrapped_fits false k b roles named d ls lt h = h
 
 -- the roles that are written are known
@@ -245,15 +233,15 @@ RolesKnown w roles = (s : List ℕ) → is_among (role_as w s) roles ≡ true
 talks_fit : (x y l : List ℕ) (sort : Option Sort) (c : Body) (roles : List (List ℕ)) (named : Bound) (d k : ℕ) (ls : List (List ℕ)) → is_among x roles ≡ true → is_among y roles ≡ true → k < 1024 → length (grown ls (l ∷ labels_of c)) ≤ 256
     → body_fits c (scene roles named d (suc k) (grown ls (l ∷ []))) ≡ true → body_fits (talks x y l sort c) (scene roles named d k ls) ≡ true
 talks_fit x y l sort c roles named d k ls a b few labels h =
-    all_true (is_among x roles && nat_lt k 1024 && is_among y roles && has_room_for l (scene roles named d k ls)) (body_fits c (scene roles named d (suc k) (grown ls (l ∷ []))))
-    (all_true (is_among x roles && nat_lt k 1024 && is_among y roles) (has_room_for l (scene roles named d k ls))
-    (all_true (is_among x roles && nat_lt k 1024) (is_among y roles) (all_true (is_among x roles) (nat_lt k 1024) a (lt-ltb k 1024 few)) b) (room ls l (labels_of c) labels)) h
+    two_true (is_among x roles && nat_lt k 1024 && is_among y roles && has_room_for l (scene roles named d k ls)) (body_fits c (scene roles named d (suc k) (grown ls (l ∷ []))))
+    (two_true (is_among x roles && nat_lt k 1024 && is_among y roles) (has_room_for l (scene roles named d k ls))
+    (two_true (is_among x roles && nat_lt k 1024) (is_among y roles) (two_true (is_among x roles) (nat_lt k 1024) a (lt-ltb k 1024 few)) b) (room ls l (labels_of c) labels)) h
 
 offers_fit : (x y : List ℕ) (c : Branches) (roles : List (List ℕ)) (named : Bound) (d k : ℕ) (ls : List (List ℕ)) → is_among x roles ≡ true → is_among y roles ≡ true → k < 1024 → d < 200 → arms_fit c (scene roles named (suc d) (suc k) ls) ≡ true → body_fits (offers x y c) (scene roles named d k ls) ≡ true
 offers_fit x y c roles named d k ls a b few low h =
-    all_true (is_among x roles && nat_lt k 1024 && is_among y roles && nat_lt d 200) (arms_fit c (scene roles named (suc d) (suc k) ls))
-    (all_true (is_among x roles && nat_lt k 1024 && is_among y roles) (nat_lt d 200)
-    (all_true (is_among x roles && nat_lt k 1024) (is_among y roles) (all_true (is_among x roles) (nat_lt k 1024) a (lt-ltb k 1024 few)) b) (lt-ltb d 200 low)) h
+    two_true (is_among x roles && nat_lt k 1024 && is_among y roles && nat_lt d 200) (arms_fit c (scene roles named (suc d) (suc k) ls))
+    (two_true (is_among x roles && nat_lt k 1024 && is_among y roles) (nat_lt d 200)
+    (two_true (is_among x roles && nat_lt k 1024) (is_among y roles) (two_true (is_among x roles) (nat_lt k 1024) a (lt-ltb k 1024 few)) b) (lt-ltb d 200 low)) h
 
 name_fits : (back : ℕ → Bool) (bound named : Bound) (k : ℕ) (x : List ℕ) (found : Option ℕ) → bound_to x bound ≡ found → Leads back found k → Inv back bound named k → is_guarded (bound_to (name_of_node (number_or found)) named) k ≡ true
 name_fits back bound named k x None e h inv = absurd h
@@ -315,7 +303,7 @@ mutual
       → RecsArms (goes_back w.nodes) arms k → FineArms (goes_back w.nodes) arms bound k → InvAll (goes_back w.nodes) bound named → Low bound k → length (grown labels (labels_of_arms (canon_arms w arms bound k))) ≤ 256 → arms_fit (canon_arms w arms bound k) (scene known named inner k labels) ≡ true
   canon_arms_fit w (one l sort b) bound named k d inner roles known ls labels rs du le h recs fine inv low few =
       let p = both (has_room_for l (scene roles bound d k ls)) (body_fits b (scene roles bound d k (grown ls (l ∷ [])))) h in
-      all_true (has_room_for (label_as w l) (scene known named inner k labels)) (body_fits (canon w b bound k) (scene known named inner k (grown labels (label_as w l ∷ [])))) (room labels (label_as w l) (labels_of (canon w b bound k)) few)
+      two_true (has_room_for (label_as w l) (scene known named inner k labels)) (body_fits (canon w b bound k) (scene known named inner k (grown labels (label_as w l ∷ [])))) (room labels (label_as w l) (labels_of (canon w b bound k)) few)
       (canon_fits w b bound named false k d inner roles known (grown ls (l ∷ [])) (grown labels (label_as w l ∷ [])) rs du le (λ e. absurd (cc e)) p.1 recs fine (λ x m e bk lt. inv x m e bk) low few)
   canon_arms_fit w (more l sort b arms) bound named k d inner roles known ls labels rs du le h recs fine inv low few =
       let form : Body = canon w b bound k in
@@ -328,8 +316,8 @@ mutual
       let whole : length (grown (grown all (labels_of form)) (labels_of_arms rest)) ≤ 256 = subst (λ (z : List (List ℕ)). length z ≤ 256) parts few in
       let front : length (grown all (labels_of form)) ≤ length (grown (grown all (labels_of form)) (labels_of_arms rest)) = grown_longer (labels_of_arms rest) (grown all (labels_of form)) in
       let step : k + talks_in b ≡ k + talks_in form = ap (λ z. k + z) (sym (canon_talks w b bound k)) in
-      all_true (has_room_for (label_as w l) (scene known named inner k labels) && body_fits form (scene known named inner k all)) (arms_fit rest (scene known named inner (k + talks_in form) (grown all (labels_of form))))
-      (all_true (has_room_for (label_as w l) (scene known named inner k labels)) (body_fits form (scene known named inner k all)) (room labels (label_as w l) (labels_of form ++ labels_of_arms rest) few)
+      two_true (has_room_for (label_as w l) (scene known named inner k labels) && body_fits form (scene known named inner k all)) (arms_fit rest (scene known named inner (k + talks_in form) (grown all (labels_of form))))
+      (two_true (has_room_for (label_as w l) (scene known named inner k labels)) (body_fits form (scene known named inner k all)) (room labels (label_as w l) (labels_of form ++ labels_of_arms rest) few)
       (canon_fits w b bound named false k d inner roles known (grown ls (l ∷ [])) all rs du le (λ e. absurd (cc e)) q.1 recs.0 fine.0 (λ x m e bk lt. inv x m e bk) low (omega arith)))
       (subst (λ (z : ℕ). arms_fit rest (scene known named inner z (grown all (labels_of form))) ≡ true) step
       (canon_arms_fit w arms bound named j d inner roles known (grown (grown ls (l ∷ [])) (labels_of b)) (grown all (labels_of form)) rs du le p.1 recs.1 fine.1 inv (low_up bound k j (omega arith) low) whole))

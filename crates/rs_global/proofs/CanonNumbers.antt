@@ -1,5 +1,5 @@
 -- The names of a canonical tree have the numbers of those that were read.
-use Rattle.std.proofs.Common.{◌≡◌, ℕ, zero, suc, ◌+◌, ◌<◌, List, [], ◌∷◌, ◌++◌, length, map, take, Bool, true, false, ◌&&◌, ◌||◌, if◌then◌else◌, Option, Some, None, ◌⊎◌, inl, inr, refl, sym, ap, ◌∙◌, subst, arith, slice_get, append_assoc, length-append}
+use Rattle.std.proofs.Common.{◌≡◌, ℕ, zero, suc, ◌+◌, ◌<◌, List, [], ◌∷◌, ◌++◌, length, map, take, Bool, true, false, ◌&&◌, ◌||◌, if◌then◌else◌, Option, Some, None, ◌⊎◌, inl, inr, refl, sym, ap, ◌∙◌, subst, slice_get, append_assoc, length-append}
 use Rattle.std.proofs.lemmas.List.{map-append}
 use Rattle.std.proofs.lemmas.List.Folds.{list_any-append}
 use Rattle.std.proofs.lemmas.Slice.Eq.{bytes_eq-Decides}
@@ -9,60 +9,20 @@ use Rattle.rs_model.specs.Data.{Protocol_data, Names_data}
 use Rattle.rs_model.specs.declared.graph.Arm.{Arm}
 use Rattle.rs_model.specs.declared.graph.Node.{Node}
 use Rattle.rs_text.proofs.Gaps.{true_or_false}
-use Rattle.rs_text.proofs.Naming.{grown_among, grown_differ, place_stands, decides_sound}
-use Rattle.rs_text.specs.Names.{Bound, number_or, grown, is_among, place_of, place_from}
+use Rattle.rs_text.proofs.Naming.{grown_among, grown_differ, place_stands, decides_sound, bytes_same, at_among, among_at, place_at}
+use Rattle.rs_text.specs.Names.{Bound, number_or, grown, is_among, place_of}
 use Rattle.rs_text.specs.Sound.{differ, IsSound}
 use Rattle.rs_text.specs.Words.{is_word, is_role_word}
 use Rattle.rs_global.specs.Trees.{Body, ends, again, binds, talks, offers, Branches, one, more, ProtocolTree, roles_of}
 use Rattle.rs_global.specs.Graph.{labels_of, labels_of_arms, talks_in, has_end, Numbering, role_of, label_of, first_node, arm_of, arms_of, talk_of, nodes_of, nodes_of_arms, numbering, graph_of, finish_of}
-use Rattle.rs_global.proofs.CanonForms.{any_stands, stands_any, role_as, label_as, or_empty, both}
+use Rattle.rs_global.proofs.CanonForms.{role_as, label_as, or_empty}
 use Rattle.rs_global.proofs.Existence.{AreEnough, roles_stand, label_stands, one_longer, at_seam, nodes_length, writing_of}
-
--- ---- places of names that differ
-
-some_text : (x y : List ℕ) → Some x ≡ Some y → x ≡ y
-some_text x y h = cc
-
-some_number : (x y : ℕ) → Some x ≡ Some y → x ≡ y
-some_number x y h = cc
-
-pub bytes_same : (x : List ℕ) → bytes_eq x x ≡ true
-bytes_same x = (bytes_eq-Decides x x).1 refl
-
-pub at_among : (names : List (List ℕ)) (i : ℕ) (x : List ℕ) → slice_get names i ≡ Some x → is_among x names ≡ true
-at_among names i x e = stands_any (List ℕ) (λ z. bytes_eq z x) names i x e (bytes_same x)
-
-pub among_at : (names : List (List ℕ)) (x : List ℕ) → is_among x names ≡ true → (i : ℕ) × (slice_get names i ≡ Some x)
-among_at names x h =
-    let f = any_stands (List ℕ) (λ z. bytes_eq z x) names h in
-    (f.0, f.2 ∙ ap Some ((bytes_eq-Decides f.1 x).0 f.3))
-
-differ_rest : (c b : Bool) → (if c then false else b) ≡ true → (c ≡ false) × (b ≡ true)
-differ_rest true b h = absurd (cc h)
-differ_rest false b h = (refl, h)
-
-place_at_from : (names : List (List ℕ)) (n i : ℕ) (x : List ℕ) → differ names ≡ true → slice_get names i ≡ Some x → place_from n x names ≡ Some (n + i)
-place_at_from [] n i x d e = absurd (cc e)
-place_at_from (y ∷ names) n zero x d e = let same : n ≡ n + 0 = omega arith in rw (subst (λ (z : List ℕ). bytes_eq y z ≡ true) (some_text y x e) (bytes_same y)) (ap Some same)
-place_at_from (y ∷ names) n (suc i) x d e = elim (true_or_false (bytes_eq y x)) [
-  | inl h ↦ (
-      let there : is_among x names ≡ true = at_among names i x e in
-      let here : is_among y names ≡ true = subst (λ (z : List ℕ). is_among z names ≡ true) (sym ((bytes_eq-Decides y x).0 h)) there in
-      absurd (cc (here, (differ_rest (is_among y names) (differ names) d).0)))
-  | inr h ↦ (let same : suc n + i ≡ n + suc i = omega arith in rw h (place_at_from names (suc n) i x (differ_rest (is_among y names) (differ names) d).1 e ∙ ap Some same))
-]
-
-pub place_at : (names : List (List ℕ)) (i : ℕ) (x : List ℕ) → differ names ≡ true → slice_get names i ≡ Some x → place_of x names ≡ Some i
-place_at names i x d e = let same : 0 + i ≡ i = omega arith in place_at_from names 0 i x d e ∙ ap Some same
+use Rattle.rs_text.proofs.Basics.{some_is, both, or_first, or_cases}
 
 -- ---- each label of a text is an arm's
 
 abbrev FewLabels : Names_data → List Arm → Type 0
 FewLabels names arms = (place : ℕ) (arm : Arm) → slice_get arms place ≡ Some arm → arm.label.0 < length names.labels
-
-or_cases : (P : Type 0) (a b : Bool) → (a || b) ≡ true → (a ≡ true → P) → (b ≡ true → P) → P
-or_cases P true b h f g = f refl
-or_cases P false b h f g = g h
 
 mutual
   labels_few : (m : Numbering) (p : Protocol_data) (names : Names_data) (b : Body) (bound : Bound) (k : ℕ) (pre post : List Node) → AreEnough names p → p.nodes ≡ pre ++ (nodes_of m b bound k ++ post) → length pre ≡ k → (l : List ℕ) → is_among l (labels_of b) ≡ true → (label_of m l).0 < length names.labels
@@ -117,10 +77,6 @@ same_test f all x y inj a b = elim (true_or_false (bytes_eq x y)) [
 or_same : (a b c d : Bool) → a ≡ c → b ≡ d → (a || b) ≡ (c || d)
 or_same a b c d e f = cc
 
-or_first : (a b : Bool) → a ≡ true → (a || b) ≡ true
-or_first true b h = refl
-or_first false b h = absurd (cc h)
-
 or_second : (a b : Bool) → b ≡ true → (a || b) ≡ true
 or_second true b h = refl
 or_second false b h = h
@@ -150,7 +106,7 @@ grown_map f all (x ∷ xs) names inj old new =
 take_map : (f : List ℕ → List ℕ) (all labels : List (List ℕ)) → ((i : ℕ) (x : List ℕ) → slice_get all i ≡ Some x → slice_get labels i ≡ Some (f x)) → map f all ≡ take (length all) labels
 take_map f [] labels h = refl
 take_map f (x ∷ all) [] h = absurd (cc (h 0 x refl))
-take_map f (x ∷ all) (l ∷ labels) h = ap (λ z. z ∷ map f all) (sym (some_text l (f x) (h 0 x refl))) ∙ ap (λ z. l ∷ z) (take_map f all labels (λ i y e. h (suc i) y e))
+take_map f (x ∷ all) (l ∷ labels) h = ap (λ z. z ∷ map f all) (sym (some_is l (f x) (h 0 x refl))) ∙ ap (λ z. l ∷ z) (take_map f all labels (λ i y e. h (suc i) y e))
 
 -- ---- the labels
 
@@ -179,8 +135,8 @@ labels_inject t names enough d x y a b e =
     let f : List ℕ → List ℕ = label_as (writing_of t names) in
     let p : place_of (f x) names.labels ≡ Some i.0 = place_at names.labels i.0 (f x) d (label_at t names enough i.0 x i.1) in
     let q : place_of (f y) names.labels ≡ Some j.0 = place_at names.labels j.0 (f y) d (label_at t names enough j.0 y j.1) in
-    let same : i.0 ≡ j.0 = some_number i.0 j.0 (sym p ∙ ap (λ z. place_of z names.labels) e ∙ q) in
-    some_text x y (sym i.1 ∙ ap (λ z. slice_get (labels_read t) z) same ∙ j.1)
+    let same : i.0 ≡ j.0 = some_is i.0 j.0 (sym p ∙ ap (λ z. place_of z names.labels) e ∙ q) in
+    some_is x y (sym i.1 ∙ ap (λ z. slice_get (labels_read t) z) same ∙ j.1)
 
 -- the labels that are written, in order of first places
 pub labels_written : (t : ProtocolTree) (names : Names_data) → AreEnough names (graph_of t) → differ names.labels ≡ true → grown [] (map (label_as (writing_of t names)) (labels_of t.body)) ≡ map (label_as (writing_of t names)) (labels_read t)
@@ -195,7 +151,7 @@ none_or_some (Some k) = inr (k, refl)
 
 mapped_at : (f : List ℕ → List ℕ) (all : List (List ℕ)) (i : ℕ) (l : List ℕ) → slice_get all i ≡ Some l → slice_get (map f all) i ≡ Some (f l)
 mapped_at f [] i l e = absurd (cc e)
-mapped_at f (x ∷ all) zero l e = ap (λ z. Some (f z)) (some_text x l e)
+mapped_at f (x ∷ all) zero l e = ap (λ z. Some (f z)) (some_is x l e)
 mapped_at f (x ∷ all) (suc i) l e = mapped_at f all i l e
 
 -- a name that is no label has the number 0, and so has the name that is written for it
@@ -235,8 +191,3 @@ sound_parts names s =
     let r = both (differ names.roles) (list_all is_role_word names.roles) a.0 in
     let l = both (differ names.labels) (list_all is_word names.labels) a.1 in
     record { roles_differ = r.0; roles_are_words = r.1; labels_differ = l.0; labels_are_words = l.1 }
-
-pub all_at : (test : List ℕ → Bool) (xs : List (List ℕ)) (i : ℕ) (x : List ℕ) → list_all test xs ≡ true → slice_get xs i ≡ Some x → test x ≡ true
-all_at test [] i x h e = absurd (cc e)
-all_at test (y ∷ xs) zero x h e = subst (λ (z : List ℕ). test z ≡ true) (some_text y x e) (both (test y) (list_all test xs) h).0
-all_at test (y ∷ xs) (suc i) x h e = all_at test xs i x (both (test y) (list_all test xs) h).1 e

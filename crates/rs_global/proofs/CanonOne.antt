@@ -1,5 +1,5 @@
 -- A protocol that some text spells has one canonical tree at most.
-use Rattle.std.proofs.Common.{◌≡◌, ℕ, zero, suc, ◌+◌, ◌<◌, ◌≤◌, List, [], ◌∷◌, ◌++◌, length, Bool, true, false, ◌&&◌, Option, Some, refl, sym, ap, ◌∙◌, subst, arith, slice_get}
+use Rattle.std.proofs.Common.{◌≡◌, ℕ, zero, suc, ◌+◌, ◌<◌, ◌≤◌, List, [], ◌∷◌, ◌++◌, length, Bool, true, false, Option, Some, refl, sym, ap, ◌∙◌, subst, arith, slice_get}
 use Rattle.std.proofs.lemmas.List.Folds.{list_all-append}
 use Rattle.std.specs.List.{list_all}
 use Rattle.rs_model.specs.Data.{Protocol_data, Names_data}
@@ -13,16 +13,13 @@ use Rattle.rs_global.specs.Texts.{protocol_text}
 use Rattle.rs_global.specs.Trees.{Body, ends, again, binds, talks, offers, Branches, one, more, ProtocolTree, roles_of}
 use Rattle.rs_global.specs.Graph.{talks_in, has_end, Numbering, nodes_of, nodes_of_arms, numbering, graph_of, finish_of}
 use Rattle.rs_global.specs.Canonical.{IsTextShaped, IsTalkOf, IsArmOf, IsOneArm, AreArms, Draws, DrawsTalk, DrawsArms, IsCanonical, IsCanonicalText}
+use Rattle.rs_text.proofs.Basics.{some_is, first_true, second_true, two_true}
 
 -- ---- the end stands behind all talks
 
 abbrev pub is_talk : Node → Bool
 is_talk Finished = false
 is_talk (Talk s r arms) = true
-
-pub two_true : (a b : Bool) → a ≡ true → b ≡ true → (a && b) ≡ true
-two_true true b h k = k
-two_true false b h k = absurd (cc h)
 
 mutual
   pub all_talks : (m : Numbering) (b : Body) (bound : Bound) (k : ℕ) → list_all is_talk (nodes_of m b bound k) ≡ true
@@ -36,20 +33,9 @@ mutual
   all_arms_talk m (one l sort b) bound k = all_talks m b bound k
   all_arms_talk m (more l sort b arms) bound k = list_all-append is_talk (nodes_of m b bound k) (nodes_of_arms m arms bound (k + talks_in b)) ∙ two_true (list_all is_talk (nodes_of m b bound k)) (list_all is_talk (nodes_of_arms m arms bound (k + talks_in b))) (all_talks m b bound k) (all_arms_talk m arms bound (k + talks_in b))
 
-first_true : (a b : Bool) → (a && b) ≡ true → a ≡ true
-first_true true b h = refl
-first_true false b h = absurd (cc h)
-
-second_true : (a b : Bool) → (a && b) ≡ true → b ≡ true
-second_true true b h = h
-second_true false b h = absurd (cc h)
-
-node_is : (x y : Node) → Some x ≡ Some y → x ≡ y
-node_is x y h = cc
-
 end_behind : (xs : List Node) (c : Bool) (n : ℕ) → list_all is_talk xs ≡ true → slice_get (xs ++ finish_of c) n ≡ Some Finished → length xs ≤ n
 end_behind [] c n h e = omega arith
-end_behind (x ∷ xs) c zero h e = let t : is_talk x ≡ false = ap is_talk (node_is x Finished e) in let f : is_talk x ≡ true = first_true (is_talk x) (list_all is_talk xs) h in absurd (cc (t, f))
+end_behind (x ∷ xs) c zero h e = let t : is_talk x ≡ false = ap is_talk (some_is x Finished e) in let f : is_talk x ≡ true = first_true (is_talk x) (list_all is_talk xs) h in absurd (cc (t, f))
 end_behind (x ∷ xs) c (suc n) h e = let k = end_behind xs c n (second_true (is_talk x) (list_all is_talk xs) h) e in omega arith
 
 talk_before : (xs : List Node) (c : Bool) (n : ℕ) (s r : Role) (arms : List Arm) → slice_get (xs ++ finish_of c) n ≡ Some (Talk s r arms) → n < length xs
@@ -97,9 +83,6 @@ record SameTalk (s s' r r' : List ℕ) (arms others : List Arm) : Type 0 where
   receivers : r ≡ r'
   are : arms ≡ others
 
-text_is : (x y : List ℕ) → Some x ≡ Some y → x ≡ y
-text_is x y h = cc
-
 talk_parts : (s s' r r' : Role) (arms others : List Arm) → Some (Talk s r arms) ≡ Some (Talk s' r' others) → (s ≡ s') × (r ≡ r') × (arms ≡ others)
 talk_parts s s' r r' arms others e = (cc, cc, cc)
 
@@ -107,13 +90,13 @@ same_talk : (names : Names_data) (p : Protocol_data) (n : ℕ) (s r s' r' : List
 same_talk names p n s r s' r' arms others x y =
     let parts = talk_parts x.sender y.sender x.receiver y.receiver arms others (sym x.talks ∙ y.talks) in
     record {
-      senders = text_is s s' (sym x.sends ∙ ap (λ z. slice_get names.roles z.0) parts.0 ∙ y.sends);
-      receivers = text_is r r' (sym x.receives ∙ ap (λ z. slice_get names.roles z.0) parts.1 ∙ y.receives);
+      senders = some_is s s' (sym x.sends ∙ ap (λ z. slice_get names.roles z.0) parts.0 ∙ y.sends);
+      receivers = some_is r r' (sym x.receives ∙ ap (λ z. slice_get names.roles z.0) parts.1 ∙ y.receives);
       are = parts.2;
     }
 
 same_head : (names : Names_data) (l l' : List ℕ) (sort sort' : Option Sort) (a : Arm) → IsArmOf names l sort a → IsArmOf names l' sort' a → (l ≡ l') × (sort ≡ sort')
-same_head names l l' sort sort' a x y = (text_is l l' (sym x.0 ∙ y.0), x.1 ∙ sym y.1)
+same_head names l l' sort sort' a x y = (some_is l l' (sym x.0 ∙ y.0), x.1 ∙ sym y.1)
 
 one_arm_is : (a b : Arm) → a ∷ [] ≡ b ∷ [] → a ≡ b
 one_arm_is a b h = cc

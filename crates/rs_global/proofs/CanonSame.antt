@@ -10,7 +10,6 @@ use Rattle.rs_model.specs.declared.graph.Arm.{Arm}
 use Rattle.rs_model.specs.declared.graph.Node.{Node}
 use Rattle.rs_model.specs.declared.graph.Node.TheVariants.{Talk}
 use Rattle.rs_model.specs.declared.values.Sort.{Sort}
-use Rattle.rs_model.specs.declared.values.Sort.TheVariants as sort
 use Rattle.rs_text.proofs.Values.{decimal_reads}
 use Rattle.rs_text.specs.Arms.{sort_or_unit}
 use Rattle.rs_text.specs.Lexemes.{value_of}
@@ -18,9 +17,11 @@ use Rattle.rs_text.specs.Names.{Bound, bound_to, number_or}
 use Rattle.rs_global.specs.Trees.{Body, ends, again, binds, talks, offers, Branches, one, more}
 use Rattle.rs_global.specs.Graph.{labels_of, labels_of_arms, talks_in, talks_in_arms, has_end, has_end_arms, Numbering, role_of, label_of, first_node, arm_of, arms_of, talk_of, nodes_of, nodes_of_arms}
 use Rattle.rs_global.specs.Spells.{is_guarded}
-use Rattle.rs_global.specs.Canonical.{name_of_node, shown_sort}
+use Rattle.rs_global.specs.Canonical.{name_of_node}
 use Rattle.rs_global.proofs.CanonForms.{goes_back, is_back, Writing, role_as, label_as, sort_as, wrapped, offered, canon, canon_arms, Named, NamedArms, Low, low_rec, low_up, Ins, ins_rec}
 use Rattle.rs_global.proofs.Existence.{one_longer, at_seam, nodes_length}
+use Rattle.rs_text.proofs.Basics.{some_is}
+use Rattle.rs_text.proofs.Arms.{sort_same}
 
 -- ---- the names of nodes differ
 
@@ -29,9 +30,6 @@ tails a b xs ys h = cc
 
 pub node_name_is : (n k : ℕ) → n < 2 ^ 64 → k < 2 ^ 64 → name_of_node n ≡ name_of_node k → n ≡ k
 node_name_is n k a b h = sym (decimal_reads n a).0 ∙ ap value_of (tails 88 88 (decimal n) (decimal k) h) ∙ (decimal_reads k b).0
-
-some_is : (x y : ℕ) → Some x ≡ Some y → x ≡ y
-some_is x y h = cc
 
 picked : (c : Bool) (k : ℕ) (found : Option ℕ) (m : ℕ) → (c ≡ true → k ≡ m) → (c ≡ false → found ≡ Some m) → (if c then Some k else found) ≡ Some m
 picked true k found m h f = ap Some (h refl)
@@ -173,14 +171,6 @@ offered_nodes m s r (more l sort b arms) named k = refl
 pub offered_first : (last : ℕ) (s r : List ℕ) (arms : Branches) (named : Bound) (k : ℕ) → first_node (offered s r arms) named k last ≡ k
 offered_first last s r (one l sort b) named k = refl
 offered_first last s r (more l sort b arms) named k = refl
-
-pub sort_same : (s : Sort) → sort_or_unit (shown_sort s) ≡ s
-sort_same sort.Unit = refl
-sort_same sort.Flag = refl
-sort_same sort.Natural = refl
-sort_same sort.Whole = refl
-sort_same sort.Octets = refl
-sort_same sort.Numbers = refl
 
 -- the names that are written have the numbers of those that were read
 pub record SameNumbers (w : Writing) (m : Numbering) : Type 0 where

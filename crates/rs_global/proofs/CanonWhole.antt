@@ -3,7 +3,7 @@ use Rattle.std.proofs.Common.{◌≡◌, ℕ, zero, suc, ◌+◌, ◌<◌, ◌�
 use Rattle.std.proofs.lemmas.List.{length-map}
 use Rattle.std.proofs.lemmas.List.Folds.{list_any-append}
 use Rattle.std.specs.List.{All}
-use Rattle.rs_text.proofs.Naming.{grown_among}
+use Rattle.rs_text.proofs.Naming.{grown_among, bytes_same, among_at, place_at, all_at}
 use Rattle.std.specs.Str.{bytes_eq}
 use Rattle.rs_model.specs.Data.{Protocol_data, Names_data}
 use Rattle.rs_model.specs.declared.graph.Arm.{Arm}
@@ -24,12 +24,13 @@ use Rattle.rs_global.proofs.CanonForms.{goes_back, back_is, Writing, role_as, la
 use Rattle.rs_global.proofs.CanonOne.{canonical_tree_is_one}
 use Rattle.rs_global.proofs.CanonSame.{Fine, fine, Same, same, SameNumbers, canon_talks, canon_end, canon_labels}
 use Rattle.rs_global.proofs.CanonNest.{Recs, tree_recs, canon_fits, fits_labels, fits_talks}
-use Rattle.rs_global.proofs.CanonNumbers.{place_at, among_at, tree_labels_few, labels_read, labels_written, labels_taken, label_number, role_number, role_known, Sound, sound_parts, all_at, bytes_same}
+use Rattle.rs_global.proofs.CanonNumbers.{tree_labels_few, labels_read, labels_written, labels_taken, label_number, role_number, role_known, Sound, sound_parts}
 use Rattle.rs_global.proofs.Existence as existence
 use Rattle.rs_global.proofs.Existence.{roles_stand, label_stands, roles_with, writing_of, canonical_tree, canonical_of}
 use Rattle.rs_global.proofs.NodeNames.{node_name_law}
 use Rattle.rs_global.proofs.PrintedTrees.{lone_tree_spelt}
 use Rattle.rs_global.proofs.SpeltLaws.{one_spelling}
+use Rattle.rs_text.proofs.Basics.{some_is, or_first}
 
 -- ---- the canonical tree of what a tree spells
 
@@ -113,10 +114,6 @@ below_all (Some m) n f = let lt : m < n + 1 = f m refl in omega arith
 pub one_words : (c : Bool) (k : ℕ) (b : Body) → k ≤ 1024 → AreWordsIn b → AreWordsIn (wrapped c k b)
 one_words true k b small h = (node_name_law k small, h)
 one_words false k b small h = h
-
-or_first : (a b : Bool) → a ≡ true → (a || b) ≡ true
-or_first true b h = refl
-or_first false b h = absurd (cc h)
 
 or_second : (a b : Bool) → b ≡ true → (a || b) ≡ true
 or_second true b h = refl
@@ -258,9 +255,6 @@ mutual
     arms_draw_by arms (c ∷ cs) names n p from (λ x i a. f x i (tail_among x l (labels_of b ++ labels_of_arms arms) (back_among x (labels_of b) (labels_of_arms arms) a))) h.2,
   )
 
-some_number : (x y : ℕ) → Some x ≡ Some y → x ≡ y
-some_number x y h = cc
-
 taken_stands : (xs : List (List ℕ)) (n i : ℕ) (x : List ℕ) → slice_get (take n xs) i ≡ Some x → slice_get xs i ≡ Some x
 taken_stands xs zero i x e = absurd (cc e)
 taken_stands [] (suc n) i x e = absurd (cc e)
@@ -273,7 +267,7 @@ first_stand names n d l i a e =
     let j = among_at (take n names.labels) l a in
     let p = place_at names.labels i l d e in
     let q = place_at names.labels j.0 l d (taken_stands names.labels n j.0 l j.1) in
-    ap (λ z. slice_get (take n names.labels) z) (some_number i j.0 (sym p ∙ q)) ∙ j.1
+    ap (λ z. slice_get (take n names.labels) z) (some_is i j.0 (sym p ∙ q)) ∙ j.1
 
 -- its labels are the first ones
 labels_first : (names : Names_data) (protocol : Protocol_data) (tree : ProtocolTree) → IsWritten names protocol tree → differ names.labels ≡ true → AreFirst names (length (names_of tree).labels) (labels_of tree.body)

@@ -12,6 +12,7 @@ use Rattle.rs_global.specs.Canonical.{IsTextShaped}
 use Rattle.rs_global.specs.Graph.{Numbering, numbering, nodes_of, nodes_of_arms, finish_of, has_end, talks_in, graph_of}
 use Rattle.rs_global.specs.Trees.{Body, ends, again, binds, talks, offers, Branches, one, more, ProtocolTree}
 use Rattle.rs_global.proofs.Printed.{EndIsLast}
+use Rattle.rs_text.proofs.Basics.{some_is}
 
 abbrev is_talk : Node → Bool
 is_talk Finished = false
@@ -32,15 +33,12 @@ mutual
   talks_all_arms (one l sort body) n bound count = talks_all body n bound count
   talks_all_arms (more l sort body arms) n bound count = both_all (nodes_of n body bound count) (nodes_of_arms n arms bound (count + talks_in body)) (talks_all body n bound count) (talks_all_arms arms n bound (count + talks_in body))
 
-same_node : (x y : Node) → Some x ≡ Some y → x ≡ y
-same_node x y h = cc
-
 last_in : (nodes : List Node) (end : Bool) (n m : ℕ) (s r : Role) (arms : List Arm) → list_all is_talk nodes ≡ true → slice_get (nodes ++ finish_of end) n ≡ Some Finished → slice_get (nodes ++ finish_of end) m ≡ Some (Talk s r arms) → m < n
 last_in [] false n m s r arms h e k = absurd (cc e)
-last_in [] true n zero s r arms h e k = absurd (cc (same_node Finished (Talk s r arms) k))
+last_in [] true n zero s r arms h e k = absurd (cc (some_is Finished (Talk s r arms) k))
 last_in [] true n (suc m) s r arms h e k = absurd (cc k)
 last_in (Finished ∷ nodes) end n m s r arms h e k = absurd (cc h)
-last_in (Talk x y z ∷ nodes) end zero m s r arms h e k = absurd (cc (same_node (Talk x y z) Finished e))
+last_in (Talk x y z ∷ nodes) end zero m s r arms h e k = absurd (cc (some_is (Talk x y z) Finished e))
 last_in (Talk x y z ∷ nodes) end (suc n) zero s r arms h e k = omega arith
 last_in (Talk x y z ∷ nodes) end (suc n) (suc m) s r arms h e k = let b : m < n = last_in nodes end n m s r arms h e k in omega arith
 

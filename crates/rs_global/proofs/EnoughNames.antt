@@ -1,6 +1,5 @@
 -- The names that a text has are enough for the protocol that it spells.
-use Rattle.std.proofs.Common.{◌≡◌, ℕ, zero, suc, ◌+◌, ◌<◌, List, [], ◌∷◌, ◌++◌, length, Bool, true, false, ◌&&◌, Option, Some, None, slice_get, nat_lt, if◌then◌else◌, refl, sym, ap, ◌∙◌, subst, inl, inr, arith}
-use Rattle.std.proofs.lemmas.Bool.Decides.{leb_tells}
+use Rattle.std.proofs.Common.{◌≡◌, ℕ, suc, ◌+◌, List, [], ◌∷◌, ◌++◌, length, Bool, true, false, ◌&&◌, Some, nat_lt, if◌then◌else◌, refl, sym, ap, ◌∙◌, subst, inl, inr}
 use Rattle.std.proofs.lemmas.List.Folds.{list_all-append}
 use Rattle.std.specs.List.{list_all}
 use Rattle.rs_model.specs.Data.{Protocol_data, Names_data}
@@ -9,20 +8,14 @@ use Rattle.rs_model.specs.declared.graph.Node.{Node}
 use Rattle.rs_model.specs.declared.graph.Node.TheVariants.{Finished, Talk}
 use Rattle.rs_text.specs.Names.{Bound, grown, is_among, place_of}
 use Rattle.rs_text.proofs.Gaps.{true_or_false}
-use Rattle.rs_text.proofs.Naming.{among, grown_stays, not_among, place_of_new}
+use Rattle.rs_text.proofs.Naming.{grown_stays, place_of_new, placed_by, absent_by}
 use Rattle.rs_text.proofs.Numbers.{place_below}
 use Rattle.rs_global.specs.Canonical.{IsTextShaped}
 use Rattle.rs_global.specs.Enough.{AreEnough}
 use Rattle.rs_global.specs.Graph.{Numbering, numbering, label_of, labels_of, labels_of_arms, arms_of, nodes_of, nodes_of_arms, finish_of, has_end, talks_in, names_of, graph_of}
 use Rattle.rs_global.specs.Spells.{SpellsProtocol}
 use Rattle.rs_global.specs.Trees.{Body, ends, again, binds, talks, offers, Branches, one, more, ProtocolTree}
-
-two : (p q : Bool) → (p && q) ≡ true → (p ≡ true) × (q ≡ true)
-two true q h = (refl, h)
-two false q h = absurd (cc h)
-
-joint : (p q : Bool) → p ≡ true → q ≡ true → (p && q) ≡ true
-joint p q h k = rw (h, k) refl
+use Rattle.rs_text.proofs.Basics.{both, test_below, one_of, below_test, two_true}
 
 -- a label has a number below the count of the labels
 abbrev is_numbered : Numbering → List ℕ → Bool
@@ -38,17 +31,17 @@ is_node_numbered m (Talk s r arms) = list_all (is_arm_numbered m) arms
 -- ---- the nodes of a body
 
 front_labels : (m : Numbering) (xs ys : List (List ℕ)) → list_all (is_numbered m) (xs ++ ys) ≡ true → (list_all (is_numbered m) xs ≡ true) × (list_all (is_numbered m) ys ≡ true)
-front_labels m xs ys h = two (list_all (is_numbered m) xs) (list_all (is_numbered m) ys) (sym (list_all-append (is_numbered m) xs ys) ∙ h)
+front_labels m xs ys h = both (list_all (is_numbered m) xs) (list_all (is_numbered m) ys) (sym (list_all-append (is_numbered m) xs ys) ∙ h)
 
 joined_nodes : (m : Numbering) (xs ys : List Node) → list_all (is_node_numbered m) xs ≡ true → list_all (is_node_numbered m) ys ≡ true → list_all (is_node_numbered m) (xs ++ ys) ≡ true
-joined_nodes m xs ys h k = list_all-append (is_node_numbered m) xs ys ∙ joint (list_all (is_node_numbered m) xs) (list_all (is_node_numbered m) ys) h k
+joined_nodes m xs ys h k = list_all-append (is_node_numbered m) xs ys ∙ two_true (list_all (is_node_numbered m) xs) (list_all (is_node_numbered m) ys) h k
 
 arms_numbered : (arms : Branches) (m : Numbering) (bound : Bound) (k : ℕ) → list_all (is_numbered m) (labels_of_arms arms) ≡ true → list_all (is_arm_numbered m) (arms_of m arms bound k) ≡ true
-arms_numbered (one l sort body) m bound k h = joint (is_numbered m l) true (two (is_numbered m l) (list_all (is_numbered m) (labels_of body)) h).0 refl
+arms_numbered (one l sort body) m bound k h = two_true (is_numbered m l) true (both (is_numbered m l) (list_all (is_numbered m) (labels_of body)) h).0 refl
 arms_numbered (more l sort body arms) m bound k h =
-    let p = two (is_numbered m l) (list_all (is_numbered m) (labels_of body ++ labels_of_arms arms)) h in
+    let p = both (is_numbered m l) (list_all (is_numbered m) (labels_of body ++ labels_of_arms arms)) h in
     let q = front_labels m (labels_of body) (labels_of_arms arms) p.1 in
-    joint (is_numbered m l) (list_all (is_arm_numbered m) (arms_of m arms bound (k + talks_in body))) p.0 (arms_numbered arms m bound (k + talks_in body) q.1)
+    two_true (is_numbered m l) (list_all (is_arm_numbered m) (arms_of m arms bound (k + talks_in body))) p.0 (arms_numbered arms m bound (k + talks_in body) q.1)
 
 mutual
   nodes_numbered : (b : Body) (m : Numbering) (bound : Bound) (k : ℕ) → list_all (is_numbered m) (labels_of b) ≡ true → list_all (is_node_numbered m) (nodes_of m b bound k) ≡ true
@@ -56,36 +49,22 @@ mutual
   nodes_numbered (again name) m bound k h = refl
   nodes_numbered (binds name body) m bound k h = nodes_numbered body m ((name, k) ∷ bound) k h
   nodes_numbered (talks s r l sort body) m bound k h =
-      let p = two (is_numbered m l) (list_all (is_numbered m) (labels_of body)) h in
-      joint (is_numbered m l && true) (list_all (is_node_numbered m) (nodes_of m body bound (suc k))) (joint (is_numbered m l) true p.0 refl) (nodes_numbered body m bound (suc k) p.1)
+      let p = both (is_numbered m l) (list_all (is_numbered m) (labels_of body)) h in
+      two_true (is_numbered m l && true) (list_all (is_node_numbered m) (nodes_of m body bound (suc k))) (two_true (is_numbered m l) true p.0 refl) (nodes_numbered body m bound (suc k) p.1)
   nodes_numbered (offers s r arms) m bound k h =
-      joint (list_all (is_arm_numbered m) (arms_of m arms bound (suc k))) (list_all (is_node_numbered m) (nodes_of_arms m arms bound (suc k))) (arms_numbered arms m bound (suc k) h) (behind_numbered arms m bound (suc k) h)
+      two_true (list_all (is_arm_numbered m) (arms_of m arms bound (suc k))) (list_all (is_node_numbered m) (nodes_of_arms m arms bound (suc k))) (arms_numbered arms m bound (suc k) h) (behind_numbered arms m bound (suc k) h)
 
   behind_numbered : (arms : Branches) (m : Numbering) (bound : Bound) (k : ℕ) → list_all (is_numbered m) (labels_of_arms arms) ≡ true → list_all (is_node_numbered m) (nodes_of_arms m arms bound k) ≡ true
-  behind_numbered (one l sort body) m bound k h = nodes_numbered body m bound k (two (is_numbered m l) (list_all (is_numbered m) (labels_of body)) h).1
+  behind_numbered (one l sort body) m bound k h = nodes_numbered body m bound k (both (is_numbered m l) (list_all (is_numbered m) (labels_of body)) h).1
   behind_numbered (more l sort body arms) m bound k h =
-      let p = two (is_numbered m l) (list_all (is_numbered m) (labels_of body ++ labels_of_arms arms)) h in
+      let p = both (is_numbered m l) (list_all (is_numbered m) (labels_of body ++ labels_of_arms arms)) h in
       let q = front_labels m (labels_of body) (labels_of_arms arms) p.1 in
       joined_nodes m (nodes_of m body bound k) (nodes_of_arms m arms bound (k + talks_in body)) (nodes_numbered body m bound k q.0) (behind_numbered arms m bound (k + talks_in body) q.1)
 
 -- ---- the labels of a text
 
-below_test : (k n : ℕ) → k < n → nat_lt k n ≡ true
-below_test k n h = elim (leb_tells (suc k) n) [ inl e ↦ e.0 | inr e ↦ absurd (let m = e.1 in omega arith) ]
-
-test_below : (k n : ℕ) → nat_lt k n ≡ true → k < n
-test_below k n h = elim (leb_tells (suc k) n) [ inl e ↦ (let m = e.1 in omega arith) | inr e ↦ absurd (cc (e.0, h)) ]
-
 abbrev with_name : List ℕ → List (List ℕ) → List (List ℕ)
 with_name x names = if is_among x names then names else names ++ x ∷ []
-
-placed_by : (o : Option ℕ) (x : List ℕ) (names : List (List ℕ)) → place_of x names ≡ o → is_among x names ≡ true → (k : ℕ) × (place_of x names ≡ Some k)
-placed_by None x names e h = absurd (cc (not_among names x 0 e, h))
-placed_by (Some k) x names e h = (k, e)
-
-absent_by : (o : Option ℕ) (x : List ℕ) (names : List (List ℕ)) → place_of x names ≡ o → is_among x names ≡ false → place_of x names ≡ None
-absent_by None x names e h = e
-absent_by (Some k) x names e h = absurd (cc (among names x 0 k e, h))
 
 placed : (x : List ℕ) (names : List (List ℕ)) → (k : ℕ) × (place_of x (with_name x names) ≡ Some k)
 placed x names = elim (true_or_false (is_among x names)) [
@@ -93,23 +72,18 @@ placed x names = elim (true_or_false (is_among x names)) [
   | inr e ↦ rw e (length names, place_of_new names x (absent_by (place_of x names) x names refl e))
 ]
 
+-- ---- one by one
+
+end_numbered : (end : Bool) (m : Numbering) → list_all (is_node_numbered m) (finish_of end) ≡ true
+end_numbered true m = refl
+end_numbered false m = refl
+
 numbered_in : (xs names : List (List ℕ)) (m : Numbering) → m.names.labels ≡ grown names xs → list_all (is_numbered m) xs ≡ true
 numbered_in [] names m h = refl
 numbered_in (x ∷ xs) names m h =
     let p = placed x names in
     let e : place_of x m.names.labels ≡ Some p.0 = ap (λ z. place_of x z) h ∙ grown_stays xs (with_name x names) x p.0 p.1 in
-    joint (is_numbered m x) (list_all (is_numbered m) xs) (rw e (below_test p.0 (length m.names.labels) (place_below m.names.labels x p.0 e))) (numbered_in xs (with_name x names) m h)
-
--- ---- one by one
-
-one_of : {A : Type 0} → (test : A → Bool) (xs : List A) (i : ℕ) (x : A) → list_all test xs ≡ true → slice_get xs i ≡ Some x → test x ≡ true
-one_of {A} test [] i x h e = absurd (cc e)
-one_of {A} test (y ∷ xs) zero x h e = let same : Some y ≡ Some x = e in let k : y ≡ x = cc same in subst (λ z. test z ≡ true) k (two (test y) (list_all test xs) h).0
-one_of {A} test (y ∷ xs) (suc i) x h e = one_of test xs i x (two (test y) (list_all test xs) h).1 e
-
-end_numbered : (end : Bool) (m : Numbering) → list_all (is_node_numbered m) (finish_of end) ≡ true
-end_numbered true m = refl
-end_numbered false m = refl
+    two_true (is_numbered m x) (list_all (is_numbered m) xs) (rw e (below_test p.0 (length m.names.labels) (place_below m.names.labels x p.0 e))) (numbered_in xs (with_name x names) m h)
 
 tree_enough : (t : ProtocolTree) → AreEnough (names_of t) (graph_of t)
 tree_enough t =

@@ -1,5 +1,5 @@
 -- A protocol that some text spells has a canonical tree.
-use Rattle.std.proofs.Common.{◌≡◌, ℕ, suc, ◌+◌, ◌<◌, ◌≤◌, List, [], ◌∷◌, ◌++◌, length, Bool, true, false, Option, Some, None, refl, sym, ap, ◌∙◌, subst, arith, ◌||◌, slice_get, append_assoc, length-append}
+use Rattle.std.proofs.Common.{◌≡◌, ℕ, suc, ◌+◌, ◌<◌, ◌≤◌, List, [], ◌∷◌, ◌++◌, length, Bool, true, false, Option, Some, None, refl, sym, ap, ◌∙◌, subst, arith, slice_get, append_assoc, length-append}
 use Rattle.std.proofs.lemmas.Bool.{ltb-true}
 use Rattle.std.proofs.lemmas.Option.{slice_get_within, slice_get-get_or}
 use Rattle.rs_model.specs.Data.{Protocol_data, Names_data}
@@ -15,7 +15,8 @@ use Rattle.rs_global.specs.Graph.{talks_in, talks_in_arms, has_end, has_end_arms
 use Rattle.rs_global.specs.Spells.{is_guarded, Fits}
 use Rattle.rs_global.specs.Scenes.{first_scene}
 use Rattle.rs_global.specs.Canonical.{IsTextShaped, name_of_node, IsTalkOf, IsArmOf, IsOneArm, AreArms, Draws, DrawsArms, IsCanonical}
-use Rattle.rs_global.proofs.CanonForms.{goes_back, back_is, is_back, seam, or_empty, Writing, role_as, label_as, sort_as, wrapped, canon, canon_arms, Named, NamedArms, fits_named, Low, low_rec, low_up, Ins, ins_rec}
+use Rattle.rs_global.proofs.CanonForms.{goes_back, back_is, is_back, or_empty, Writing, role_as, label_as, sort_as, wrapped, canon, canon_arms, Named, NamedArms, fits_named, Low, low_rec, low_up, Ins, ins_rec}
+use Rattle.rs_text.proofs.Basics.{or_end, seam}
 
 mutual
   pub nodes_length : (m : Numbering) (b : Body) (bound : Bound) (k : ℕ) → length (nodes_of m b bound k) ≡ talks_in b
@@ -36,10 +37,6 @@ pub at_seam : (nodes pre : List Node) (n : Node) (post : List Node) (k : ℕ) �
 at_seam nodes pre n post k e h = ap (λ z. slice_get z k) e ∙ ap (λ z. slice_get (pre ++ n ∷ post) z) (sym h) ∙ seam Node pre n post
 
 -- ---- one place
-
-or_end : (a b : Bool) → b ≡ true → (a || b) ≡ true
-or_end true b h = refl
-or_end false b h = h
 
 -- the names of a protocol are enough for it
 abbrev pub AreEnough : Names_data → Protocol_data → Type 0

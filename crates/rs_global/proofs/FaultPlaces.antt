@@ -24,11 +24,12 @@ use Rattle.rs_text.specs.declared.faults.Wanted.{Wanted}
 use Rattle.rs_text.specs.declared.faults.Wanted.TheVariants as wanted
 use Rattle.rs_global.specs.Trees.{ProtocolTree, protocol_signs, further_signs, roles_of}
 use Rattle.rs_global.specs.Cuts.{Cut, at_body, behind_end, behind_name, behind_rec, behind_rec_name, in_binds, behind_arrow, behind_receiver, in_arm, in_talks, in_offers, behind_brace, BranchCut, in_head, in_branch, later, ProtocolCut, at_begin, at_first, behind_first, at_further, behind_further, in_body, cut_signs, branch_cut_signs, line_signs, protocol_cut_signs, wanted_at, wanted_in, wanted_of}
-use Rattle.rs_global.specs.Scenes.{Scene, with_label, in_talk, behind, scene_at, scene_in, fault_by, fault_in_line, fault_of}
+use Rattle.rs_global.specs.Scenes.{Scene, with_label, in_talk, behind}
 use Rattle.rs_global.specs.Feeding.{begin, sorted_by, new_role}
 use Rattle.rs_global.proofs.FaultRuns.{sent_lands, met_lands, Follower, an_arrow, a_broken, a_name, follower, by_name, named_lands, placed_length, label_lands, arm_passes, frame_at, restored_bound, passes, branches_pass}
 use Rattle.rs_text.specs.Readings.{fault}
 use Rattle.rs_text.proofs.Leading.{Lands, Leads, lands_if, faulty_calm}
+use Rattle.rs_global.specs.Misplaced.{scene_at, scene_in, fault_by, fault_in_line, fault_of}
 
 -- what a mode wants
 abbrev pub wanted_behind : List Frame → Wanted

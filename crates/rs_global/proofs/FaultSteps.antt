@@ -22,7 +22,7 @@ use Rattle.rs_global.specs.declared.reading.Mode.{Mode}
 use Rattle.rs_global.specs.declared.reading.Mode.TheVariants as mode
 use Rattle.rs_global.specs.Data.{Reader_data}
 use Rattle.rs_global.specs.Trees.{ends_a_name}
-use Rattle.rs_global.specs.Scenes.{Scene, fault_of_name, fault_of_word, fault_of_sender}
+use Rattle.rs_global.specs.Scenes.{Scene}
 use Rattle.rs_global.specs.Feeding.{Fed, in_mode, linked, new_role, sent_by, named, feed_word, feed_body, placed, met_by, feed_mark, opened, label_of_number, labelled_by, sorted_by, feed_sort, feed_next, feed_line, feed_roles, feed_at, feeding}
 use Rattle.rs_global.proofs.FaultRuns.{Follower, an_arrow, a_broken, a_name, follower, by_name}
 use Rattle.rs_global.proofs.FaultPlaces.{wanted_behind, wanted_by, scene_of, fault_seen, NamedBy}
@@ -30,6 +30,7 @@ use Rattle.rs_global.proofs.FaultCuts.{takes}
 use Rattle.rs_text.specs.FirstFaults.{IsWhole}
 use Rattle.rs_text.specs.Readings.{fault, expected, feed_sign}
 use Rattle.rs_text.proofs.Leading.{NotExpected}
+use Rattle.rs_global.specs.Misplaced.{fault_of_name, fault_of_word, fault_of_sender}
 
 pub record ToldUnexpected (w : Wanted) (seen : Option TextKind) (t : Sign) (at : ℕ) (e : TextFault) : Type 0 where
   pub at_is : e.at ≡ at

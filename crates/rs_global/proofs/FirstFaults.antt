@@ -9,14 +9,14 @@ use Rattle.rs_text.specs.declared.faults.Wanted.TheVariants as wanted
 use Rattle.rs_text.specs.Faults.{kind_of}
 use Rattle.rs_text.specs.Lexemes.{Lexeme}
 use Rattle.rs_text.specs.Signs.{Sign, rec_word, plain, arrow, colon, dot, comma, open_brace, broken, finish}
-use Rattle.rs_text.specs.Arms.{arm_signs, wanted_in_arm, ArmCut, at_label, behind_label, behind_paren, behind_sort, behind_head}
+use Rattle.rs_text.specs.Arms.{arm_signs}
 use Rattle.rs_global.specs.declared.reading.Frame.{Frame}
 use Rattle.rs_global.specs.declared.reading.Mode.{Mode}
 use Rattle.rs_global.specs.declared.reading.Mode.TheVariants as mode
 use Rattle.rs_global.specs.Data.{Reader_data}
 use Rattle.rs_global.specs.Trees.{protocol_signs, body_signs}
 use Rattle.rs_global.specs.Cuts.{Cut, at_body, behind_end, behind_name, behind_rec, behind_rec_name, in_binds, behind_arrow, behind_receiver, in_arm, in_talks, in_offers, behind_brace, BranchCut, in_head, in_branch, later, ProtocolCut, at_begin, at_first, behind_first, at_further, behind_further, in_body, cut_signs, branch_cut_signs, line_signs, protocol_cut_signs, wanted_at, wanted_in, wanted_of, IsBehind}
-use Rattle.rs_global.specs.Scenes.{Scene, fault_by, fault_of}
+use Rattle.rs_global.specs.Scenes.{Scene}
 use Rattle.rs_global.specs.Faults.{Begins, IsWithin, EndsByName, IsInReach, FaultAt}
 use Rattle.rs_global.specs.Feeding.{Fed, begin, feed_at, feed_next, is_read, no_frames, behind_body, feeding}
 use Rattle.rs_global.proofs.FaultPlaces.{wanted_by, fault_seen, is_named, is_named_in, is_named_of, NamedBy, PlaceAgrees, place_passes, tree_passes}
@@ -27,6 +27,8 @@ use Rattle.rs_text.proofs.Judging.{Here, Wholeness, a_faulty, a_whole, wholeness
 use Rattle.rs_text.proofs.Leading.{Reached, NotExpected, Lands, sign_behind, lexeme, Leads, leads_split}
 use Rattle.rs_text.specs.FirstFaults.{IsClear, IsWhole}
 use Rattle.rs_text.specs.Readings.{feed_sign}
+use Rattle.rs_text.proofs.Arms.{arm_not}
+use Rattle.rs_global.specs.Misplaced.{fault_by, fault_of}
 
 -- a place stands behind these tokens
 abbrev pub There : List Sign → Type 0
@@ -97,14 +99,6 @@ named_reach : (c : ProtocolCut) → is_named_of c ≡ true → IsInReach c
 named_reach (in_body x y xs body) h = named_ends body h
 named_reach _ h = tt
 
--- a word at the start of a body
-arm_no_body : (arm : ArmCut) → wanted_in_arm arm ≡ wanted.Body → ⊥
-arm_no_body at_label h = cc
-arm_no_body (behind_label l) h = cc
-arm_no_body (behind_paren l) h = cc
-arm_no_body (behind_sort l s) h = cc
-arm_no_body (behind_head l s) h = cc
-
 mutual
   word_stands : (c : Cut) (w : Wanted) (word : List ℕ) → (w ≡ wanted.Body → ⊥) → wanted_at c w ≡ wanted.Body → (d : Cut) × (cut_signs d ≡ cut_signs c ++ plain word ∷ []) × (is_named d ≡ true)
   word_stands at_body w word n h = (behind_name word, refl, refl)
@@ -115,13 +109,13 @@ mutual
   word_stands (in_binds x b) w word n h = let z = word_stands b w word n h in (in_binds x z.0, ap (λ o. rec_word ∷ plain x ∷ dot ∷ o) z.1, z.2)
   word_stands (behind_arrow x) w word n h = cc
   word_stands (behind_receiver x y) w word n h = cc
-  word_stands (in_arm x y arm) w word n h = absurd (arm_no_body arm h)
+  word_stands (in_arm x y arm) w word n h = absurd (arm_not arm wanted.Body refl h)
   word_stands (in_talks x y l s b) w word n h = let z = word_stands b w word n h in (in_talks x y l s z.0, ap (λ o. plain x ∷ arrow ∷ plain y ∷ colon ∷ o) (ap (λ o. arm_signs l s ++ o) z.1 ∙ sym (append_assoc (arm_signs l s) (cut_signs b) (plain word ∷ []))), z.2)
   word_stands (in_offers x y arms) w word n h = let z = word_stands_in arms word h in (in_offers x y z.0, ap (λ o. plain x ∷ arrow ∷ plain y ∷ open_brace ∷ o) z.1, z.2)
   word_stands (behind_brace x y arms) w word n h = absurd (n h)
 
   word_stands_in : (a : BranchCut) (word : List ℕ) → wanted_in a ≡ wanted.Body → (d : BranchCut) × (branch_cut_signs d ≡ branch_cut_signs a ++ plain word ∷ []) × (is_named_in d ≡ true)
-  word_stands_in (in_head arm) word h = absurd (arm_no_body arm h)
+  word_stands_in (in_head arm) word h = absurd (arm_not arm wanted.Body refl h)
   word_stands_in (in_branch l s b) word h = let z = word_stands b wanted.CommaOrCloseBrace word (λ e. cc) h in (in_branch l s z.0, ap (λ o. arm_signs l s ++ o) z.1 ∙ sym (append_assoc (arm_signs l s) (cut_signs b) (plain word ∷ [])), z.2)
   word_stands_in (later l s b arms) word h = let z = word_stands_in arms word h in (later l s b z.0, ap (λ o. arm_signs l s ++ (body_signs b ++ comma ∷ o)) z.1 ∙ sym (append_assoc (arm_signs l s) (body_signs b ++ comma ∷ branch_cut_signs arms) (plain word ∷ []) ∙ ap (λ o. arm_signs l s ++ o) (append_assoc (body_signs b) (comma ∷ branch_cut_signs arms) (plain word ∷ []))), z.2)
 

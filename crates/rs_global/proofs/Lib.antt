@@ -1,4 +1,3 @@
-pub mod Bindings
 pub mod FaultRuns
 pub mod FaultPlaces
 pub mod FaultCuts
@@ -24,7 +23,6 @@ pub mod CanonNumbers
 pub mod CanonWhole
 pub mod ShapeSteps
 pub mod ShapeGoes
-pub mod PlainNames
 pub mod ShapeGrown
 pub mod ShapeWhole
 pub mod PrintedTrees

@@ -7,7 +7,6 @@ use Rattle.rs_text.specs.declared.faults.Wanted.{Wanted}
 use Rattle.rs_text.specs.declared.faults.Wanted.TheVariants as wanted
 use Rattle.rs_text.specs.Lexemes.{Lexeme, Lexed, signs_of}
 use Rattle.rs_text.specs.Signs.{Sign, rec_word, end_word, plain, open_brace, finish}
-use Rattle.rs_text.specs.Arms.{wanted_in_arm, ArmCut, at_label, behind_label, behind_paren, behind_sort, behind_head}
 use Rattle.rs_global.specs.declared.reading.Frame.{Frame}
 use Rattle.rs_global.specs.declared.reading.Mode.{Mode}
 use Rattle.rs_global.specs.declared.reading.Mode.TheVariants as mode
@@ -16,7 +15,7 @@ use Rattle.rs_global.specs.Trees.{ends_a_name}
 use Rattle.rs_global.specs.Cuts.{Cut, at_body, behind_end, behind_name, behind_rec, behind_rec_name, in_binds, behind_arrow, behind_receiver, in_arm, in_talks, in_offers, behind_brace, BranchCut, in_head, in_branch, later, ProtocolCut, at_begin, at_first, behind_first, at_further, behind_further, in_body, wanted_at, wanted_in, wanted_of, IsBehind}
 use Rattle.rs_text.specs.Names.{is_among, bound_to}
 use Rattle.std.proofs.Common.{nat_le, nat_lt}
-use Rattle.rs_global.specs.Scenes.{Scene, fault_by, fault_of, fault_of_name, fault_of_word, fault_of_label, fault_in_line}
+use Rattle.rs_global.specs.Scenes.{Scene}
 use Rattle.rs_global.specs.Faults.{Begins, IsWithin, EndsByName, IsInReach, IsUnexpected, FaultAt, FirstFault}
 use Rattle.rs_global.specs.Feeding.{Fed, Answer, begin, feed_at, feed_next, is_read, no_frames, behind_body, answered, ReadsAs, feeding}
 use Rattle.rs_global.proofs.FaultRuns.{Follower, an_arrow, a_broken, a_name, follower}
@@ -29,15 +28,10 @@ use Rattle.rs_text.proofs.Leading.{Reached, reach_on, calm_if, calm_not, calm_no
 use Rattle.rs_text.proofs.Keeping.{tokens}
 use Rattle.rs_text.specs.Readings.{Reading, feed_sign, read_all, last_of}
 use Rattle.rs_text.specs.FirstFaults.{IsWhole, next_of}
+use Rattle.rs_text.proofs.Arms.{arm_not}
+use Rattle.rs_global.specs.Misplaced.{fault_by, fault_of, fault_of_name, fault_of_word, fault_of_label, fault_in_line}
 
 -- ---- places behind the protocol
-
-arm_no_part : (arm : ArmCut) → wanted_in_arm arm ≡ wanted.PartOrEnd → ⊥
-arm_no_part at_label h = cc
-arm_no_part (behind_label l) h = cc
-arm_no_part (behind_paren l) h = cc
-arm_no_part (behind_sort l s) h = cc
-arm_no_part (behind_head l s) h = cc
 
 mutual
   no_part : (c : Cut) (w : Wanted) → (w ≡ wanted.PartOrEnd → ⊥) → wanted_at c w ≡ wanted.PartOrEnd → ⊥
@@ -49,13 +43,13 @@ mutual
   no_part (in_binds x b) w n h = no_part b w n h
   no_part (behind_arrow x) w n h = cc
   no_part (behind_receiver x y) w n h = cc
-  no_part (in_arm x y arm) w n h = arm_no_part arm h
+  no_part (in_arm x y arm) w n h = arm_not arm wanted.PartOrEnd refl h
   no_part (in_talks x y l s b) w n h = no_part b w n h
   no_part (in_offers x y arms) w n h = no_part_in arms h
   no_part (behind_brace x y arms) w n h = n h
 
   no_part_in : (a : BranchCut) → wanted_in a ≡ wanted.PartOrEnd → ⊥
-  no_part_in (in_head arm) h = arm_no_part arm h
+  no_part_in (in_head arm) h = arm_not arm wanted.PartOrEnd refl h
   no_part_in (in_branch l s b) h = no_part b wanted.CommaOrCloseBrace (λ e. cc) h
   no_part_in (later l s b arms) h = no_part_in arms h
 
@@ -68,7 +62,7 @@ part_behind (behind_rec_name x) h = cc
 part_behind (in_binds x b) h = part_behind b h
 part_behind (behind_arrow x) h = cc
 part_behind (behind_receiver x y) h = cc
-part_behind (in_arm x y arm) h = absurd (arm_no_part arm h)
+part_behind (in_arm x y arm) h = absurd (arm_not arm wanted.PartOrEnd refl h)
 part_behind (in_talks x y l s b) h = part_behind b h
 part_behind (in_offers x y arms) h = absurd (no_part_in arms h)
 part_behind (behind_brace x y arms) h = tt
@@ -82,7 +76,7 @@ part_named (behind_rec_name x) h e = cc
 part_named (in_binds x b) h e = part_named b h e
 part_named (behind_arrow x) h e = cc
 part_named (behind_receiver x y) h e = cc
-part_named (in_arm x y arm) h e = absurd (arm_no_part arm h)
+part_named (in_arm x y arm) h e = absurd (arm_not arm wanted.PartOrEnd refl h)
 part_named (in_talks x y l s b) h e = part_named b h e
 part_named (in_offers x y arms) h e = absurd (no_part_in arms h)
 part_named (behind_brace x y arms) h e = absurd e

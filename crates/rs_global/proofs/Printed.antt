@@ -10,9 +10,11 @@ use Rattle.rs_model.specs.declared.values.Sort.{Sort}
 use Rattle.rs_text.proofs.Gaps.{true_or_false}
 use Rattle.rs_global.specs.declared.printing.Target.{Target}
 use Rattle.rs_global.specs.Canonical.{name_of_node, IsGoneBackTo, IsTalkOf, IsArmOf, Draws, DrawsTalk, DrawsArms, IsCanonical, IsCanonicalText}
-use Rattle.rs_global.specs.Printing.{AreBack, named, pair_text, head_text, rec_text, others_text, Step, step, opened, target, Brace_data, arms_step, whole_step, node_step, brace_step, Printer_data, turned, turned_by, is_left, begins_with}
-use Rattle.rs_global.specs.Texts.{arm_text, body_text, branches_text, names_text}
+use Rattle.rs_global.specs.Printing.{AreBack, pair_text, head_text, rec_text, others_text, Step, step, opened, target, Brace_data, arms_step, whole_step, node_step, brace_step, Printer_data, turned, turned_by, is_left, begins_with}
+use Rattle.rs_global.specs.Texts.{body_text, branches_text, names_text}
 use Rattle.rs_global.specs.Trees.{Body, ends, again, binds, talks, offers, Branches, one, more, ProtocolTree, roles_of}
+use Rattle.rs_text.specs.Names.{name_at}
+use Rattle.rs_text.specs.Arms.{arm_text}
 
 -- the names of a line, as they are written
 pub names_are : (names : List (List ℕ)) (name : List ℕ) → names_text (name ∷ names) ≡ name ++ others_text names
@@ -267,7 +269,7 @@ whole_writes None names back n = omega arith
 whole_writes (Some Finished) names back n = omega arith
 whole_writes (Some (Talk s r arms)) names back n =
     front_some (rec_text back n ++ pair_text names s r) (arms_step names (n + 1) arms).written
-    (back_some (rec_text back n) (pair_text names s r) (back_some (named names.roles s.0) (codes "->" ++ named names.roles r.0) (omega arith)))
+    (back_some (rec_text back n) (pair_text names s r) (back_some (name_at names.roles s.0) (codes "->" ++ name_at names.roles r.0) (omega arith)))
 
 node_writes : (names : Names_data) (nodes : List Node) (flags : List Bool) (t : Target) → 0 < length (node_step names nodes flags t).written
 node_writes names nodes flags t = elim (leb_tells (suc t.node) t.from) [

@@ -1,43 +1,21 @@
 -- The text of a tree is written for its tokens.
-use Rattle.std.proofs.Common.{◌≡◌, ℕ, ◌+◌, ◌<◌, ◌≤◌, List, [], ◌∷◌, ◌++◌, length, drop, codes, true, false, Option, Some, None, refl, sym, ap, subst, append-nil, length-append, length-drop, arith}
+use Rattle.std.proofs.Common.{◌≡◌, ℕ, ◌+◌, ◌<◌, ◌≤◌, List, [], ◌∷◌, ◌++◌, length, drop, codes, true, false, refl, sym, ap, subst, append-nil, length-append, length-drop, arith}
 use Rattle.std.proofs.lemmas.List.Elements.{All-head, All-tail}
 use Rattle.std.specs.List.{All, flat_map}
-use Rattle.rs_model.specs.declared.values.Sort.{Sort}
-use Rattle.rs_model.specs.declared.values.Sort.TheVariants as sort
-use Rattle.rs_text.specs.Arms.{sort_text, sort_signs, arm_signs}
+use Rattle.rs_text.specs.Arms.{arm_signs, arm_text}
 use Rattle.rs_text.specs.Bytes.{is_word_byte}
 use Rattle.rs_text.specs.Lexemes.{Lexeme, Lexed, next_lexeme}
-use Rattle.rs_text.specs.Signs.{Sign, plain, arrow, colon, dot, comma, open_brace, close_brace, open_paren, close_paren, finish}
-use Rattle.rs_text.specs.Words.{begins, is_word, is_role_word}
+use Rattle.rs_text.specs.Signs.{Sign, plain, arrow, colon, dot, comma, open_brace, close_brace, finish}
+use Rattle.rs_text.specs.Words.{begins, is_role_word}
 use Rattle.rs_text.specs.Writing.{IsWritten}
 use Rattle.rs_text.proofs.Written.{nothing_written, joined, before_blank, before_mark, before_word, before_role, word_written, role_written, written_cut}
 use Rattle.rs_text.proofs.Nexts.{exists, are_lexed, end_again}
 use Rattle.rs_global.specs.Trees.{Body, ends, again, binds, talks, offers, Branches, one, more, ProtocolTree, roles_of, body_signs, branch_signs, further_signs, protocol_signs, ends_by_name, ends_a_name}
-use Rattle.rs_global.specs.Texts.{shown_text, arm_text, body_text, branches_text, names_text, protocol_text}
+use Rattle.rs_global.specs.Texts.{body_text, branches_text, names_text, protocol_text}
 use Rattle.rs_global.specs.Graph.{graph_of, names_of}
 use Rattle.rs_global.specs.Spells.{SpellsProtocol, Fits}
 use Rattle.rs_global.specs.Writable.{AreWordsIn, AreWordsInArms, AreWords}
-
--- ---- arms
-
-sort_is_word : (s : Sort) → is_role_word (sort_text s) ≡ true
-sort_is_word sort.Unit = refl
-sort_is_word sort.Flag = refl
-sort_is_word sort.Natural = refl
-sort_is_word sort.Whole = refl
-sort_is_word sort.Octets = refl
-sort_is_word sort.Numbers = refl
-
-closing_written : (behind : List ℕ) → IsWritten (close_paren ∷ dot ∷ []) (codes "). ") behind
-closing_written behind = before_mark close_paren (dot ∷ []) (codes ")") (codes ". ") behind refl refl (before_mark dot [] (codes ".") (codes " ") behind refl refl (before_blank 32 [] [] behind refl (nothing_written behind)))
-
-sort_written : (sort : Option Sort) (behind : List ℕ) → IsWritten (sort_signs sort ++ close_paren ∷ dot ∷ []) (shown_text sort ++ codes "). ") behind
-sort_written None behind = closing_written behind
-sort_written (Some s) behind = before_role (sort_text s) (close_paren ∷ dot ∷ []) (codes "). ") behind (sort_is_word s) refl (closing_written behind)
-
-arm_written : (label : List ℕ) (sort : Option Sort) (behind : List ℕ) → is_word label ≡ true → IsWritten (arm_signs label sort) (arm_text label sort) behind
-arm_written label sort behind h = before_word label (open_paren ∷ (sort_signs sort ++ close_paren ∷ dot ∷ [])) (codes "(" ++ (shown_text sort ++ codes "). ")) behind h refl
-    (before_mark open_paren (sort_signs sort ++ close_paren ∷ dot ∷ []) (codes "(") (shown_text sort ++ codes "). ") behind refl refl (sort_written sort behind))
+use Rattle.rs_text.proofs.Arms.{arm_written}
 
 -- ---- bodies
 

@@ -12,24 +12,25 @@ use Rattle.rs_model.specs.declared.graph.Role.{Role}
 use Rattle.rs_model.specs.declared.graph.Label.{Label}
 use Rattle.rs_model.specs.declared.values.Sort.{Sort}
 use Rattle.rs_text.proofs.Gaps.{true_or_false}
-use Rattle.rs_text.proofs.Naming.{grown_append}
-use Rattle.rs_text.specs.Arms.{sort_or_unit}
+use Rattle.rs_text.proofs.Naming.{grown_append, at_among}
+use Rattle.rs_text.specs.Arms.{sort_or_unit, shown_sort}
 use Rattle.rs_text.specs.Names.{Bound, bound_to, number_or, grown, is_among}
 use Rattle.rs_text.specs.Words.{is_role_word}
 use Rattle.rs_global.specs.declared.shapes.Walk.{Walk}
 use Rattle.rs_global.specs.Trees.{Body, ends, again, Branches, one, more}
 use Rattle.rs_global.specs.Graph.{labels_of, labels_of_arms, talks_in, talks_in_arms, has_end, has_end_arms, Numbering, role_of, first_node, arm_of, arms_of, nodes_of, nodes_of_arms}
 use Rattle.rs_global.specs.Spells.{is_guarded, has_room_for, body_fits, arms_fit}
-use Rattle.rs_global.specs.Canonical.{name_of_node, shown_sort}
+use Rattle.rs_global.specs.Canonical.{name_of_node}
 use Rattle.rs_global.specs.Writable.{AreWordsIn, AreWordsInArms}
 use Rattle.rs_global.specs.Shapes.{leads_to, talk_leads, leads_from, last_of, labelled, met, or_none, arms_met, closed, deeper, are_more, nested, is_fit, one_more, talk_met, visited, to_end}
-use Rattle.rs_global.proofs.CanonForms.{any_stands, stands_any, drop_get, wrapped, offered, both}
-use Rattle.rs_global.proofs.CanonNest.{scene, all_true, wrapped_fits}
-use Rattle.rs_global.proofs.CanonNumbers.{at_among}
-use Rattle.rs_global.proofs.CanonSame.{node_name_is, opened_for, wrapped_talks, offered_talks, wrapped_end, offered_end, wrapped_labels, offered_labels, wrapped_nodes, wrapped_first, offered_nodes, offered_first, sort_same}
+use Rattle.rs_global.proofs.CanonForms.{wrapped, offered}
+use Rattle.rs_global.proofs.CanonNest.{scene, wrapped_fits}
+use Rattle.rs_global.proofs.CanonSame.{node_name_is, opened_for, wrapped_talks, offered_talks, wrapped_end, offered_end, wrapped_labels, offered_labels, wrapped_nodes, wrapped_first, offered_nodes, offered_first}
 use Rattle.rs_global.proofs.CanonWhole.{one_words}
 use Rattle.rs_global.proofs.NodeNames.{node_name_law}
-use Rattle.rs_global.proofs.PlainNames.{plain_name, plain_names, plain_stands, plain_place, plain_grown, plain_role, plain_label, plain_count}
+use Rattle.rs_text.proofs.PlainNames.{plain_name, plain_names, plain_stands, plain_place, plain_grown, plain_role, plain_label, plain_count}
+use Rattle.rs_text.proofs.Basics.{some_is, two_true, both, or_true, or_false, or_assoc, or_first, any_stands, stands_any, drop_get}
+use Rattle.rs_text.proofs.Arms.{sort_same}
 
 -- ---- cases of options
 
@@ -40,9 +41,6 @@ if_true false x y e = absurd (cc e)
 if_false : (c : Bool) (x y : Option Walk) → c ≡ false → (if c then x else y) ≡ y
 if_false true x y e = absurd (cc e)
 if_false false x y e = refl
-
-walk_some : (x y : Walk) → Some x ≡ Some y → x ≡ y
-walk_some x y h = cc
 
 abbrev nothing : Option Walk
 nothing = None
@@ -75,12 +73,9 @@ arm_leads nodes n s r arms place a e f =
     let same : n + 0 ≡ n = omega arith in
     stands_any Node (talk_leads a.next) (drop n nodes) 0 (Talk s r arms) (drop_get Node n nodes 0 ∙ ap (λ z. slice_get nodes z) same ∙ e) (stands_any Arm (leads_to a.next) arms place a f (eq-eqb a.next a.next refl))
 
-node_some : (x y : Node) → Some x ≡ Some y → x ≡ y
-node_some x y h = cc
-
 drop_at : (nodes : List Node) (n : ℕ) (x : Node) → slice_get nodes n ≡ Some x → drop n nodes ≡ x ∷ drop (suc n) nodes
 drop_at [] n x e = absurd (cc e)
-drop_at (y ∷ nodes) zero x e = ap (λ z. z ∷ nodes) (node_some y x e)
+drop_at (y ∷ nodes) zero x e = ap (λ z. z ∷ nodes) (some_is y x e)
 drop_at (y ∷ nodes) (suc n) x e = drop_at nodes n x e
 
 -- the talks before `count` that are gone back to from there on have names
@@ -122,18 +117,6 @@ record GrownArms (p : Protocol_data) (bound : Bound) (depth : ℕ) (w u : Walk) 
   up : w.labels ≤ u.labels
   room : u.labels ≤ 256
   within : u.count ≤ last_of p.nodes
-
-or_false : (a : Bool) → a ≡ (a || false)
-or_false true = refl
-or_false false = refl
-
-or_true : (a : Bool) → true ≡ (a || true)
-or_true true = refl
-or_true false = refl
-
-or_assoc : (a b c : Bool) → ((a || b) || c) ≡ (a || (b || c))
-or_assoc true b c = refl
-or_assoc false b c = refl
 
 -- ---- a way back, and an end
 
@@ -184,7 +167,7 @@ pub met_grown : (p : Protocol_data) (bound : Bound) (depth : ℕ) (visit : ℕ �
 met_grown p bound depth visit from to w u small grows le within room names back h = elim (true_or_false (nat_lt to from)) [
   | inl e ↦ (
       let lt : to < from = ltb-true to from e in
-      let same : w ≡ u = walk_some w u (sym (if_true (nat_lt to from) (Some w) (if to == w.count && nat_lt to (last_of p.nodes) then visit to w else to_end (last_of p.nodes) to w) e) ∙ h) in
+      let same : w ≡ u = some_is w u (sym (if_true (nat_lt to from) (Some w) (if to == w.count && nat_lt to (last_of p.nodes) then visit to w else to_end (last_of p.nodes) to w) e) ∙ h) in
       subst (λ (z : Walk). Grown p bound depth w z to) same (back_grown p bound depth to w small (omega arith) within room (back lt)))
   | inr e ↦ (
       let h2 = sym (if_false (nat_lt to from) (Some w) (if to == w.count && nat_lt to (last_of p.nodes) then visit to w else to_end (last_of p.nodes) to w) e) ∙ h in
@@ -196,7 +179,7 @@ met_grown p bound depth visit from to w u small grows le within room names back 
             let h3 = sym (if_false (to == w.count && nat_lt to (last_of p.nodes)) (visit to w) (to_end (last_of p.nodes) to w) f) ∙ h2 in
             elim (true_or_false (to == last_of p.nodes)) [
               | inl i ↦ (
-                  let same : record w { ended = true } ≡ u = walk_some (record w { ended = true }) u (sym (if_true (to == last_of p.nodes) (Some (record w { ended = true })) None i) ∙ h3) in
+                  let same : record w { ended = true } ≡ u = some_is (record w { ended = true }) u (sym (if_true (to == last_of p.nodes) (Some (record w { ended = true })) None i) ∙ h3) in
                   subst (λ (z : ℕ). Grown p bound depth w u z) (sym (eqb-true to (last_of p.nodes) i)) (subst (λ (z : Walk). Grown p bound depth w z (last_of p.nodes)) same (end_grown p bound depth w room within)))
               | inr i ↦ absurd (not_some u (sym (if_false (to == last_of p.nodes) (Some (record w { ended = true })) None i) ∙ h3))
             ])
@@ -214,10 +197,6 @@ record Labelled (i : ℕ) (w v : Walk) : Type 0 where
   room : v.labels ≤ 256
   fits : (bound : Bound) (roles : List (List ℕ)) (depth k : ℕ) → has_room_for (plain_name 108 i) (scene roles bound depth k (plain_names 108 w.labels)) ≡ true
 
-or_first : (a b : Bool) → a ≡ true → (a || b) ≡ true
-or_first true b h = refl
-or_first false b h = absurd (cc h)
-
 or_second : (a b : Bool) → b ≡ true → (a || b) ≡ true
 or_second true b h = refl
 or_second false b h = h
@@ -227,7 +206,7 @@ is_labelled i w v room h = elim (true_or_false (nat_lt i w.labels)) [
   | inl e ↦ (
       let lt : i < w.labels = ltb-true i w.labels e in
       let there : is_among (plain_name 108 i) (plain_names 108 w.labels) ≡ true = at_among (plain_names 108 w.labels) i (plain_name 108 i) (plain_stands 108 w.labels i lt) in
-      let same : w ≡ v = walk_some w v (sym (if_true (nat_lt i w.labels) (Some w) (if i == w.labels && nat_lt i 256 then Some (record w { labels = suc w.labels }) else None) e) ∙ h) in
+      let same : w ≡ v = some_is w v (sym (if_true (nat_lt i w.labels) (Some w) (if i == w.labels && nat_lt i 256 then Some (record w { labels = suc w.labels }) else None) e) ∙ h) in
       subst (λ (z : Walk). Labelled i w z) same (record {
         count = refl;
         ended = refl;
@@ -244,7 +223,7 @@ is_labelled i w v room h = elim (true_or_false (nat_lt i w.labels)) [
             let q = both (i == w.labels) (nat_lt i 256) f in
             let at : i ≡ w.labels = eqb-true i w.labels q.0 in
             let few : i < 256 = ltb-true i 256 q.1 in
-            let same : record w { labels = suc w.labels } ≡ v = walk_some (record w { labels = suc w.labels }) v (sym (if_true (i == w.labels && nat_lt i 256) (Some (record w { labels = suc w.labels })) None f) ∙ h2) in
+            let same : record w { labels = suc w.labels } ≡ v = some_is (record w { labels = suc w.labels }) v (sym (if_true (i == w.labels && nat_lt i 256) (Some (record w { labels = suc w.labels })) None f) ∙ h2) in
             let size : length (plain_names 108 w.labels) ≡ w.labels = plain_count 108 w.labels in
             subst (λ (z : Walk). Labelled i w z) same (record {
               count = refl;
@@ -309,7 +288,7 @@ one_grown p bound depth a w v u l g =
       counts = g.counts;
       labels = ap (λ z. grown z (labels_of g.body)) l.grows ∙ g.labels;
       ended = g.ended;
-      fits = all_true (has_room_for (plain_name 108 a.label.0) (scene (plain_names 82 p.roles) bound depth w.count (plain_names 108 w.labels))) (body_fits g.body (scene (plain_names 82 p.roles) bound depth w.count (grown (plain_names 108 w.labels) (plain_name 108 a.label.0 ∷ []))))
+      fits = two_true (has_room_for (plain_name 108 a.label.0) (scene (plain_names 82 p.roles) bound depth w.count (plain_names 108 w.labels))) (body_fits g.body (scene (plain_names 82 p.roles) bound depth w.count (grown (plain_names 108 w.labels) (plain_name 108 a.label.0 ∷ []))))
           (l.fits bound (plain_names 82 p.roles) depth w.count) (subst (λ (z : List (List ℕ)). body_fits g.body (scene (plain_names 82 p.roles) bound depth w.count z) ≡ true) (sym l.grows) g.fits);
       words = (plain_label a.label.0 (omega arith), g.words);
       shut = g.shut;
@@ -341,9 +320,9 @@ more_grown p bound depth a b bs w v x u l g r =
       counts = omega arith;
       labels = grown_append (labels_of g.body) (labels_of_arms r.branches) (grown (plain_names 108 w.labels) (plain_name 108 a.label.0 ∷ [])) ∙ ap (λ z. grown z (labels_of_arms r.branches)) labels ∙ r.labels;
       ended = r.ended ∙ ap (λ z. z || has_end_arms r.branches) g.ended ∙ or_assoc w.ended (has_end g.body) (has_end_arms r.branches);
-      fits = all_true (has_room_for (plain_name 108 a.label.0) (scene roles bound depth w.count (plain_names 108 w.labels)) && body_fits g.body (scene roles bound depth w.count (grown (plain_names 108 w.labels) (plain_name 108 a.label.0 ∷ []))))
+      fits = two_true (has_room_for (plain_name 108 a.label.0) (scene roles bound depth w.count (plain_names 108 w.labels)) && body_fits g.body (scene roles bound depth w.count (grown (plain_names 108 w.labels) (plain_name 108 a.label.0 ∷ []))))
           (arms_fit r.branches (scene roles bound depth (w.count + talks_in g.body) (grown (grown (plain_names 108 w.labels) (plain_name 108 a.label.0 ∷ [])) (labels_of g.body))))
-          (all_true (has_room_for (plain_name 108 a.label.0) (scene roles bound depth w.count (plain_names 108 w.labels))) (body_fits g.body (scene roles bound depth w.count (grown (plain_names 108 w.labels) (plain_name 108 a.label.0 ∷ []))))
+          (two_true (has_room_for (plain_name 108 a.label.0) (scene roles bound depth w.count (plain_names 108 w.labels))) (body_fits g.body (scene roles bound depth w.count (grown (plain_names 108 w.labels) (plain_name 108 a.label.0 ∷ []))))
           (l.fits bound roles depth w.count) (subst (λ (z : List (List ℕ)). body_fits g.body (scene roles bound depth w.count z) ≡ true) (sym l.grows) g.fits))
           (subst (λ (z : ℕ). arms_fit r.branches (scene roles bound depth z (grown (grown (plain_names 108 w.labels) (plain_name 108 a.label.0 ∷ [])) (labels_of g.body))) ≡ true) (sym counts)
           (subst (λ (z : List (List ℕ)). arms_fit r.branches (scene roles bound depth x.count z) ≡ true) (sym labels) r.fits));
@@ -366,7 +345,7 @@ arms_grown [] p bound depth visit from a w u small grows le within room names le
     let x = chained (arms_met visit (last_of p.nodes) from []) (met visit (last_of p.nodes) from a.next d.0) u d.2 in
     let same : d.0 ≡ relabel w d.0.labels = relabelled w d.0 l.count l.ended in
     let g : Grown p bound depth (relabel w d.0.labels) x.0 a.next = met_grown p bound depth visit from a.next (relabel w d.0.labels) x.0 small grows le within l.room names (led 0 a refl) (subst (λ (z : Walk). met visit (last_of p.nodes) from a.next z ≡ Some x.0) same x.1) in
-    subst (λ (z : Walk). GrownArms p bound depth w z (a ∷ [])) (walk_some x.0 u x.2) (one_grown p bound depth a w d.0 x.0 l g)
+    subst (λ (z : Walk). GrownArms p bound depth w z (a ∷ [])) (some_is x.0 u x.2) (one_grown p bound depth a w d.0 x.0 l g)
 arms_grown (b ∷ bs) p bound depth visit from a w u small grows le within room names led h =
     let d = chained (λ v. or_none (arms_met visit (last_of p.nodes) from (b ∷ bs)) (met visit (last_of p.nodes) from a.next v)) (labelled a.label.0 w) u h in
     let l : Labelled a.label.0 w d.0 = is_labelled a.label.0 w d.0 room d.1 in
@@ -389,13 +368,13 @@ opened_names false n v bound a b f g = f (λ same. cc (g same))
 offered_fits : (b : Branches) (s r : List ℕ) (roles : List (List ℕ)) (bound : Bound) (d k : ℕ) (ls : List (List ℕ)) → is_among s roles ≡ true → is_among r roles ≡ true → k < 1024 → deeper (two b) d ≤ 200 → arms_fit b (scene roles bound (deeper (two b) d) (suc k) ls) ≡ true → body_fits (offered s r b) (scene roles bound d k ls) ≡ true
 offered_fits (one l sort b) s r roles bound d k ls known known' few low h =
     let q = both (has_room_for l (scene roles bound d (suc k) ls)) (body_fits b (scene roles bound d (suc k) (grown ls (l ∷ [])))) h in
-    all_true (is_among s roles && nat_lt k 1024 && is_among r roles && has_room_for l (scene roles bound d k ls)) (body_fits b (scene roles bound d (suc k) (grown ls (l ∷ []))))
-    (all_true (is_among s roles && nat_lt k 1024 && is_among r roles) (has_room_for l (scene roles bound d k ls))
-    (all_true (is_among s roles && nat_lt k 1024) (is_among r roles) (all_true (is_among s roles) (nat_lt k 1024) known (lt-ltb k 1024 few)) known') q.0) q.1
+    two_true (is_among s roles && nat_lt k 1024 && is_among r roles && has_room_for l (scene roles bound d k ls)) (body_fits b (scene roles bound d (suc k) (grown ls (l ∷ []))))
+    (two_true (is_among s roles && nat_lt k 1024 && is_among r roles) (has_room_for l (scene roles bound d k ls))
+    (two_true (is_among s roles && nat_lt k 1024) (is_among r roles) (two_true (is_among s roles) (nat_lt k 1024) known (lt-ltb k 1024 few)) known') q.0) q.1
 offered_fits (more l sort b arms) s r roles bound d k ls known known' few low h =
-    all_true (is_among s roles && nat_lt k 1024 && is_among r roles && nat_lt d 200) (arms_fit (more l sort b arms) (scene roles bound (suc d) (suc k) ls))
-    (all_true (is_among s roles && nat_lt k 1024 && is_among r roles) (nat_lt d 200)
-    (all_true (is_among s roles && nat_lt k 1024) (is_among r roles) (all_true (is_among s roles) (nat_lt k 1024) known (lt-ltb k 1024 few)) known') (lt-ltb d 200 (omega arith))) h
+    two_true (is_among s roles && nat_lt k 1024 && is_among r roles && nat_lt d 200) (arms_fit (more l sort b arms) (scene roles bound (suc d) (suc k) ls))
+    (two_true (is_among s roles && nat_lt k 1024 && is_among r roles) (nat_lt d 200)
+    (two_true (is_among s roles && nat_lt k 1024) (is_among r roles) (two_true (is_among s roles) (nat_lt k 1024) known (lt-ltb k 1024 few)) known') (lt-ltb d 200 (omega arith))) h
 
 offered_words : (b : Branches) (s r : List ℕ) → is_role_word s ≡ true → is_role_word r ≡ true → AreWordsInArms b → AreWordsIn (offered s r b)
 offered_words (one l sort b) s r x y h = (x, y, h.0, h.1)
@@ -479,7 +458,7 @@ node_grown p bound depth visit w u (Some (Talk s r (a ∷ arms))) small grows th
           elim (true_or_false (leads_from p.nodes x.0.count n)) [
             | inl f ↦ absurd (not_some u (sym (if_true (leads_from p.nodes x.0.count n) None (Some x.0) f) ∙ x.2))
             | inr f ↦ (
-                let same : x.0 ≡ u = walk_some x.0 u (sym (if_false (leads_from p.nodes x.0.count n) None (Some x.0) f) ∙ x.2) in
+                let same : x.0 ≡ u = some_is x.0 u (sym (if_false (leads_from p.nodes x.0.count n) None (Some x.0) f) ∙ x.2) in
                 subst (λ (z : Walk). Grown p bound depth w z n) same (talk_grown p bound depth s r a arms w x.0 small there (ltb-true s.0 p.roles q1.0) (ltb-true r.0 p.roles q1.1) lt low f g))
           ])
       | inr e ↦ absurd (not_some u (sym (if_false (is_fit p.roles inner s r ours) (or_none (closed p.nodes n) (arms_met (visit inner) (last_of p.nodes) (suc n) ours (one_more w))) None e) ∙ h))

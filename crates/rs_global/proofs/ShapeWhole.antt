@@ -21,14 +21,15 @@ use Rattle.rs_global.specs.Shapes.{talk_leads, leads_from, is_end_at, ends_last,
 use Rattle.rs_global.specs.Texts.{protocol_text}
 use Rattle.rs_global.specs.Trees.{ProtocolTree, roles_of}
 use Rattle.rs_global.specs.Writable.{AreWords}
-use Rattle.rs_global.proofs.CanonForms.{back_is, seam, both, fits_named}
+use Rattle.rs_global.proofs.CanonForms.{back_is, fits_named}
 use Rattle.rs_global.proofs.CanonNest.{Recs, tree_recs, fits_talks, scene}
 use Rattle.rs_global.proofs.CanonOne.{is_talk, all_talks}
 use Rattle.rs_global.proofs.Existence.{nodes_length, tree_with, roles_with}
-use Rattle.rs_global.proofs.PlainNames.{plain_names, plain_count, plain_differ, plain_all, plain_role}
+use Rattle.rs_text.proofs.PlainNames.{plain_names, plain_count, plain_differ, plain_all, plain_role}
 use Rattle.rs_global.proofs.PrintedTrees.{lone_tree_spelt}
 use Rattle.rs_global.proofs.ShapeGoes.{goes}
 use Rattle.rs_global.proofs.ShapeGrown.{Small, Grown, numbers, met_grown, visited_grown}
+use Rattle.rs_text.proofs.Basics.{some_is, both, seam}
 
 -- ---- the end of a graph
 
@@ -111,9 +112,6 @@ shaped_is_walked p s = ap is_shaped s.spells.graph_is ∙ graph_shaped s.spells.
 
 -- ---- what is walked to its end has a text
 
-node_some : (x y : Node) → Some x ≡ Some y → x ≡ y
-node_some x y h = cc
-
 ends_at : (o : Option Node) → is_end_at o ≡ true → o ≡ Some Finished
 ends_at None h = absurd (cc h)
 ends_at (Some Finished) h = refl
@@ -121,7 +119,7 @@ ends_at (Some (Talk s r arms)) h = absurd (cc h)
 
 drop_end : (nodes : List Node) → slice_get nodes (length nodes - 1) ≡ Some Finished → drop (length nodes - 1) nodes ≡ Finished ∷ []
 drop_end [] e = absurd (cc e)
-drop_end (x ∷ []) e = ap (λ z. z ∷ []) (node_some x Finished e)
+drop_end (x ∷ []) e = ap (λ z. z ∷ []) (some_is x Finished e)
 drop_end (x ∷ y ∷ nodes) e =
     let one : length (x ∷ y ∷ nodes) - 1 ≡ suc (length (y ∷ nodes) - 1) = omega arith in
     ap (λ z. drop z (x ∷ y ∷ nodes)) one ∙ drop_end (y ∷ nodes) (ap (λ z. slice_get (x ∷ y ∷ nodes) z) (sym one) ∙ e)

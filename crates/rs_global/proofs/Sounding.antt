@@ -12,7 +12,7 @@ use Rattle.rs_text.specs.Names.{place_of, is_among, bound_to}
 use Rattle.rs_text.specs.Signs.{Sign, rec_word, end_word, plain, arrow, colon, dot, comma, open_brace, close_brace, open_paren, close_paren, broken}
 use Rattle.rs_text.specs.Sound.{differ, IsSound}
 use Rattle.rs_text.specs.Words.{is_word, is_role_word}
-use Rattle.rs_text.proofs.Naming.{grown_differ, grown_all, not_among, decides_sound}
+use Rattle.rs_text.proofs.Naming.{not_among, decides_sound, new_differ, new_all}
 use Rattle.rs_text.specs.Seen.{sort_named, plain_text, word_text, is_text}
 use Rattle.rs_global.specs.declared.reading.Frame.{Frame}
 use Rattle.rs_global.specs.declared.reading.Link.{Link}
@@ -25,6 +25,7 @@ use Rattle.rs_global.specs.Feeding.{Fed, Answer, Reads, ReadsAs, answered, begin
 use Rattle.rs_text.specs.Readings.{Reading, feed_sign, read_all}
 use Rattle.rs_text.proofs.Keeping.{tokens, kept, KeptIn}
 use Rattle.rs_text.proofs.Judging.{IsNamed}
+use Rattle.rs_text.proofs.Basics.{some_is}
 
 -- names that texts can have, as many as there may be
 pub record Sound (roles labels : List (List ℕ)) : Type 0 where
@@ -49,12 +50,6 @@ keep_unless false e x h = tt
 below : (m n : ℕ) → nat_le m n ≡ false → n < m
 below m n h = leb-false m n h
 
-new_differ : (names : List (List ℕ)) (w : List ℕ) → is_among w names ≡ false → differ names ≡ true → differ (names ++ w ∷ []) ≡ true
-new_differ names w e h = rw e at (grown_differ (w ∷ []) names h)
-
-new_all : (test : List ℕ → Bool) (names : List (List ℕ)) (w : List ℕ) → is_among w names ≡ false → list_all test names ≡ true → test w ≡ true → list_all test (names ++ w ∷ []) ≡ true
-new_all test names w e h k = rw e at (grown_all test (w ∷ []) names h (rw k refl))
-
 new_length : (names : List (List ℕ)) (w : List ℕ) (m : ℕ) → length names < m → length (names ++ w ∷ []) ≤ m
 new_length names w m h = let e : length (names ++ w ∷ []) ≡ length names + 1 = length-append names (w ∷ []) in omega arith
 
@@ -74,9 +69,6 @@ role_pushed false false m w at r e f k h = record {
 keep_new_role : (m : Mode) (o : Option (List ℕ)) (at : ℕ) (r : Reader_data) → ((w : List ℕ) → o ≡ Some w → is_role_word w ≡ true) → Keeps r → IfOk (new_role m o at r) Keeps
 keep_new_role m None at r k h = tt
 keep_new_role m (Some w) at r k h = role_pushed (is_among w r.roles) (nat_le 16 (length r.roles)) m w at r refl refl (k w refl) h
-
-some_is : (x y : List ℕ) → Some x ≡ Some y → x ≡ y
-some_is x y h = cc
 
 plain_named : (t : Sign) → IsNamed t → (w : List ℕ) → plain_text t ≡ Some w → is_role_word w ≡ true
 plain_named (plain x) n w h = n w (ap plain (some_is x w h))

@@ -23,18 +23,7 @@ use Rattle.rs_global.proofs.FaultPlaces.{scene_of}
 use Rattle.rs_global.proofs.SpeltSteps.{target, arm_to, arms_to, draft, drafts_of, drafts_in, with_all, mid_arm, linked_length, Stays, stays_before, numbered, arm_exact}
 use Rattle.rs_text.specs.Readings.{fault}
 use Rattle.rs_text.proofs.Leading.{sign_behind, Tells, Exact, Hangs, hangs_both, tells_if, full, roomy, fits_in}
-
-or_false : (a : Bool) → a ≡ (a || false)
-or_false true = refl
-or_false false = refl
-
-or_true : (a : Bool) → true ≡ (a || true)
-or_true true = refl
-or_true false = refl
-
-or_assoc : (a b c : Bool) → ((a || b) || c) ≡ (a || (b || c))
-or_assoc true b c = refl
-or_assoc false b c = refl
+use Rattle.rs_text.proofs.Basics.{or_true, or_false, or_assoc}
 
 -- as many talks as the tree has
 mutual

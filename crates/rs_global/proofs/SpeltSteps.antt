@@ -1,5 +1,5 @@
 -- What the tokens of a body lead the reader to: where the body fits to this state and no other, else to a fault.
-use Rattle.std.proofs.Common.{◌≡◌, ℕ, suc, ◌+◌, List, [], ◌∷◌, ◌++◌, length, true, ◌||◌, if◌then◌else◌, nat_le, nat_lt, Option, Some, None, Ok, refl, sym, ap, ◌∙◌, subst, arith, length-append, slice_get}
+use Rattle.std.proofs.Common.{◌≡◌, ℕ, suc, ◌+◌, List, [], ◌∷◌, ◌++◌, length, true, ◌||◌, nat_le, nat_lt, Option, Some, None, Ok, refl, sym, ap, ◌∙◌, subst, arith, length-append, slice_get}
 use Rattle.std.proofs.lemmas.List.{length-set}
 use Rattle.std.proofs.lemmas.Option.{slice_get_read}
 use Rattle.std.proofs.Math.Seq.{get_or-append_seam, set-append_seam}
@@ -10,7 +10,7 @@ use Rattle.rs_model.specs.declared.values.Sort.TheVariants as sort
 use Rattle.rs_text.specs.declared.faults.TextKind.TheVariants as kind
 use Rattle.rs_text.specs.Names.{place_of, grown, Bound, bound_to, number_or}
 use Rattle.rs_text.specs.Signs.{Sign, dot, open_paren, close_paren}
-use Rattle.rs_text.proofs.Naming.{among, not_among, grown_stays, place_of_new}
+use Rattle.rs_text.proofs.Naming.{among, not_among, grown_stays, place_of_new, grown_new, grown_old}
 use Rattle.rs_text.specs.Arms.{sort_signs, arm_signs, sort_or_unit}
 use Rattle.rs_global.specs.declared.reading.Link.{Link}
 use Rattle.rs_global.specs.declared.reading.Link.TheVariants as link
@@ -104,12 +104,6 @@ sort_exact (Some sort.Natural) node label r ts u N Q h = λ a f n. λ a f n. λ 
 sort_exact (Some sort.Whole) node label r ts u N Q h = λ a f n. λ a f n. λ a f n. λ a f n. h
 sort_exact (Some sort.Octets) node label r ts u N Q h = λ a f n. λ a f n. λ a f n. λ a f n. h
 sort_exact (Some sort.Numbers) node label r ts u N Q h = λ a f n. λ a f n. λ a f n. λ a f n. h
-
-pub grown_old : (names : List (List ℕ)) (l : List ℕ) (k : ℕ) → place_of l names ≡ Some k → grown names (l ∷ []) ≡ names
-grown_old names l k e = ap (λ z. if z then names else names ++ l ∷ []) (among names l 0 k e)
-
-pub grown_new : (names : List (List ℕ)) (l : List ℕ) → place_of l names ≡ None → grown names (l ∷ []) ≡ names ++ l ∷ []
-grown_new names l e = ap (λ z. if z then names else names ++ l ∷ []) (not_among names l 0 e)
 
 labelled_exact : (found : Option ℕ) (l : List ℕ) (node at : ℕ) (r : Reader_data) (N : Type 0) (Q : Reader_data → Type 0) → place_of l r.labels ≡ found → Hangs (has_room_for l (scene_of r)) N ((k : ℕ) → place_of l (grown r.labels (l ∷ [])) ≡ Some k → Q (record r { labels = grown r.labels (l ∷ []); mode = mode.Paren node (label_of_number k) }))
     → Tells (labelled_by found node l at (record r { mode = mode.AtLabel node })) N Q

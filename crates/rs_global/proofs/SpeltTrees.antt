@@ -10,7 +10,7 @@ use Rattle.rs_text.specs.Names.{is_among, grown, Bound}
 use Rattle.rs_text.specs.Sound.{differ}
 use Rattle.rs_text.specs.Signs.{Sign, plain, comma}
 use Rattle.rs_text.proofs.Gaps.{true_or_false}
-use Rattle.rs_text.proofs.Naming.{grown_differ}
+use Rattle.rs_text.proofs.Naming.{new_differ}
 use Rattle.rs_global.specs.declared.reading.Link.TheVariants as link
 use Rattle.rs_global.specs.declared.reading.Mode.{Mode}
 use Rattle.rs_global.specs.declared.reading.Mode.TheVariants as mode
@@ -86,9 +86,6 @@ twice (n ∷ names) x xs h = elim (true_or_false (bytes_eq n x)) [
   | inl e ↦ ap (λ z. if z then false else differ (names ++ x ∷ xs)) (subst (λ (z : List ℕ). is_among z (names ++ x ∷ xs) ≡ true) (sym ((bytes_eq-Decides n x).0 e)) (any_in names x xs))
   | inr e ↦ if_false (is_among n (names ++ x ∷ xs)) (differ (names ++ x ∷ xs)) (twice names x xs (sym (ap (λ z. z || is_among x names) e) ∙ h))
 ]
-
-new_differ : (names : List (List ℕ)) (w : List ℕ) → is_among w names ≡ false → differ names ≡ true → differ (names ++ w ∷ []) ≡ true
-new_differ names w e h = rw e at (grown_differ (w ∷ []) names h)
 
 too_many : (names : List (List ℕ)) (x : List ℕ) (xs : List (List ℕ)) → nat_le 16 (length names) ≡ true → 16 < length (names ++ x ∷ xs)
 too_many names x xs h = let e : length (names ++ x ∷ xs) ≡ length names + length (x ∷ xs) = length-append names (x ∷ xs) in let k : 16 ≤ length names = leb-true 16 (length names) h in omega arith

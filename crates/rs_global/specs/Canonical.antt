@@ -1,15 +1,15 @@
--- The canonical text of a protocol, and which protocols have one.
-use Rattle.std.specs.Prelude.{◌≡◌, ℕ, ◌<◌, ◌≤◌, ◌+◌, List, [], ◌∷◌, ◌++◌, codes, take, Option, Some, None, slice_get}
+-- Believed: the canonical text of a protocol, and which protocols have one.
+use Rattle.std.specs.Prelude.{◌≡◌, ℕ, ◌<◌, ◌≤◌, ◌+◌, List, [], ◌∷◌, ◌++◌, codes, take, Option, Some, slice_get}
 use Rattle.std.specs.Fmt.{decimal}
 use Rattle.rs_model.specs.Data.{Protocol_data, Names_data}
 use Rattle.rs_model.specs.declared.graph.Arm.{Arm}
 use Rattle.rs_model.specs.declared.graph.Node.TheVariants.{Finished, Talk}
 use Rattle.rs_model.specs.declared.graph.Role.{Role}
 use Rattle.rs_model.specs.declared.values.Sort.{Sort}
-use Rattle.rs_model.specs.declared.values.Sort.TheVariants as sort
 use Rattle.rs_global.specs.Trees.{Body, ends, again, binds, talks, offers, Branches, one, more, ProtocolTree, roles_of}
 use Rattle.rs_global.specs.Texts.{protocol_text}
 use Rattle.rs_global.specs.Spells.{SpellsProtocol}
+use Rattle.rs_text.specs.Arms.{shown_sort}
 
 -- some text reads to the protocol
 pub record IsTextShaped (protocol : Protocol_data) : Type 0 where
@@ -22,11 +22,6 @@ pub record IsTextShaped (protocol : Protocol_data) : Type 0 where
 -- the recursion name of node n: X and the number
 abbrev pub name_of_node : ℕ → List ℕ
 name_of_node n = codes "X" ++ decimal n
-
--- the unit isn't written
-abbrev pub shown_sort : Sort → Option Sort
-shown_sort sort.Unit = None
-shown_sort s = Some s
 
 -- an arm of node n or a later one leads to n
 pub record IsGoneBackTo (protocol : Protocol_data) (n : ℕ) : Type 0 where

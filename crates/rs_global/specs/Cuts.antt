@@ -1,4 +1,4 @@
--- The places of the grammar, and what is wanted there.
+-- Believed: the places of the grammar, and what is wanted there.
 use Rattle.std.specs.Prelude.{ℕ, List, [], ◌∷◌, ◌++◌, codes, Option}
 use Rattle.std.specs.List.{flat_map}
 use Rattle.rs_model.specs.declared.values.Sort.{Sort}

@@ -1,4 +1,4 @@
--- Talks that are still read, and the graph that is made of them.
+-- Steps: talks that are still read, and the graph that is made of them.
 use Rattle.std.specs.Prelude.{ℕ, List, [], ◌∷◌, ◌++◌, length, map, Option, Some, None, slice_set}
 use Rattle.rs_model.specs.Data.{Protocol_data, Names_data}
 use Rattle.rs_model.specs.declared.graph.Arm.{Arm}

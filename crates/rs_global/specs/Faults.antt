@@ -1,4 +1,4 @@
--- The first fault of a text.
+-- Believed: the first fault of a text.
 use Rattle.std.specs.Prelude.{◌≡◌, ℕ, ◌⊎◌, List, [], ◌∷◌, ◌++◌, Some}
 use Rattle.rs_text.specs.declared.tokens.FaultKind.{FaultKind}
 use Rattle.rs_text.specs.declared.faults.Wanted.{Wanted}
@@ -8,8 +8,8 @@ use Rattle.rs_text.specs.Faults.{kind_of}
 use Rattle.rs_text.specs.Signs.{Sign, broken}
 use Rattle.rs_global.specs.Trees.{ProtocolTree, protocol_signs}
 use Rattle.rs_global.specs.Cuts.{Cut, behind_end, behind_name, in_binds, in_talks, behind_brace, ProtocolCut, in_body, IsBehind, protocol_cut_signs, wanted_of}
-use Rattle.rs_global.specs.Scenes.{fault_of}
 use Rattle.rs_text.specs.FirstFaults.{IsWhole, FirstFaultBy}
+use Rattle.rs_global.specs.Misplaced.{fault_of}
 
 -- the tokens begin a protocol
 abbrev pub Begins : List Sign → Type 0

@@ -1,6 +1,5 @@
--- The reader, token by token.
+-- Steps: the reader, token by token.
 use Rattle.std.specs.Prelude.{◌≡◌, ℕ, suc, ◌-◌, List, [], ◌∷◌, ◌++◌, codes, length, drop, slice_get, Option, Some, None, Result, Ok, Err, Bool, true, false, if◌then◌else◌, nat_lt, nat_le}
-use Rattle.std.specs.Str.{bytes_eq}
 use Rattle.rs_model.specs.declared.graph.Role.{Role}
 use Rattle.rs_model.specs.declared.graph.Label.{Label}
 use Rattle.rs_model.specs.declared.values.Sort.{Sort}
@@ -11,7 +10,7 @@ use Rattle.rs_text.specs.declared.faults.Wanted.TheVariants as wanted
 use Rattle.rs_text.specs.Faults.{kind_of}
 use Rattle.rs_model.specs.Data.{Names_data, Protocol_data}
 use Rattle.rs_text.specs.Lexemes.{Lexeme, Lexed}
-use Rattle.rs_text.specs.Names.{place_of, is_among, Bound, bound_to}
+use Rattle.rs_text.specs.Names.{place_of, is_among, bound_to}
 use Rattle.rs_text.specs.Seen.{plain_text, word_text, is_text, sort_named}
 use Rattle.rs_text.specs.Signs.{Sign, rec_word, end_word, plain, arrow, colon, dot, comma, open_brace, close_brace, open_paren, close_paren, broken}
 use Rattle.rs_global.specs.declared.reading.Frame.{Frame}
@@ -230,8 +229,3 @@ ReadsAs bytes at answer = (lexemes : List Lexeme) → Lexed bytes at lexemes →
 -- what the tokens lead the reader to
 abbrev pub Reads : List ℕ → ℕ → Result (Reading Reader_data) TextFault → Type 0
 Reads bytes at reading = ReadsBy feeding begin bytes at reading
-
--- the last number that a name is bound to, by bindings in order
-abbrev pub last_bound : List ℕ → Bound → Option ℕ → Option ℕ
-last_bound name [] found = found
-last_bound name (b ∷ bs) found = last_bound name bs (if bytes_eq b.0 name then Some b.1 else found)

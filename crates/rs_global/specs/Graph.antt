@@ -1,4 +1,4 @@
--- The names and the graph that a tree spells.
+-- Believed: the names and the graph that a tree spells.
 use Rattle.std.specs.Prelude.{ℕ, suc, ◌+◌, List, [], ◌∷◌, ◌++◌, length, Option, Bool, true, false, ◌||◌}
 use Rattle.rs_model.specs.Data.{Protocol_data, Names_data}
 use Rattle.rs_model.specs.declared.graph.Arm.{Arm}

@@ -3,6 +3,7 @@ pub mod Trees
 pub mod Graph
 pub mod Cuts
 pub mod Scenes
+pub mod Misplaced
 pub mod Spells
 pub mod Faults
 pub mod Drafts

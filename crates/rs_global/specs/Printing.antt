@@ -1,4 +1,4 @@
--- How the canonical text is written, step by step: braces that are open are kept on a stack.
+-- Steps: how the canonical text is written, step by step: braces that are open are kept on a stack.
 use Rattle.std.specs.Prelude.{◌≡◌, ℕ, ◌+◌, List, [], ◌∷◌, ◌++◌, codes, length, Option, Some, None, Bool, true, false, get_or, slice_get, slice_set, nat_lt, nat_le, ◌&&◌, ◌||◌, is_some, if◌then◌else◌, ◌↔◌}
 use Rattle.std.specs.List.{flat_map}
 use Rattle.rs_model.specs.Data.{Protocol_data, Names_data}
@@ -7,8 +7,9 @@ use Rattle.rs_model.specs.declared.graph.Node.{Node}
 use Rattle.rs_model.specs.declared.graph.Node.TheVariants.{Finished, Talk}
 use Rattle.rs_model.specs.declared.graph.Role.{Role}
 use Rattle.rs_global.specs.declared.printing.Target.{Target}
-use Rattle.rs_global.specs.Canonical.{name_of_node, shown_sort, IsGoneBackTo}
-use Rattle.rs_global.specs.Texts.{arm_text}
+use Rattle.rs_global.specs.Canonical.{name_of_node, IsGoneBackTo}
+use Rattle.rs_text.specs.Arms.{shown_sort, arm_text}
+use Rattle.rs_text.specs.Names.{name_at}
 
 -- ---- which talks are gone back to
 
@@ -32,25 +33,17 @@ AreBack protocol flags = (n : ℕ) → (get_or flags n false ≡ true) ↔ IsGon
 
 -- ---- pieces of text
 
-abbrev pub name_or_none : Option (List ℕ) → List ℕ
-name_or_none None = []
-name_or_none (Some name) = name
-
--- the name with a number
-abbrev pub named : List (List ℕ) → ℕ → List ℕ
-named names n = name_or_none (slice_get names n)
-
 -- further names, each behind a comma
 abbrev pub others_text : List (List ℕ) → List ℕ
 others_text names = flat_map (λ name. codes ", " ++ name) names
 
 -- `s->r`
 abbrev pub pair_text : Names_data → Role → Role → List ℕ
-pair_text names sender receiver = named names.roles sender.0 ++ (codes "->" ++ named names.roles receiver.0)
+pair_text names sender receiver = name_at names.roles sender.0 ++ (codes "->" ++ name_at names.roles receiver.0)
 
 -- `label(sort). `
 abbrev pub head_text : Names_data → Arm → List ℕ
-head_text names arm = arm_text (named names.labels arm.label.0) (shown_sort arm.sort)
+head_text names arm = arm_text (name_at names.labels arm.label.0) (shown_sort arm.sort)
 
 -- `rec Xn. `
 abbrev pub rec_text : Bool → ℕ → List ℕ

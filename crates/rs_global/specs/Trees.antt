@@ -1,4 +1,4 @@
--- How texts of the protocol grammar are built.
+-- Believed: how texts of the protocol grammar are built.
 use Rattle.std.specs.Prelude.{ℕ, List, [], ◌∷◌, ◌++◌, codes, Option, Bool, true, false}
 use Rattle.std.specs.List.{flat_map}
 use Rattle.rs_model.specs.declared.values.Sort.{Sort}

@@ -1,11 +1,14 @@
 ghost use Rattle.std.specs.Prelude.{◌≡◌, ◌<◌, ◌^◌, ◌+◌, ◌++◌, ◌∷◌, [], List, ℕ, false, get_or, length, replicate, reverse, slice_get, IfNone, IfOk, IfSome, None, OnOk};
 ghost use Rattle.std.specs.Fmt.{decimal};
 ghost use Rattle.rs_text.specs.Sound.{IsSound};
-ghost use Rattle.rs_global.specs.Canonical.{IsCanonicalText, IsTextShaped, Draws, name_of_node, shown_sort};
+ghost use Rattle.rs_global.specs.Canonical.{IsCanonicalText, IsTextShaped, Draws, name_of_node};
+ghost use Rattle.rs_text.specs.Arms.{shown_sort};
 ghost use Rattle.rs_global.specs.Enough.{AreEnough};
 ghost use Rattle.rs_global.specs.Printing as spec;
-ghost use Rattle.rs_global.specs.Printing.{AreBack, Step, marked, marked_all, named, pair_text, head_text, rec_text, node_step, talk_step, whole_step, arms_step, brace_step};
-ghost use Rattle.rs_global.specs.Texts.{body_text, names_text, shown_text};
+ghost use Rattle.rs_global.specs.Printing.{AreBack, Step, marked, marked_all, pair_text, head_text, rec_text, node_step, talk_step, whole_step, arms_step, brace_step};
+ghost use Rattle.rs_text.specs.Names.{name_at};
+ghost use Rattle.rs_global.specs.Texts.{body_text, names_text};
+ghost use Rattle.rs_text.specs.Arms.{shown_text};
 ghost use Rattle.rs_global.specs.Trees.{Body};
 
 use rs_model::{Arm, Name, Names, NoMemory, Node, Protocol, Role, Sort};
@@ -77,7 +80,7 @@ fn is_back(flags: &[bool], node: usize) -> bool
 
 /// The name with this number.
 fn name(names: &[Name], number: usize) -> &[u8]
-    ensures { result.now ≡ named names.now number }
+    ensures { result.now ≡ name_at names.now number }
 {
     match names.get(number) {
         Some(name) => name.as_slice(),

@@ -1,39 +1,19 @@
 ghost use Rattle.std.specs.Prelude.{◌≡◌, ◌≤◌, ◌<◌, ◌+◌, ◌++◌, ◌∷◌, [], length, OnOk, OnErr, IfOk, IfErr, Some, None, Option, Ok, Err, true, false, drop, reverse, codes, suc, nat_le, if◌then◌else◌};
 ghost use Rattle.std.specs.Option.{option_map};
 ghost use Rattle.rs_text.specs.Lexemes.{sign_of, text_of, next_lexeme, lexeme_of};
-ghost use Rattle.rs_text.specs.Names.{is_among, bound_to};
+ghost use Rattle.rs_text.specs.Names.{is_among};
 ghost use Rattle.rs_text.specs.Seen.{plain_text, word_text, is_text};
 ghost use Rattle.rs_global.specs.Feeding as spec;
 ghost use Rattle.rs_text.specs.Readings.{Fails};
 
 use crate::drafts::{Draft, DraftArm, add_arm};
-use rs_model::{Label, Name, Role, Sort};
-use rs_text::{Kind, Lexer, Stop, TextKind, Token, Wanted, expected, fault, find, seen};
+use rs_model::{Label, MOST_LABELS, MOST_NESTING, MOST_ROLES, MOST_TALKS, Name, Role, Sort};
+use rs_text::{
+    Binding, Kind, Lexer, Stop, TextKind, Token, Wanted, bound_number, expected, fault, find, seen,
+    unbind,
+};
 use std::alloc::Global;
 use std::marker::Model;
-
-const DEEPEST: u32 = 200;
-
-const MOST_ROLES: usize = 16;
-
-const MOST_TALKS: usize = 1024;
-
-const MOST_LABELS: usize = 256;
-
-/// A recursion name, and the number of the first talk of its body.
-#[derive(Drop, Debug)]
-pub(crate) struct Binding<'a> {
-    pub name: &'a [u8],
-    pub talk: u32,
-}
-
-impl<'a> Model for Binding<'a> {
-    ghost use Rattle.std.specs.Prelude.{ℕ, List};
-
-    ghost Value = { List ℕ × ℕ };
-
-    ghost view = { λ b. (b.name.now, b.talk) };
-}
 
 /// An open brace: its talk, the count of names bound round it, and the nesting within it.
 #[derive(Clone, Copy, Debug, PartialEq, Eq)]
@@ -102,20 +82,6 @@ impl<'a> Model for Reader<'a> {
     ghost view = { λ r. record { roles = r.roles.items; labels = r.labels.items; drafts = r.drafts.items; root = r.root; ended = r.ended; bound = reverse r.bound.items; depth = r.depth; frames = reverse r.frames.items; mode = r.mode } };
 
     ghost invariant = { λ r. (length r.roles.items ≤ 16) × ((length r.labels.items ≤ 256) × (length r.drafts.items ≤ 1024)) };
-}
-
-/// The number of the talk that the name is bound to, by the nearest `rec`.
-#[tactic(auto, using(crate::proofs::Bindings::nearest))]
-fn found(bound: &[Binding], name: &[u8]) -> Option<u32>
-    ensures { result ≡ bound_to name.now (reverse bound.now) }
-{
-    let mut talk = None;
-    for binding in bound {
-        if binding.name == name {
-            talk = Some(binding.talk);
-        }
-    }
-    talk
 }
 
 impl<'a> Reader<'a> {
@@ -282,7 +248,7 @@ impl<'a> Reader<'a> {
             return expected(Wanted::Name, token.from);
         };
         let talk = self.drafts.len() as u32;
-        self.bound.push(Binding { name, talk })?;
+        self.bound.push(Binding { name, number: talk })?;
         self.mode = Mode::RecDot { from };
         Ok(())
     }
@@ -371,7 +337,7 @@ impl<'a> Reader<'a> {
         ensures ok { OnOk result (spec.feed_brace node at self.old ≡ Ok self.new) }
         ensures err { IfErr result (λ e. Fails e (spec.feed_brace node at self.old)) }
     {
-        if self.depth >= DEEPEST {
+        if self.depth as usize >= MOST_NESTING {
             return fault(TextKind::TooDeep, at);
         }
         let depth = self.depth + 1;
@@ -508,11 +474,10 @@ impl<'a> Reader<'a> {
     }
 
     /// Names and nesting are again as they were where the brace was opened.
-    #[tactic(auto, using(crate::proofs::Bindings::cut_short))]
     fn restore(&mut self, frame: Frame)
         ensures { self.new ≡ spec.restored frame self.old }
     {
-        self.bound.truncate(frame.bound);
+        unbind(&mut self.bound, frame.bound);
         self.depth = frame.depth;
     }
 
@@ -564,7 +529,7 @@ impl<'a> Reader<'a> {
         ensures ok { OnOk result (spec.feed_rec from at self.old ≡ Ok self.new) }
         ensures err { IfErr result (λ e. Fails e (spec.feed_rec from at self.old)) }
     {
-        if self.depth >= DEEPEST {
+        if self.depth as usize >= MOST_NESTING {
             return fault(TextKind::TooDeep, at);
         }
         self.depth += 1;
@@ -594,7 +559,7 @@ impl<'a> Reader<'a> {
                 self.sent_by(from, sender, token.from)
             }
             _ => {
-                let talk = found(self.bound.as_slice(), word);
+                let talk = bound_number(self.bound.as_slice(), word);
                 self.named(from, talk, token.from)
             }
         }

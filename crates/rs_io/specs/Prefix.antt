@@ -1,4 +1,4 @@
--- Bytes that were written in part.
+-- Believed: bytes that were written in part.
 use Rattle.std.specs.Prelude.{ℕ, ◌≤◌, List, length, take, Option}
 use Rattle.std.specs.Io.KnownBytes.{Appends}
 

@@ -1,4 +1,7 @@
-ghost use Rattle.std.specs.Prelude.{◌≡◌, None, Some};
+ghost use Rattle.std.specs.Prelude.{◌≡◌, ◌<◌, ◌≤◌, min, length, None, Some, Ok, IfOk, OnErr};
+ghost use Rattle.std.specs.Io.{ReadsAtMost, WritesAtMost};
+ghost use Rattle.std.specs.Io.KnownBytes.{ReadConsumes, WriteAppends};
+ghost use Rattle.rs_io.specs.Faults.{Rose, Counts};
 
 use crate::stock::Stock;
 use crate::{Failed, Sink, Source};
@@ -38,7 +41,13 @@ impl Source for NeverSource {
     ghost last = { λ _. ⊥ };
 
     /// Gives as many bytes as are left and `into` holds.
-    fn read(&mut self, into: &mut [u8]) -> Result<usize, Failed> {
+    fn read(&mut self, into: &mut [u8]) -> Result<usize, Failed>
+        ensures bound { ReadsAtMost result into.new }
+        ensures bytes { ReadConsumes (Some self.old) (Some self.new) result into.new }
+        ensures count { Counts 0 0 ⊥ ⊥ }
+        ensures cause { OnErr result (Rose 0 0 ⊥) }
+        ensures gives { result ≡ Ok (min (length self.old) (length into.old)) }
+    {
         Ok(self.stock.give(into.len(), into))
     }
 }
@@ -61,7 +70,14 @@ impl Sink for NeverSink {
     ghost last = { λ _. ⊥ };
 
     /// Takes all bytes.
-    fn write(&mut self, bytes: &[u8]) -> Result<usize, Failed> {
+    fn write(&mut self, bytes: &[u8]) -> Result<usize, Failed>
+        ensures bound { WritesAtMost result bytes.now }
+        ensures progress { IfOk result (λ n. 0 < length bytes.now → 1 ≤ n) }
+        ensures bytes { WriteAppends None None result bytes.now }
+        ensures count { Counts 0 0 ⊥ ⊥ }
+        ensures cause { OnErr result (Rose 0 0 ⊥) }
+        ensures takes { result ≡ Ok (length bytes.now) }
+    {
         Ok(bytes.len())
     }
 }

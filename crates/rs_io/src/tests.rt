@@ -166,6 +166,57 @@ impl Write for Broken {
     }
 }
 
+// A reader and writer whose first call is interrupted, and whose later calls are fine.
+#[derive(Drop)]
+struct InterruptedOnce {
+    calls: u32,
+}
+
+impl InterruptedOnce {
+    fn call(&mut self) -> io::Result<()> {
+        self.calls = self.calls.saturating_add(1);
+        if self.calls == 1 {
+            return Err(io::Error::from(ErrorKind::Interrupted));
+        }
+        Ok(())
+    }
+}
+
+impl Read for InterruptedOnce {
+    fn read(&mut self, _into: &mut [u8]) -> io::Result<usize> {
+        self.call()?;
+        Ok(0)
+    }
+}
+
+impl Write for InterruptedOnce {
+    fn write(&mut self, bytes: &[u8]) -> io::Result<usize> {
+        self.call()?;
+        Ok(bytes.len())
+    }
+
+    fn flush(&mut self) -> io::Result<()> {
+        self.call()
+    }
+}
+
+#[test]
+fn a_call_that_failed_is_not_tried_again(rt: HostRuntime) -> Result<(), Fail> {
+    let mut source = StdSource::new(InterruptedOnce { calls: 0 });
+    let mut into = [0u8; 2];
+    assert_eq!(rt; source.read(&mut into), Err(Failed));
+    assert_eq!(rt; source.read(&mut into), Ok(0));
+
+    let mut sink = StdSink::new(InterruptedOnce { calls: 0 });
+    assert_eq!(rt; sink.write(b"abc"), Err(Failed));
+    assert_eq!(rt; sink.write(b"abc"), Ok(3));
+
+    let mut sink = StdSink::new(InterruptedOnce { calls: 0 });
+    assert_eq!(rt; sink.flush(), Err(Failed));
+    assert_eq!(rt; sink.flush(), Ok(()));
+    Ok(())
+}
+
 #[test]
 fn a_reader_of_std_is_a_source(rt: HostRuntime) -> Result<(), Fail> {
     let alloc = rt.alloc();

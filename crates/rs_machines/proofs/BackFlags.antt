@@ -13,6 +13,7 @@ use Rattle.rs_machines.specs.Machines.{state_of}
 use Rattle.rs_model.specs.declared.graph.Role.{Role}
 use Rattle.rs_machines.specs.Canonical.{IsGoneBackTo}
 use Rattle.rs_machines.specs.Printing.{marked, marked_state, marked_all, AreBack}
+use Rattle.rs_text.proofs.Basics.{some_is}
 
 abbrev one_marked : ℕ → Arm → List Bool → List Bool
 one_marked state a flags = if nat_le a.next state && nat_lt a.next (length flags) then slice_set flags a.next true else flags
@@ -113,13 +114,10 @@ arms_keep : (arms : List Arm) (state : ℕ) (flags : List Bool) (n : ℕ) → ge
 arms_keep [] state flags n h = h
 arms_keep (a ∷ arms) state flags n h = arms_keep arms state (one_marked state a flags) n (one_keeps state a flags n h)
 
-same_arm : (x y : Arm) → Some x ≡ Some y → x ≡ y
-same_arm x y h = cc
-
 arms_mark : (arms : List Arm) (place state : ℕ) (flags : List Bool) (a : Arm) → slice_get arms place ≡ Some a → a.next ≤ state → a.next < length flags → get_or (marked state arms flags) a.next false ≡ true
 arms_mark [] place state flags a h later within = absurd (cc h)
 arms_mark (b ∷ arms) zero state flags a h later within =
-    arms_keep arms state (one_marked state b flags) a.next (subst (λ (x : Arm). get_or (one_marked state b flags) x.next false ≡ true) (same_arm b a h) (one_marks state b flags (rw (same_arm b a h) later) (rw (same_arm b a h) within)))
+    arms_keep arms state (one_marked state b flags) a.next (subst (λ (x : Arm). get_or (one_marked state b flags) x.next false ≡ true) (some_is b a h) (one_marks state b flags (rw (some_is b a h) later) (rw (some_is b a h) within)))
 arms_mark (b ∷ arms) (suc place) state flags a h later within = arms_mark arms place state (one_marked state b flags) a h later (rw (one_length state b flags) within)
 
 state_length : (state : State) (n : ℕ) (flags : List Bool) → length (marked_state n state flags) ≡ length flags
@@ -140,13 +138,10 @@ all_keep : (states : List State) (k : ℕ) (flags : List Bool) (n : ℕ) → get
 all_keep [] k flags n h = h
 all_keep (state ∷ states) k flags n h = all_keep states (k + 1) (marked_state k state flags) n (state_keeps state k flags n h)
 
-same_state : (x y : State) → Some x ≡ Some y → x ≡ y
-same_state x y h = cc
-
 all_mark : (states : List State) (i k : ℕ) (flags : List Bool) (s : Role) (r : Mark) (arms : List Arm) (place : ℕ) (a : Arm) → slice_get states i ≡ Some (state_of r s arms) → slice_get arms place ≡ Some a → a.next ≤ k + i → a.next < length flags → get_or (marked_all k states flags) a.next false ≡ true
 all_mark [] i k flags s r arms place a h stands later within = absurd (cc h)
 all_mark (state ∷ states) zero k flags s r arms place a h stands later within =
-    all_keep states (k + 1) (marked_state k state flags) a.next (rw (same_state state (state_of r s arms) h, marked_as k r s arms flags) (arms_mark arms place k flags a stands (omega arith) within))
+    all_keep states (k + 1) (marked_state k state flags) a.next (rw (some_is state (state_of r s arms) h, marked_as k r s arms flags) (arms_mark arms place k flags a stands (omega arith) within))
 all_mark (state ∷ states) (suc i) k flags s r arms place a h stands later within =
     all_mark states i (k + 1) (marked_state k state flags) s r arms place a h stands (omega arith) (rw (state_length state k flags) within)
 

@@ -1,5 +1,5 @@
 -- The canonical text of a machine nests no deeper than a text that spells it.
-use Rattle.std.proofs.Common.{◌≡◌, ◌≢◌, ℕ, zero, suc, ◌+◌, ◌<◌, ◌≤◌, List, [], ◌∷◌, ◌++◌, length, Bool, true, false, ◌==◌, ◌&&◌, ◌||◌, if◌then◌else◌, nat_lt, Option, Some, None, inl, inr, refl, sym, ap, ◌∙◌, subst, arith, slice_get}
+use Rattle.std.proofs.Common.{◌≡◌, ◌≢◌, ℕ, zero, suc, ◌+◌, ◌<◌, ◌≤◌, List, [], ◌∷◌, ◌++◌, length, Bool, true, false, ◌==◌, ◌&&◌, if◌then◌else◌, nat_lt, Option, Some, None, inl, inr, refl, sym, ap, ◌∙◌, subst, arith, slice_get}
 use Rattle.std.specs.Str.{bytes_eq}
 use Rattle.std.proofs.lemmas.Bool.{ltb-true, lt-ltb, eq-eqb, le-ltb}
 use Rattle.std.proofs.lemmas.Bool.Decides.{eqb_tells}
@@ -19,9 +19,10 @@ use Rattle.rs_machines.specs.Scenes.{Scene, with_label, in_act, in_braces, in_re
 use Rattle.rs_machines.specs.Spells.{is_guarded, has_room_for, body_fits, arms_fit}
 use Rattle.rs_machines.specs.Canonical.{name_of_state, IsGoneBackTo}
 use Rattle.rs_machines.specs.Shapes.{deeper}
-use Rattle.rs_machines.proofs.CanonForms.{goes_back, Writing, role_as, label_as, sort_as, wrapped, offered, canon, canon_arms, Named, NamedArms, Low, low_rec, low_up, both, HasRole, HasLabel, HasNames, HasNamesArms}
+use Rattle.rs_machines.proofs.CanonForms.{goes_back, Writing, role_as, label_as, sort_as, wrapped, offered, canon, canon_arms, Named, NamedArms, Low, low_rec, low_up, HasRole, HasLabel, HasNames, HasNamesArms}
 use Rattle.rs_machines.proofs.CanonSame.{Leads, Fine, FineArms, Inv, InvAll, inv_rec, inv_act, inv_all, opened_for, canon_acts, wrapped_labels, offered_labels}
 use Rattle.rs_machines.proofs.Existence.{states_length}
+use Rattle.rs_text.proofs.Basics.{some_is, two_true, both, or_first}
 
 -- ---- a rec stands right in front of each act that is gone back to
 
@@ -112,17 +113,11 @@ backs_append : (good : ℕ → Bool) (xs ys : List State) (n j : ℕ) → n + le
 backs_append good [] ys n j e h k = let same : j ≡ n = omega arith in subst (λ (z : ℕ). Backs good z ys) same k
 backs_append good (x ∷ xs) ys n j e h k = (h.0, backs_append good xs ys (suc n) j (omega arith) h.1 k)
 
-state_some : (x y : State) → Some x ≡ Some y → x ≡ y
-state_some x y h = cc
-
-arm_some : (x y : Arm) → Some x ≡ Some y → x ≡ y
-arm_some x y h = cc
-
 backs_at : (good : ℕ → Bool) (states : List State) (n i : ℕ) (state : State) → Backs good n states → slice_get states i ≡ Some state → StateGood good (n + i) state
 backs_at good [] n i state h e = absurd (cc e)
 backs_at good (x ∷ states) n zero state h e =
     let same : n ≡ n + 0 = omega arith in
-    subst (λ (z : ℕ). StateGood good z state) same (subst (λ (z : State). StateGood good n z) (state_some x state e) h.0)
+    subst (λ (z : ℕ). StateGood good z state) same (subst (λ (z : State). StateGood good n z) (some_is x state e) h.0)
 backs_at good (x ∷ states) n (suc i) state h e =
     let same : suc n + i ≡ n + suc i = omega arith in
     subst (λ (z : ℕ). StateGood good z state) same (backs_at good states (suc n) i state h.1 e)
@@ -131,15 +126,12 @@ backs_at good (x ∷ states) n (suc i) state h e =
 abbrev NamesGood : (ℕ → Bool) → Bound → ℕ → Type 0
 NamesGood good bound n = (x : List ℕ) (v : ℕ) → bound_to x bound ≡ Some v → v ≤ n → good v ≡ true
 
-number_some : (x y : ℕ) → Some x ≡ Some y → x ≡ y
-number_some x y h = cc
-
 later_name : {P : Type 0} (c : Bool) (j v n : ℕ) (found : Option ℕ) → (if c then Some j else found) ≡ Some v → n < j → v ≤ n → (found ≡ Some v → P) → P
-later_name true j v n found e lt le f = let same : j ≡ v = number_some j v e in absurd (omega arith)
+later_name true j v n found e lt le f = let same : j ≡ v = some_is j v e in absurd (omega arith)
 later_name false j v n found e lt le f = f e
 
 same_name : {P : Type 0} (c : Bool) (j v : ℕ) (found : Option ℕ) → (if c then Some j else found) ≡ Some v → (j ≡ v → P) → (found ≡ Some v → P) → P
-same_name true j v found e f g = f (number_some j v e)
+same_name true j v found e f g = f (some_is j v e)
 same_name false j v found e f g = g e
 
 name_good : (good : ℕ → Bool) (x : List ℕ) (bound : Bound) (n j : ℕ) (found : Option ℕ) → bound_to x bound ≡ found → is_guarded found j ≡ true → NamesGood good bound n → number_or found ≤ n → good (number_or found) ≡ true
@@ -154,11 +146,11 @@ lead_good good (acts s r l sort b) bound n j last named names lt end le = absurd
 lead_good good (offers s r arms) bound n j last named names lt end le = absurd (omega arith)
 
 one_good : (good : ℕ → Bool) (n : ℕ) (a : Arm) → (a.next ≤ n → good a.next ≡ true) → BackGood good n (a ∷ [])
-one_good good n a f zero arm e le = let same : a ≡ arm = arm_some a arm e in subst (λ (z : Arm). good z.next ≡ true) same (f (subst (λ (z : Arm). z.next ≤ n) (sym same) le))
+one_good good n a f zero arm e le = let same : a ≡ arm = some_is a arm e in subst (λ (z : Arm). good z.next ≡ true) same (f (subst (λ (z : Arm). z.next ≤ n) (sym same) le))
 one_good good n a f (suc place) arm e le = absurd (cc e)
 
 more_good : (good : ℕ → Bool) (n : ℕ) (a : Arm) (arms : List Arm) → (a.next ≤ n → good a.next ≡ true) → BackGood good n arms → BackGood good n (a ∷ arms)
-more_good good n a arms f g zero arm e le = let same : a ≡ arm = arm_some a arm e in subst (λ (z : Arm). good z.next ≡ true) same (f (subst (λ (z : Arm). z.next ≤ n) (sym same) le))
+more_good good n a arms f g zero arm e le = let same : a ≡ arm = some_is a arm e in subst (λ (z : Arm). good z.next ≡ true) same (f (subst (λ (z : Arm). z.next ≤ n) (sym same) le))
 more_good good n a arms f g (suc place) arm e le = g place arm e le
 
 -- behind act k the names that lead to k do so by a rec in front of it
@@ -228,16 +220,8 @@ pub deeper_within : (c here : Bool) (inner d : ℕ) → (c ≡ true → here ≡
 deeper_within true here inner d f le lt = let h = lt (f refl) in omega arith
 deeper_within false here inner d f le lt = le
 
-pub all_true : (a b : Bool) → a ≡ true → b ≡ true → (a && b) ≡ true
-all_true true b h k = k
-all_true false b h k = absurd (cc h)
-
-or_first : (a b : Bool) → a ≡ true → (a || b) ≡ true
-or_first true b h = refl
-or_first false b h = absurd (cc h)
-
 pub wrapped_fits : (c : Bool) (k : ℕ) (b : Body) (roles : List (List ℕ)) (named : Bound) (d : ℕ) (ls : List (List ℕ)) → (c ≡ true → d < 200) → body_fits b (scene roles (opened_for c k named) (deeper c d) k ls) ≡ true → body_fits (wrapped c k b) (scene roles named d k ls) ≡ true
-wrapped_fits true k b roles named d ls lt h = all_true (nat_lt d 200) (body_fits b (scene roles ((name_of_state k, k) ∷ named) (suc d) k ls)) (lt-ltb d 200 (lt refl)) h
+wrapped_fits true k b roles named d ls lt h = two_true (nat_lt d 200) (body_fits b (scene roles ((name_of_state k, k) ∷ named) (suc d) k ls)) (lt-ltb d 200 (lt refl)) h
 wrapped_fits false k b roles named d ls lt h = h
 
 -- the peers and the labels that are written are known
@@ -253,13 +237,13 @@ known_grown w labels xs known l has = grown_among xs labels (label_as w l) ∙ o
 acts_fit : (x : List ℕ) (y : Mark) (l : List ℕ) (sort : Option Sort) (c : Body) (roles : List (List ℕ)) (named : Bound) (d k : ℕ) (ls : List (List ℕ)) → is_among x roles ≡ true → k < 256 → is_among l ls ≡ true
     → body_fits c (scene roles named d (suc k) (grown ls (l ∷ []))) ≡ true → body_fits (acts x y l sort c) (scene roles named d k ls) ≡ true
 acts_fit x y l sort c roles named d k ls a few known h =
-    all_true (is_among x roles && nat_lt k 256 && has_room_for l (scene roles named d k ls)) (body_fits c (scene roles named d (suc k) (grown ls (l ∷ []))))
-    (all_true (is_among x roles && nat_lt k 256) (has_room_for l (scene roles named d k ls)) (all_true (is_among x roles) (nat_lt k 256) a (lt-ltb k 256 few)) (or_first (is_among l ls) (nat_lt (length ls) 256) known)) h
+    two_true (is_among x roles && nat_lt k 256 && has_room_for l (scene roles named d k ls)) (body_fits c (scene roles named d (suc k) (grown ls (l ∷ []))))
+    (two_true (is_among x roles && nat_lt k 256) (has_room_for l (scene roles named d k ls)) (two_true (is_among x roles) (nat_lt k 256) a (lt-ltb k 256 few)) (or_first (is_among l ls) (nat_lt (length ls) 256) known)) h
 
 pub offers_fit : (x : List ℕ) (y : Mark) (c : Branches) (roles : List (List ℕ)) (named : Bound) (d k : ℕ) (ls : List (List ℕ)) → is_among x roles ≡ true → k < 256 → d < 200 → arms_fit c (scene roles named (suc d) (suc k) ls) ≡ true → body_fits (offers x y c) (scene roles named d k ls) ≡ true
 offers_fit x y c roles named d k ls a few low h =
-    all_true (is_among x roles && nat_lt k 256 && nat_lt d 200) (arms_fit c (scene roles named (suc d) (suc k) ls))
-    (all_true (is_among x roles && nat_lt k 256) (nat_lt d 200) (all_true (is_among x roles) (nat_lt k 256) a (lt-ltb k 256 few)) (lt-ltb d 200 low)) h
+    two_true (is_among x roles && nat_lt k 256 && nat_lt d 200) (arms_fit c (scene roles named (suc d) (suc k) ls))
+    (two_true (is_among x roles && nat_lt k 256) (nat_lt d 200) (two_true (is_among x roles) (nat_lt k 256) a (lt-ltb k 256 few)) (lt-ltb d 200 low)) h
 
 pub name_fits : (back : ℕ → Bool) (bound named : Bound) (k : ℕ) (x : List ℕ) (found : Option ℕ) → bound_to x bound ≡ found → Leads back found k → Inv back bound named k → is_guarded (bound_to (name_of_state (number_or found)) named) k ≡ true
 name_fits back bound named k x None e h inv = absurd h
@@ -314,7 +298,7 @@ mutual
       → RecsArms (goes_back w.states) arms k → FineArms (goes_back w.states) arms bound k → InvAll (goes_back w.states) bound named → Low bound k → arms_fit (canon_arms w arms bound k) (scene known named inner k labels) ≡ true
   canon_arms_fit w (one l sort b) bound named k d inner roles known ls labels rs lk has du le h recs fine inv low =
       let p = both (has_room_for l (scene roles bound d k ls)) (body_fits b (scene roles bound d k (grown ls (l ∷ [])))) h in
-      all_true (has_room_for (label_as w l) (scene known named inner k labels)) (body_fits (canon w b bound k) (scene known named inner k (grown labels (label_as w l ∷ [])))) (or_first (is_among (label_as w l) labels) (nat_lt (length labels) 256) (lk l has.0))
+      two_true (has_room_for (label_as w l) (scene known named inner k labels)) (body_fits (canon w b bound k) (scene known named inner k (grown labels (label_as w l ∷ [])))) (or_first (is_among (label_as w l) labels) (nat_lt (length labels) 256) (lk l has.0))
       (canon_fits w b bound named false k d inner roles known (grown ls (l ∷ [])) (grown labels (label_as w l ∷ [])) rs (known_grown w labels (label_as w l ∷ []) lk) has.1 du le (λ e. absurd (cc e)) p.1 recs fine (λ x m e bk lt. inv x m e bk) low)
   canon_arms_fit w (more l sort b arms) bound named k d inner roles known ls labels rs lk has du le h recs fine inv low =
       let form : Body = canon w b bound k in
@@ -325,8 +309,8 @@ mutual
       let p = both (has_room_for l (scene roles bound d k ls) && body_fits b (scene roles bound d k (grown ls (l ∷ [])))) (arms_fit arms (scene roles bound d (k + acts_in b) (grown (grown ls (l ∷ [])) (labels_of b)))) h in
       let q = both (has_room_for l (scene roles bound d k ls)) (body_fits b (scene roles bound d k (grown ls (l ∷ [])))) p.0 in
       let step : k + acts_in b ≡ k + acts_in form = ap (λ z. k + z) (sym (canon_acts w b bound k)) in
-      all_true (has_room_for (label_as w l) (scene known named inner k labels) && body_fits form (scene known named inner k all)) (arms_fit rest (scene known named inner (k + acts_in form) (grown all (labels_of form))))
-      (all_true (has_room_for (label_as w l) (scene known named inner k labels)) (body_fits form (scene known named inner k all)) (or_first (is_among (label_as w l) labels) (nat_lt (length labels) 256) (lk l has.0))
+      two_true (has_room_for (label_as w l) (scene known named inner k labels) && body_fits form (scene known named inner k all)) (arms_fit rest (scene known named inner (k + acts_in form) (grown all (labels_of form))))
+      (two_true (has_room_for (label_as w l) (scene known named inner k labels)) (body_fits form (scene known named inner k all)) (or_first (is_among (label_as w l) labels) (nat_lt (length labels) 256) (lk l has.0))
       (canon_fits w b bound named false k d inner roles known (grown ls (l ∷ [])) all rs more has.1 du le (λ e. absurd (cc e)) q.1 recs.0 fine.0 (λ x m e bk lt. inv x m e bk) low))
       (subst (λ (z : ℕ). arms_fit rest (scene known named inner z (grown all (labels_of form))) ≡ true) step
       (canon_arms_fit w arms bound named j d inner roles known (grown (grown ls (l ∷ [])) (labels_of b)) (grown all (labels_of form)) rs (known_grown w all (labels_of form) more) has.2 du le p.1 recs.1 fine.1 inv (low_up bound k j (omega arith) low)))

@@ -19,8 +19,8 @@ use Rattle.rs_machines.specs.Spells.{has_room_for, body_fits, arms_fit, Fits, Sp
 use Rattle.rs_machines.specs.Shapes.{deeper}
 use Rattle.rs_machines.specs.Texts.{machine_text}
 use Rattle.rs_machines.specs.Trees.{Body, ends, again, binds, acts, offers, Branches, one, more, MachineTree}
-use Rattle.rs_machines.proofs.CanonForms.{goes_back, back_is, Writing, role_as, label_as, sort_as, canon, canon_arms, Low, low_rec, low_up, both, fits_named, HasNames, HasNamesArms}
-use Rattle.rs_machines.proofs.CanonNest.{Recs, RecsArms, scene, all_true, deeper_within, wrapped_fits, RolesKnown, offers_fit, name_fits, tree_recs}
+use Rattle.rs_machines.proofs.CanonForms.{goes_back, back_is, Writing, role_as, label_as, sort_as, canon, canon_arms, Low, low_rec, low_up, fits_named, HasNames, HasNamesArms}
+use Rattle.rs_machines.proofs.CanonNest.{Recs, RecsArms, scene, deeper_within, wrapped_fits, RolesKnown, offers_fit, name_fits, tree_recs}
 use Rattle.rs_machines.proofs.CanonNumbers.{role_known}
 use Rattle.rs_machines.proofs.CanonOne.{canonical_tree_is_one}
 use Rattle.rs_machines.proofs.CanonSame.{Fine, FineArms, Inv, InvAll, inv_rec, inv_act, inv_all, opened_for, canon_acts, canon_labels}
@@ -29,6 +29,7 @@ use Rattle.rs_machines.proofs.EnoughNames.{with_name, placed, spelt_enough, spel
 use Rattle.rs_machines.proofs.Existence.{tree_has_names, writing_of, canonical_tree, canonical_of}
 use Rattle.rs_machines.proofs.PrintedTrees.{lone_tree_spelt}
 use Rattle.rs_text.proofs.Naming.{grown_stays}
+use Rattle.rs_text.proofs.Basics.{two_true, both}
 
 -- ---- labels that are written as they were
 
@@ -48,7 +49,7 @@ kept_in [] names w same h = refl
 kept_in (x ∷ xs) names w same h =
     let p = placed x names in
     let e : place_of x w.numbers.names.labels ≡ Some p.0 = ap (λ z. place_of x z) h ∙ grown_stays xs (with_name x names) x p.0 p.1 in
-    all_true (kept w x) (list_all (kept w) xs) (by_place w x p.0 same e) (kept_in xs (with_name x names) w same h)
+    two_true (kept w x) (list_all (kept w) xs) (by_place w x p.0 same e) (kept_in xs (with_name x names) w same h)
 
 kept_map : (w : Writing) (xs : List (List ℕ)) → list_all (kept w) xs ≡ true → map (label_as w) xs ≡ xs
 kept_map w [] h = refl
@@ -62,8 +63,8 @@ kept_parts w xs ys h = both (list_all (kept w) xs) (list_all (kept w) ys) (sym (
 act_fits : (x : List ℕ) (y : Mark) (l : List ℕ) (sort : Option Sort) (c : Body) (roles : List (List ℕ)) (named : Bound) (d k : ℕ) (ls : List (List ℕ)) → is_among x roles ≡ true → k < 256 → (is_among l ls || nat_lt (length ls) 256) ≡ true
     → body_fits c (scene roles named d (suc k) (grown ls (l ∷ []))) ≡ true → body_fits (acts x y l sort c) (scene roles named d k ls) ≡ true
 act_fits x y l sort c roles named d k ls a few room h =
-    all_true (is_among x roles && nat_lt k 256 && has_room_for l (scene roles named d k ls)) (body_fits c (scene roles named d (suc k) (grown ls (l ∷ []))))
-    (all_true (is_among x roles && nat_lt k 256) (has_room_for l (scene roles named d k ls)) (all_true (is_among x roles) (nat_lt k 256) a (lt-ltb k 256 few)) room) h
+    two_true (is_among x roles && nat_lt k 256 && has_room_for l (scene roles named d k ls)) (body_fits c (scene roles named d (suc k) (grown ls (l ∷ []))))
+    (two_true (is_among x roles && nat_lt k 256) (has_room_for l (scene roles named d k ls)) (two_true (is_among x roles) (nat_lt k 256) a (lt-ltb k 256 few)) room) h
 
 mutual
   older_fits : (w : Writing) (t : Body) (bound named : Bound) (here : Bool) (k d inner : ℕ) (roles known ls : List (List ℕ)) → RolesKnown w known → list_all (kept w) (labels_of t) ≡ true → HasNames w t → d ≤ 200 → inner ≤ d → (here ≡ true → inner < d) → body_fits t (scene roles bound d k ls) ≡ true
@@ -121,7 +122,7 @@ mutual
       let kts = both (kept w l) (list_all (kept w) (labels_of b)) kt in
       let p = both (has_room_for l (scene roles bound d k ls)) (body_fits b (scene roles bound d k (grown ls (l ∷ [])))) h in
       subst (λ (z : List ℕ). arms_fit (one z (sort_as sort) (canon w b bound k)) (scene known named inner k ls) ≡ true) (sym (stays w l kts.0))
-      (all_true (has_room_for l (scene known named inner k ls)) (body_fits (canon w b bound k) (scene known named inner k (grown ls (l ∷ [])))) p.0
+      (two_true (has_room_for l (scene known named inner k ls)) (body_fits (canon w b bound k) (scene known named inner k (grown ls (l ∷ [])))) p.0
       (older_fits w b bound named false k d inner roles known (grown ls (l ∷ [])) rs kts.1 has.1 du le (λ e. absurd (cc e)) p.1 recs fine (λ x m e bk lt. inv x m e bk) low))
   older_arms_fit w (more l sort b arms) bound named k d inner roles known ls rs kt has du le h recs fine inv low =
       let form : Body = canon w b bound k in
@@ -135,8 +136,8 @@ mutual
       let step : k + acts_in b ≡ k + acts_in form = ap (λ z. k + z) (sym (canon_acts w b bound k)) in
       let labels : labels_of b ≡ labels_of form = sym (canon_labels w b bound k ∙ kept_map w (labels_of b) ktp.0) in
       subst (λ (z : List ℕ). arms_fit (more z (sort_as sort) form rest) (scene known named inner k ls) ≡ true) (sym (stays w l kts.0))
-      (all_true (has_room_for l (scene known named inner k ls) && body_fits form (scene known named inner k all)) (arms_fit rest (scene known named inner (k + acts_in form) (grown all (labels_of form))))
-      (all_true (has_room_for l (scene known named inner k ls)) (body_fits form (scene known named inner k all)) q.0
+      (two_true (has_room_for l (scene known named inner k ls) && body_fits form (scene known named inner k all)) (arms_fit rest (scene known named inner (k + acts_in form) (grown all (labels_of form))))
+      (two_true (has_room_for l (scene known named inner k ls)) (body_fits form (scene known named inner k all)) q.0
       (older_fits w b bound named false k d inner roles known all rs ktp.0 has.1 du le (λ e. absurd (cc e)) q.1 recs.0 fine.0 (λ x m e bk lt. inv x m e bk) low))
       (subst (λ (z : ℕ). arms_fit rest (scene known named inner z (grown all (labels_of form))) ≡ true) step
       (subst (λ (z : List (List ℕ)). arms_fit rest (scene known named inner j (grown all z)) ≡ true) labels

@@ -12,6 +12,7 @@ use Rattle.rs_machines.specs.declared.marks.Mark.{Mark}
 use Rattle.rs_machines.proofs.Acts.{no_act, act_parts}
 use Rattle.rs_machines.proofs.EndsLast.{EndsLast, shaped_ends_last}
 use Rattle.rs_machines.specs.Canonical.{IsMachineTextShaped, IsActOf, IsArmOf, IsOneArm, AreArms, Draws, DrawsAct, DrawsArms, IsCanonical, IsCanonicalMachineText}
+use Rattle.rs_text.proofs.Basics.{some_is}
 
 -- ---- two bodies for one state
 
@@ -38,16 +39,13 @@ record SameAct (s s' : List ℕ) (r r' : Mark) (arms others : List Arm) : Type 0
   marks : r ≡ r'
   are : arms ≡ others
 
-text_is : (x y : List ℕ) → Some x ≡ Some y → x ≡ y
-text_is x y h = cc
-
 same_act : (names : Names_data) (p : Machine_data) (n : ℕ) (s : List ℕ) (r : Mark) (s' : List ℕ) (r' : Mark) (arms others : List Arm) → IsActOf names p n s r arms → IsActOf names p n s' r' others → SameAct s s' r r' arms others
 same_act names p n s r s' r' arms others x y =
     let parts = act_parts r r' x.peer y.peer arms others (sym x.acts ∙ y.acts) in
-    record { peers = text_is s s' (sym x.named ∙ ap (λ z. slice_get names.roles z.0) parts.1 ∙ y.named); marks = parts.0; are = parts.2 }
+    record { peers = some_is s s' (sym x.named ∙ ap (λ z. slice_get names.roles z.0) parts.1 ∙ y.named); marks = parts.0; are = parts.2 }
 
 same_head : (names : Names_data) (l l' : List ℕ) (sort sort' : Option Sort) (a : Arm) → IsArmOf names l sort a → IsArmOf names l' sort' a → (l ≡ l') × (sort ≡ sort')
-same_head names l l' sort sort' a x y = (text_is l l' (sym x.0 ∙ y.0), x.1 ∙ sym y.1)
+same_head names l l' sort sort' a x y = (some_is l l' (sym x.0 ∙ y.0), x.1 ∙ sym y.1)
 
 one_arm_is : (a b : Arm) → a ∷ [] ≡ b ∷ [] → a ≡ b
 one_arm_is a b h = cc
@@ -149,7 +147,7 @@ tree_is x y e f = ap (λ z. record { role = z; body = x.body }) e ∙ ap (λ z. 
 
 pub canonical_tree_is_one : (names : Names_data) (machine : Machine_data) (x y : MachineTree) → IsMachineTextShaped machine → IsCanonical names machine x → IsCanonical names machine y → x ≡ y
 canonical_tree_is_one names machine x y shaped h k =
-    tree_is x y (text_is x.role y.role (sym h.role ∙ k.role)) (same_body x.body y.body names machine 0 machine.start (shaped_ends_last machine shaped) (λ n e. omega arith) h.body k.body)
+    tree_is x y (some_is x.role y.role (sym h.role ∙ k.role)) (same_body x.body y.body names machine 0 machine.start (shaped_ends_last machine shaped) (λ n e. omega arith) h.body k.body)
 
 pub canonical_text_is_one : (names : Names_data) (machine : Machine_data) (text other : List ℕ) → IsMachineTextShaped machine → IsCanonicalMachineText names machine text → IsCanonicalMachineText names machine other → text ≡ other
 canonical_text_is_one names machine text other shaped h k = h.is ∙ ap machine_text (canonical_tree_is_one names machine h.tree k.tree shaped h.canonical k.canonical) ∙ sym k.is

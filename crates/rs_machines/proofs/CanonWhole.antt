@@ -19,11 +19,12 @@ use Rattle.rs_machines.proofs.CanonForms.{goes_back, back_is, Writing, role_as, 
 use Rattle.rs_machines.proofs.CanonOne.{canonical_tree_is_one}
 use Rattle.rs_machines.proofs.CanonSame.{Fine, fine, Same, same, SameNumbers, canon_acts, canon_end}
 use Rattle.rs_machines.proofs.CanonNest.{Recs, tree_recs, canon_fits, canon_grown, fits_acts}
-use Rattle.rs_machines.proofs.CanonNumbers.{role_place, label_place, role_known, label_known, Sound, sound_parts, all_at}
+use Rattle.rs_machines.proofs.CanonNumbers.{role_place, label_place, role_known, label_known, Sound, sound_parts}
 use Rattle.rs_machines.proofs.Existence.{role_stands, label_stands, tree_has_names, writing_of, canonical_tree, canonical_of}
 use Rattle.rs_machines.proofs.StateNames.{state_name_law}
 use Rattle.rs_machines.proofs.PrintedTrees.{tree_spelt, lone_tree_spelt}
 use Rattle.rs_machines.proofs.SpeltLaws.{one_spelling}
+use Rattle.rs_text.proofs.Naming.{all_at}
 
 -- ---- the canonical tree of what a tree spells
 

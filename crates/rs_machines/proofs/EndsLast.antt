@@ -1,5 +1,5 @@
 -- In a machine that a text spells, the end stands behind each act.
-use Rattle.std.proofs.Common.{◌≡◌, ℕ, zero, suc, ◌+◌, ◌<◌, ◌≤◌, List, [], ◌∷◌, ◌++◌, length, Bool, true, false, ◌&&◌, Some, refl, sym, ap, ◌∙◌, subst, arith, slice_get}
+use Rattle.std.proofs.Common.{◌≡◌, ℕ, zero, suc, ◌+◌, ◌<◌, ◌≤◌, List, [], ◌∷◌, ◌++◌, length, Bool, true, false, Some, refl, sym, ap, ◌∙◌, subst, arith, slice_get}
 use Rattle.std.proofs.lemmas.List.Folds.{list_all-append}
 use Rattle.std.specs.List.{list_all}
 use Rattle.rs_model.specs.Data.{Machine_data, Names_data}
@@ -13,12 +13,9 @@ use Rattle.rs_machines.specs.Machines.{acts_in, has_end, state_of, role_of, firs
 use Rattle.rs_machines.specs.Canonical.{IsMachineTextShaped}
 use Rattle.rs_machines.specs.declared.marks.Mark.{Mark}
 use Rattle.rs_machines.proofs.Acts.{is_act, acts_are, no_act}
+use Rattle.rs_text.proofs.Basics.{some_is, first_true, second_true, two_true}
 
 -- ---- the end stands behind all acts
-
-pub two_true : (a b : Bool) → a ≡ true → b ≡ true → (a && b) ≡ true
-two_true true b h k = k
-two_true false b h k = absurd (cc h)
 
 mutual
   pub all_acts : (m : Numbering) (b : Body) (bound : Bound) (k : ℕ) → list_all is_act (states_of m b bound k) ≡ true
@@ -36,20 +33,9 @@ mutual
   all_arms_act m (one l sort b) bound k = all_acts m b bound k
   all_arms_act m (more l sort b arms) bound k = list_all-append is_act (states_of m b bound k) (states_of_arms m arms bound (k + acts_in b)) ∙ two_true (list_all is_act (states_of m b bound k)) (list_all is_act (states_of_arms m arms bound (k + acts_in b))) (all_acts m b bound k) (all_arms_act m arms bound (k + acts_in b))
 
-first_true : (a b : Bool) → (a && b) ≡ true → a ≡ true
-first_true true b h = refl
-first_true false b h = absurd (cc h)
-
-second_true : (a b : Bool) → (a && b) ≡ true → b ≡ true
-second_true true b h = h
-second_true false b h = absurd (cc h)
-
-state_is : (x y : State) → Some x ≡ Some y → x ≡ y
-state_is x y h = cc
-
 end_behind : (xs : List State) (c : Bool) (n : ℕ) → list_all is_act xs ≡ true → slice_get (xs ++ done_of c) n ≡ Some Done → length xs ≤ n
 end_behind [] c n h e = omega arith
-end_behind (x ∷ xs) c zero h e = let t : is_act x ≡ false = ap is_act (state_is x Done e) in let f : is_act x ≡ true = first_true (is_act x) (list_all is_act xs) h in absurd (cc (t, f))
+end_behind (x ∷ xs) c zero h e = let t : is_act x ≡ false = ap is_act (some_is x Done e) in let f : is_act x ≡ true = first_true (is_act x) (list_all is_act xs) h in absurd (cc (t, f))
 end_behind (x ∷ xs) c (suc n) h e = let k = end_behind xs c n (second_true (is_act x) (list_all is_act xs) h) e in omega arith
 
 act_before : (xs : List State) (c : Bool) (n : ℕ) (s : Role) (r : Mark) (arms : List Arm) → slice_get (xs ++ done_of c) n ≡ Some (state_of r s arms) → n < length xs

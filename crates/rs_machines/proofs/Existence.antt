@@ -1,5 +1,5 @@
 -- A machine that some text spells has a canonical tree.
-use Rattle.std.proofs.Common.{◌≡◌, ℕ, suc, ◌+◌, ◌<◌, ◌≤◌, List, [], ◌∷◌, ◌++◌, length, Bool, true, false, Option, Some, None, refl, sym, ap, ◌∙◌, subst, arith, ◌||◌, slice_get, append_assoc, length-append}
+use Rattle.std.proofs.Common.{◌≡◌, ℕ, suc, ◌+◌, ◌<◌, ◌≤◌, List, [], ◌∷◌, ◌++◌, length, Bool, true, false, Option, Some, None, refl, sym, ap, ◌∙◌, subst, arith, slice_get, append_assoc, length-append}
 use Rattle.std.proofs.lemmas.Bool.{ltb-true}
 use Rattle.std.proofs.lemmas.Option.{slice_get-get_or}
 use Rattle.rs_model.specs.Data.{Machine_data, Names_data}
@@ -16,7 +16,8 @@ use Rattle.rs_machines.specs.Canonical.{IsMachineTextShaped, name_of_state, IsAc
 use Rattle.rs_machines.specs.Enough.{AreEnoughFor}
 use Rattle.rs_machines.specs.Texts.{machine_text}
 use Rattle.rs_machines.specs.declared.marks.Mark.{Mark}
-use Rattle.rs_machines.proofs.CanonForms.{goes_back, back_is, is_back, seam, or_empty, Writing, role_as, label_as, sort_as, wrapped, canon, canon_arms, Named, NamedArms, fits_named, Low, low_rec, low_up, Ins, ins_rec, HasNames, HasNamesArms}
+use Rattle.rs_machines.proofs.CanonForms.{goes_back, back_is, is_back, or_empty, Writing, role_as, label_as, sort_as, wrapped, canon, canon_arms, Named, NamedArms, fits_named, Low, low_rec, low_up, Ins, ins_rec, HasNames, HasNamesArms}
+use Rattle.rs_text.proofs.Basics.{or_end, seam}
 
 mutual
   pub states_length : (m : Numbering) (b : Body) (bound : Bound) (k : ℕ) → length (states_of m b bound k) ≡ acts_in b
@@ -37,10 +38,6 @@ pub at_seam : (states pre : List State) (n : State) (post : List State) (k : ℕ
 at_seam states pre n post k e h = ap (λ z. slice_get z k) e ∙ ap (λ z. slice_get (pre ++ n ∷ post) z) (sym h) ∙ seam State pre n post
 
 -- ---- one place
-
-or_end : (a b : Bool) → b ≡ true → (a || b) ≡ true
-or_end true b h = refl
-or_end false b h = h
 
 pub role_stands : (w : Writing) (s : List ℕ) → (role_of w.numbers s).0 < length w.names.roles → slice_get w.names.roles (role_of w.numbers s).0 ≡ Some (role_as w s)
 role_stands w s lt =

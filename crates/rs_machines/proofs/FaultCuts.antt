@@ -1,13 +1,12 @@
 -- A place of the grammar goes on by each token that it takes, and can be completed to a machine.
-use Rattle.std.proofs.Common.{◌≡◌, ℕ, List, [], ◌∷◌, ◌++◌, codes, Bool, true, false, if◌then◌else◌, Option, Some, None, is_some, refl, sym, ap, ◌∙◌, subst, ◌⊎◌, inl, inr, append_assoc, append-nil}
+use Rattle.std.proofs.Common.{◌≡◌, ℕ, List, [], ◌∷◌, ◌++◌, codes, Bool, true, false, Option, Some, None, is_some, refl, sym, ap, ◌∙◌, subst, ◌⊎◌, inl, inr, append_assoc, append-nil}
 use Rattle.std.proofs.lemmas.Slice.Eq.{bytes_eq-Decides}
 use Rattle.std.specs.Str.{bytes_eq}
 use Rattle.rs_model.specs.declared.values.Sort.{Sort}
-use Rattle.rs_model.specs.declared.values.Sort.TheVariants as sort
 use Rattle.rs_text.specs.declared.faults.Wanted.{Wanted}
 use Rattle.rs_text.specs.declared.faults.Wanted.TheVariants as wanted
 use Rattle.rs_text.specs.Signs.{Sign, rec_word, end_word, plain, colon, dot, comma, open_brace, close_brace, open_paren, close_paren, word_sign}
-use Rattle.rs_text.specs.Arms.{sort_text, sort_signs, arm_signs, ArmCut, at_label, behind_label, behind_paren, behind_sort, behind_head, arm_cut_signs, wanted_in_arm}
+use Rattle.rs_text.specs.Arms.{sort_signs, arm_signs, ArmCut, at_label, behind_label, behind_paren, behind_sort, behind_head, arm_cut_signs, wanted_in_arm}
 use Rattle.rs_text.specs.Seen.{sort_named}
 use Rattle.rs_machines.specs.Trees.{Body, ends, again, binds, acts, offers, Branches, one, more, MachineTree, mark_sign, body_signs, branch_signs, machine_signs}
 use Rattle.rs_machines.specs.Cuts.{Cut, at_body, behind_end, behind_name, behind_rec, behind_rec_name, in_binds, in_arm, in_acts, in_offers, behind_brace, BranchCut, in_head, in_branch, later, MachineCut, at_begin, at_role, behind_role, in_body, cut_signs, branch_cut_signs, machine_cut_signs, wanted_at, wanted_in, wanted_behind_mark}
@@ -15,6 +14,7 @@ use Rattle.rs_machines.specs.declared.marks.Mark.{Mark}
 use Rattle.rs_machines.specs.Faults.{Begins}
 use Rattle.rs_machines.proofs.FaultPlaces.{is_named, is_named_in, is_named_of, place_wants}
 use Rattle.rs_text.proofs.Judging.{IsProper}
+use Rattle.rs_text.proofs.Arms.{sort_text_is, arm_completes}
 
 -- the tokens that are taken where this is wanted
 abbrev pub takes : Wanted → Sign → Bool
@@ -42,19 +42,6 @@ takes wanted.CommaOrCloseBrace close_brace = true
 takes _ t = false
 
 -- ---- sorts
-
-sort_pick : (b : Bool) (text : List ℕ) (a s : Sort) (rest : Option Sort) → (b ≡ true → text ≡ sort_text a) → (rest ≡ Some s → sort_text s ≡ text) → (if b then Some a else rest) ≡ Some s → sort_text s ≡ text
-sort_pick true text a s rest h k e = let same : a ≡ s = cc in ap sort_text (sym same) ∙ sym (h refl)
-sort_pick false text a s rest h k e = k e
-
-sort_text_is : (text : List ℕ) (s : Sort) → sort_named text ≡ Some s → sort_text s ≡ text
-sort_text_is text s e =
-    sort_pick (bytes_eq text (codes "unit")) text sort.Unit s _ (λ h. (bytes_eq-Decides text (codes "unit")).0 h)
-    (λ e. sort_pick (bytes_eq text (codes "bool")) text sort.Flag s _ (λ h. (bytes_eq-Decides text (codes "bool")).0 h)
-    (λ e. sort_pick (bytes_eq text (codes "nat")) text sort.Natural s _ (λ h. (bytes_eq-Decides text (codes "nat")).0 h)
-    (λ e. sort_pick (bytes_eq text (codes "int")) text sort.Whole s _ (λ h. (bytes_eq-Decides text (codes "int")).0 h)
-    (λ e. sort_pick (bytes_eq text (codes "bytes")) text sort.Octets s _ (λ h. (bytes_eq-Decides text (codes "bytes")).0 h)
-    (λ e. sort_pick (bytes_eq text (codes "list")) text sort.Numbers s None (λ h. (bytes_eq-Decides text (codes "list")).0 h) (λ e. cc) e) e) e) e) e) e
 
 sort_grows : (found : Option Sort) (l text : List ℕ) → sort_named text ≡ found → is_some found ≡ true → (d : ArmCut) × (arm_cut_signs d ≡ word_sign l ∷ open_paren ∷ plain text ∷ [])
 sort_grows None l text e h = cc
@@ -211,13 +198,6 @@ word_grows m (in_body x body) h = let z = named_grows m body h in (in_body x z.0
 word_grows m _ h = cc
 
 -- ---- what can stand behind a place
-
-arm_completes : (arm : ArmCut) → (l : List ℕ) × (s : Option Sort) × (rest : List Sign) × (arm_signs l s ≡ arm_cut_signs arm ++ rest)
-arm_completes at_label = (codes "x", None, arm_signs (codes "x") None, refl)
-arm_completes (behind_label l) = (l, None, open_paren ∷ close_paren ∷ dot ∷ [], refl)
-arm_completes (behind_paren l) = (l, None, close_paren ∷ dot ∷ [], refl)
-arm_completes (behind_sort l s) = (l, Some s, close_paren ∷ dot ∷ [], refl)
-arm_completes (behind_head l s) = (l, s, dot ∷ [], ap (λ z. word_sign l ∷ open_paren ∷ z) (sym (append_assoc (sort_signs s) (close_paren ∷ []) (dot ∷ []))))
 
 mutual
   completes : (c : Cut) → (b : Body) × (rest : List Sign) × (body_signs b ≡ cut_signs c ++ rest)

@@ -24,9 +24,10 @@ use Rattle.rs_text.specs.declared.faults.Wanted.{Wanted}
 use Rattle.rs_text.specs.declared.faults.Wanted.TheVariants as wanted
 use Rattle.rs_machines.specs.Trees.{MachineTree, mark_sign, body_signs, branch_signs, machine_signs, ends_a_name}
 use Rattle.rs_machines.specs.Cuts.{Cut, at_body, behind_end, behind_name, behind_rec, behind_rec_name, in_binds, in_arm, in_acts, in_offers, behind_brace, BranchCut, in_head, in_branch, later, MachineCut, at_begin, at_role, behind_role, in_body, cut_signs, branch_cut_signs, machine_cut_signs, wanted_at, wanted_in, wanted_behind_mark}
-use Rattle.rs_machines.specs.Scenes.{Scene, with_label, in_act, behind, scene_at, scene_in, fault_of_depth, fault_of_label, fault_by, fault_of}
+use Rattle.rs_machines.specs.Scenes.{Scene, with_label, in_act, behind}
 use Rattle.rs_machines.proofs.FaultRuns.{peer_in_room, peer_lands, marked_lands, Follower, a_mark, a_broken, a_name, follower, by_name, named_lands, placed_length, label_lands, arm_passes, frame_at, restored_bound, passes, branches_pass}
 use Rattle.rs_text.proofs.Leading.{Lands, Leads, lands_if, faulty_calm}
+use Rattle.rs_machines.specs.Misplaced.{scene_at, scene_in, fault_of_depth, fault_of_label, fault_by, fault_of}
 
 -- what a mode wants; a machine's first word is wanted as `Roles` here, so that it differs from what is wanted behind a machine
 abbrev pub wanted_behind : List Frame → Wanted

@@ -160,9 +160,6 @@ restored_bound inner bound outer h =
     let m : length bound - length outer ≡ length inner = ap (λ z. z - length outer) n ∙ omega arith in
     ap (λ z. drop z bound) m ∙ ap (λ z. drop (length inner) z) h ∙ drop-append_seam inner outer
 
-grown_one : (names xs : List (List ℕ)) (l : List ℕ) → grown (grown names (l ∷ [])) xs ≡ grown names (l ∷ xs)
-grown_one names xs l = refl
-
 mutual
   pub passes : (b : Body) (from : Link) (r : Reader_data) (ts : List Sign) (u : Sign) (Q : Reader_data → Type 0) → IsAfter (sign_behind ts u) → Goes (labels_of b) (acts_in b) r (λ e. Leads feeding ts u Q e) → Leads feeding (body_signs b ++ ts) u Q (record r { mode = mode.Body from })
   passes ends from r ts u Q h k = λ at f n. k r.labels (linked_drafts from None r.drafts) (linked_start from None r.start) true r.bound [] r.depth refl (linked_length from None r.drafts ∙ omega arith) refl

@@ -22,7 +22,7 @@ use Rattle.rs_machines.specs.declared.reading.Mode.{Mode}
 use Rattle.rs_machines.specs.declared.reading.Mode.TheVariants as mode
 use Rattle.rs_machines.specs.Data.{Reader_data}
 use Rattle.rs_machines.specs.Trees.{ends_a_name}
-use Rattle.rs_machines.specs.Scenes.{Scene, fault_of_name, fault_of_word, fault_of_peer}
+use Rattle.rs_machines.specs.Scenes.{Scene}
 use Rattle.rs_machines.specs.Feeding.{Fed, in_mode, linked, feed_machine, role_by, met_by, named, feed_word, feed_body, opened, label_of_number, label_wanted, labelled_by, sorted_by, feed_sort, feed_next, feed_at, feeding}
 use Rattle.rs_machines.proofs.FaultRuns.{Follower, a_mark, a_broken, a_name, follower, by_name}
 use Rattle.rs_machines.proofs.FaultPlaces.{wanted_behind, wanted_by, scene_of, fault_seen, NamedBy}
@@ -30,6 +30,7 @@ use Rattle.rs_machines.proofs.FaultCuts.{takes}
 use Rattle.rs_text.specs.FirstFaults.{IsWhole}
 use Rattle.rs_text.specs.Readings.{fault, expected, feed_sign}
 use Rattle.rs_text.proofs.Leading.{NotExpected}
+use Rattle.rs_machines.specs.Misplaced.{fault_of_name, fault_of_word, fault_of_peer}
 
 -- what a fault says where this is wanted
 abbrev pub said : Wanted → Wanted

@@ -19,7 +19,7 @@ use Rattle.rs_model.specs.Data.{Names_data}
 use Rattle.rs_machines.specs.declared.marks.Mark.{Mark}
 use Rattle.rs_machines.specs.declared.marks.Mark.TheVariants as mark
 use Rattle.rs_machines.specs.Cuts.{Cut, at_body, behind_end, behind_name, behind_rec, behind_rec_name, in_binds, in_arm, in_acts, in_offers, behind_brace, BranchCut, in_head, in_branch, later, MachineCut, at_begin, at_role, behind_role, in_body, cut_signs, branch_cut_signs, machine_cut_signs, wanted_at, wanted_in, wanted_of, wanted_behind_mark, IsBehind}
-use Rattle.rs_machines.specs.Scenes.{Scene, fault_by, fault_of}
+use Rattle.rs_machines.specs.Scenes.{Scene}
 use Rattle.rs_machines.specs.Faults.{Begins, IsWithin, EndsByName, IsInReach, FaultAt}
 use Rattle.rs_machines.specs.Feeding.{Fed, begin, feed_at, feed_next, is_read, no_frames, behind_body, feeding}
 use Rattle.rs_machines.proofs.FaultPlaces.{place_wants, wanted_by, fault_seen, is_named, is_named_in, is_named_of, NamedBy, PlaceAgrees, place_passes, tree_passes}
@@ -30,6 +30,8 @@ use Rattle.rs_text.proofs.Judging.{Here, Wholeness, a_faulty, a_whole, wholeness
 use Rattle.rs_text.proofs.Leading.{Reached, NotExpected, Lands, sign_behind, lexeme, Leads, leads_split}
 use Rattle.rs_text.specs.FirstFaults.{IsClear, IsWhole}
 use Rattle.rs_text.specs.Readings.{feed_sign}
+use Rattle.rs_text.proofs.Arms.{arm_not}
+use Rattle.rs_machines.specs.Misplaced.{fault_by, fault_of}
 
 -- a place stands behind these tokens
 abbrev pub There : List Sign → Type 0
@@ -94,14 +96,6 @@ named_reach : (c : MachineCut) → is_named_of c ≡ true → IsInReach c
 named_reach (in_body x body) h = named_ends body h
 named_reach _ h = tt
 
--- a word at the start of a body
-arm_no_body : (arm : ArmCut) → wanted_in_arm arm ≡ wanted.Body → ⊥
-arm_no_body at_label h = cc
-arm_no_body (behind_label l) h = cc
-arm_no_body (behind_paren l) h = cc
-arm_no_body (behind_sort l s) h = cc
-arm_no_body (behind_head l s) h = cc
-
 mark_no_body : (arm : ArmCut) → wanted_behind_mark arm ≡ wanted.Body → ⊥
 mark_no_body at_label h = cc
 mark_no_body (behind_label l) h = cc
@@ -123,7 +117,7 @@ mutual
   word_stands (behind_brace x y arms) w word n h = absurd (n h)
 
   word_stands_in : (a : BranchCut) (word : List ℕ) → wanted_in a ≡ wanted.Body → (d : BranchCut) × (branch_cut_signs d ≡ branch_cut_signs a ++ plain word ∷ []) × (is_named_in d ≡ true)
-  word_stands_in (in_head arm) word h = absurd (arm_no_body arm h)
+  word_stands_in (in_head arm) word h = absurd (arm_not arm wanted.Body refl h)
   word_stands_in (in_branch l s b) word h = let z = word_stands b wanted.CommaOrCloseBrace word (λ e. cc) h in (in_branch l s z.0, ap (λ o. arm_signs l s ++ o) z.1 ∙ sym (append_assoc (arm_signs l s) (cut_signs b) (plain word ∷ [])), z.2)
   word_stands_in (later l s b arms) word h = let z = word_stands_in arms word h in (later l s b z.0, ap (λ o. arm_signs l s ++ (body_signs b ++ comma ∷ o)) z.1 ∙ sym (append_assoc (arm_signs l s) (body_signs b ++ comma ∷ branch_cut_signs arms) (plain word ∷ []) ∙ ap (λ o. arm_signs l s ++ o) (append_assoc (body_signs b) (comma ∷ branch_cut_signs arms) (plain word ∷ []))), z.2)
 

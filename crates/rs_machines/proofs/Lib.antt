@@ -1,4 +1,3 @@
-pub mod Bindings
 pub mod Sounding
 pub mod FaultRuns
 pub mod FaultPlaces
@@ -34,7 +33,6 @@ pub mod CanonNumbers
 pub mod CanonWhole
 pub mod Printed
 pub mod BackFlags
-pub mod PlainNames
 pub mod ShapeSteps
 pub mod ShapeGoes
 pub mod ShapeGrown

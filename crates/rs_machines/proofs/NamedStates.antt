@@ -17,14 +17,11 @@ use Rattle.rs_machines.specs.Scenes.{Scene, with_label, in_act, in_braces, in_re
 use Rattle.rs_machines.specs.Spells.{has_room_for, body_fits, arms_fit, Fits, SpellsMachine}
 use Rattle.rs_machines.specs.Trees.{Body, ends, again, binds, acts, offers, Branches, one, more, MachineTree}
 use Rattle.rs_machines.proofs.SpeltShapes.{and_split, or_right, known_by}
+use Rattle.rs_text.proofs.Basics.{or_first}
 
 -- all of these names are among those
 abbrev Has : List (List ℕ) → List (List ℕ) → Type 0
 Has names all = (name : List ℕ) → is_among name names ≡ true → is_among name all ≡ true
-
-or_first : (a b : Bool) → a ≡ true → (a || b) ≡ true
-or_first true b h = refl
-or_first false b h = absurd (cc h)
 
 has_first : (l : List ℕ) (ls all : List (List ℕ)) → Has (l ∷ ls) all → is_among l all ≡ true
 has_first l ls all h = h l (or_first (bytes_eq l l) (is_among l ls) ((bytes_eq-Decides l l).1 refl))

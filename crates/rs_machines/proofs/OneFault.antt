@@ -8,7 +8,7 @@ use Rattle.rs_text.specs.declared.faults.Wanted.TheVariants as wanted
 use Rattle.rs_text.specs.Lexemes.{Lexeme, Lexed, signs_of}
 use Rattle.rs_text.specs.Signs.{Sign, rec_word, end_word, plain, open_brace, finish}
 use Rattle.rs_text.proofs.Nexts.{one_list}
-use Rattle.rs_text.specs.Arms.{wanted_in_arm, ArmCut, at_label, behind_label, behind_paren, behind_sort, behind_head}
+use Rattle.rs_text.specs.Arms.{ArmCut, at_label, behind_label, behind_paren, behind_sort, behind_head}
 use Rattle.rs_machines.specs.declared.reading.Frame.{Frame}
 use Rattle.rs_machines.specs.declared.reading.Mode.{Mode}
 use Rattle.rs_machines.specs.declared.reading.Mode.TheVariants as mode
@@ -19,7 +19,7 @@ use Rattle.rs_model.specs.Data.{Names_data}
 use Rattle.rs_machines.specs.declared.marks.Mark.TheVariants as mark
 use Rattle.rs_text.specs.Names.{is_among, bound_to, grown}
 use Rattle.std.proofs.Common.{nat_le, nat_lt}
-use Rattle.rs_machines.specs.Scenes.{Scene, fault_by, fault_of, fault_of_name, fault_of_word, fault_of_label}
+use Rattle.rs_machines.specs.Scenes.{Scene}
 use Rattle.rs_machines.specs.Faults.{Begins, IsWithin, EndsByName, IsInReach, IsUnexpected, FaultAt, FirstFault, LeavesNames, names_behind, labels_among}
 use Rattle.rs_machines.specs.Feeding.{Fed, Answer, begin, feed_at, feed_next, is_read, no_frames, behind_body, answered, ReadsAs, feeding}
 use Rattle.rs_machines.proofs.FaultRuns.{Follower, a_mark, a_broken, a_name, follower}
@@ -33,15 +33,10 @@ use Rattle.rs_text.proofs.Keeping.{tokens}
 use Rattle.rs_text.specs.Readings.{Reading, feed_sign, read_all, last_of}
 use Rattle.rs_machines.proofs.Labels.{Tracks, track_first, track_on, track_word}
 use Rattle.rs_text.specs.FirstFaults.{IsWhole, next_of}
+use Rattle.rs_text.proofs.Arms.{arm_not}
+use Rattle.rs_machines.specs.Misplaced.{fault_by, fault_of, fault_of_name, fault_of_word, fault_of_label}
 
 -- ---- places behind the machine
-
-arm_no_part : (arm : ArmCut) → wanted_in_arm arm ≡ wanted.PartOrEnd → ⊥
-arm_no_part at_label h = cc
-arm_no_part (behind_label l) h = cc
-arm_no_part (behind_paren l) h = cc
-arm_no_part (behind_sort l s) h = cc
-arm_no_part (behind_head l s) h = cc
 
 mark_no_part : (arm : ArmCut) → wanted_behind_mark arm ≡ wanted.PartOrEnd → ⊥
 mark_no_part at_label h = cc
@@ -64,7 +59,7 @@ mutual
   no_part (behind_brace x y arms) w n h = n h
 
   no_part_in : (a : BranchCut) → wanted_in a ≡ wanted.PartOrEnd → ⊥
-  no_part_in (in_head arm) h = arm_no_part arm h
+  no_part_in (in_head arm) h = arm_not arm wanted.PartOrEnd refl h
   no_part_in (in_branch l s b) h = no_part b wanted.CommaOrCloseBrace (λ e. cc) h
   no_part_in (later l s b arms) h = no_part_in arms h
 

@@ -8,7 +8,6 @@ use Rattle.rs_model.specs.declared.machines.State.TheVariants.{Done, Puts, Takes
 use Rattle.rs_machines.specs.declared.marks.Mark.{Mark}
 use Rattle.rs_machines.specs.declared.marks.Mark.TheVariants as mark
 use Rattle.rs_machines.specs.Machines.{state_of}
-use Rattle.rs_machines.specs.Tables.{name_at}
 use Rattle.rs_machines.proofs.EndsLast.{EndsLast}
 use Rattle.rs_model.specs.declared.graph.Role.{Role}
 use Rattle.rs_model.specs.declared.values.Sort.{Sort}
@@ -16,8 +15,10 @@ use Rattle.rs_text.proofs.Gaps.{true_or_false}
 use Rattle.rs_machines.specs.declared.printing.Target.{Target}
 use Rattle.rs_machines.specs.Canonical.{name_of_state, IsGoneBackTo, IsActOf, IsArmOf, Draws, DrawsAct, DrawsArms, IsCanonical, IsCanonicalMachineText}
 use Rattle.rs_machines.specs.Printing.{AreBack, pair_text, head_text, rec_text, Step, step, opened, target, Brace_data, arms_step, act_step, whole_step, state_step, brace_step, Printer_data, turned, turned_by, is_left, begins_with}
-use Rattle.rs_machines.specs.Texts.{arm_text, body_text, branches_text, mark_text}
+use Rattle.rs_machines.specs.Texts.{body_text, branches_text, mark_text}
 use Rattle.rs_machines.specs.Trees.{Body, ends, again, binds, acts, offers, Branches, one, more, MachineTree}
+use Rattle.rs_text.specs.Names.{name_at}
+use Rattle.rs_text.specs.Arms.{arm_text}
 
 -- ---- what is still to be written
 

@@ -1,7 +1,6 @@
 -- The walk over the graph that a tree spells goes to its end.
-use Rattle.std.proofs.Common.{◌≡◌, ◌≢◌, ℕ, zero, suc, ◌+◌, ◌<◌, ◌≤◌, List, [], ◌∷◌, ◌++◌, length, drop, Bool, true, false, ◌==◌, ◌&&◌, ◌||◌, if◌then◌else◌, nat_lt, Option, Some, None, inl, inr, refl, sym, ap, ◌∙◌, arith, slice_get, append_assoc, length-append}
+use Rattle.std.proofs.Common.{◌≡◌, ◌≢◌, ℕ, zero, suc, ◌+◌, ◌<◌, ◌≤◌, List, [], ◌∷◌, ◌++◌, length, drop, Bool, true, false, ◌==◌, ◌&&◌, ◌||◌, if◌then◌else◌, nat_lt, Option, Some, None, refl, sym, ap, ◌∙◌, arith, slice_get, append_assoc, length-append}
 use Rattle.std.proofs.lemmas.Bool.{ltb-true, lt-ltb, eq-eqb, le-ltb, le-leb}
-use Rattle.std.proofs.lemmas.Bool.Decides.{eqb_tells}
 use Rattle.std.proofs.lemmas.List.Folds.{list_any-append}
 use Rattle.std.proofs.Math.Seq.{drop-append_seam}
 use Rattle.std.specs.List.{list_any}
@@ -18,9 +17,10 @@ use Rattle.rs_machines.specs.Trees.{Body, ends, again, binds, acts, offers, Bran
 use Rattle.rs_machines.specs.Machines.{state_of, labels_of, acts_in, acts_in_arms, has_end, has_end_arms, Numbering, role_of, first_state, arm_of, arms_of, act_of, states_of, states_of_arms}
 use Rattle.rs_machines.specs.Spells.{is_guarded, has_room_for, body_fits, arms_fit}
 use Rattle.rs_machines.specs.Shapes.{leads_to, act_leads, leads_from, last_of, met, or_none, arms_met, closed, deeper, are_more, is_none, nested, is_fit, one_more, act_met, state_met, visited}
-use Rattle.rs_machines.proofs.CanonForms.{Low, low_rec, low_up, Ins, ins_rec, both, Named, NamedArms, leads_as}
+use Rattle.rs_machines.proofs.CanonForms.{Low, low_rec, low_up, Ins, ins_rec, Named, NamedArms, leads_as}
 use Rattle.rs_machines.proofs.CanonNest.{Recs, RecsArms, scene}
 use Rattle.rs_machines.proofs.Existence.{states_length, arms_length, one_longer, at_seam}
+use Rattle.rs_text.proofs.Basics.{both, or_true, or_false, or_assoc, false_or, and_false, not_equal}
 
 abbrev walk : ℕ → Bool → Walk
 walk count ended = record { count = count; ended = ended }
@@ -29,13 +29,6 @@ walk_is : (a b : ℕ) (e f : Bool) → a ≡ b → e ≡ f → Some (walk a e) �
 walk_is a b e f g h = ap (λ z. Some (walk z e)) g ∙ ap (λ z. Some (walk b z)) h
 
 -- ---- no arm leads elsewhere
-
-false_or : (a b : Bool) → a ≡ false → b ≡ false → (a || b) ≡ false
-false_or true b h k = absurd (cc h)
-false_or false b h k = k
-
-not_equal : (n v : ℕ) → n ≢ v → (n == v) ≡ false
-not_equal n v ne = elim (eqb_tells n v) [ inl e ↦ absurd (ne e.1) | inr e ↦ e.0 ]
 
 -- no name leads to v
 abbrev Unbound : Bound → ℕ → Type 0
@@ -87,10 +80,6 @@ met_back visit last from next w lt = rw (lt-ltb next from lt) refl
 met_new : (visit : ℕ → Walk → Option Walk) (last from k : ℕ) (ended : Bool) → from ≤ k → k < last → met visit last from k (walk k ended) ≡ visit k (walk k ended)
 met_new visit last from k ended le lt = rw (le-ltb k from le, eq-eqb k k refl, lt-ltb k last lt) refl
 
-and_false : (a : Bool) → (a && false) ≡ false
-and_false true = refl
-and_false false = refl
-
 met_end : (visit : ℕ → Walk → Option Walk) (last from : ℕ) (count : ℕ) (ended : Bool) → from ≤ last → met visit last from last (walk count ended) ≡ Some (walk count true)
 met_end visit last from count ended le = rw (le-ltb last from le, le-ltb last last (omega arith), and_false (last == count), eq-eqb last last refl) refl
 
@@ -128,18 +117,6 @@ drop_post : (states pre xs post : List State) (n : ℕ) → states ≡ pre ++ (x
 drop_post states pre xs post n e h =
     let size : n ≡ length (pre ++ xs) = h ∙ sym (length-append pre xs) in
     ap (drop n) (e ∙ sym (append_assoc pre xs post)) ∙ ap (λ z. drop z ((pre ++ xs) ++ post)) size ∙ drop-append_seam (pre ++ xs) post
-
-or_false : (a : Bool) → a ≡ (a || false)
-or_false true = refl
-or_false false = refl
-
-or_true : (a : Bool) → true ≡ (a || true)
-or_true true = refl
-or_true false = refl
-
-or_assoc : (a b c : Bool) → ((a || b) || c) ≡ (a || (b || c))
-or_assoc true b c = refl
-or_assoc false b c = refl
 
 low_unbound : (bound : Bound) (n v : ℕ) → Low bound n → n < v → Unbound bound v
 low_unbound bound n v low lt x e = let h : v < n + 1 = low x v e in omega arith

@@ -14,7 +14,7 @@ use Rattle.rs_model.specs.declared.graph.Label.{Label}
 use Rattle.rs_model.specs.declared.values.Sort.{Sort}
 use Rattle.rs_text.proofs.Gaps.{true_or_false}
 use Rattle.rs_text.proofs.Naming.{grown_append, among}
-use Rattle.rs_text.specs.Arms.{sort_or_unit}
+use Rattle.rs_text.specs.Arms.{sort_or_unit, shown_sort}
 use Rattle.rs_text.specs.Names.{Bound, bound_to, number_or, grown, is_among, place_of}
 use Rattle.rs_text.specs.Words.{is_role_word}
 use Rattle.rs_machines.specs.declared.marks.Mark.{Mark}
@@ -23,15 +23,17 @@ use Rattle.rs_machines.specs.declared.shapes.Walk.{Walk}
 use Rattle.rs_machines.specs.Trees.{Body, ends, again, Branches, one, more}
 use Rattle.rs_machines.specs.Machines.{state_of, labels_of, labels_of_arms, acts_in, acts_in_arms, has_end, has_end_arms, Numbering, role_of, first_state, arm_of, arms_of, states_of, states_of_arms}
 use Rattle.rs_machines.specs.Spells.{is_guarded, has_room_for, body_fits, arms_fit}
-use Rattle.rs_machines.specs.Canonical.{name_of_state, shown_sort}
+use Rattle.rs_machines.specs.Canonical.{name_of_state}
 use Rattle.rs_machines.specs.Writable.{AreWordsIn, AreWordsInArms}
 use Rattle.rs_machines.specs.Shapes.{is_small_arm, leads_to, act_leads, leads_from, last_of, met, or_none, arms_met, closed, deeper, are_more, nested, is_fit, one_more, act_met, state_met, visited, to_end}
-use Rattle.rs_machines.proofs.CanonForms.{any_stands, stands_any, drop_get, wrapped, offered, both, leads_as}
-use Rattle.rs_machines.proofs.CanonNest.{scene, all_true, wrapped_fits}
-use Rattle.rs_machines.proofs.CanonSame.{state_name_is, opened_for, wrapped_acts, offered_acts, wrapped_end, offered_end, wrapped_labels, offered_labels, wrapped_states, wrapped_first, offered_states, offered_first, sort_same}
+use Rattle.rs_machines.proofs.CanonForms.{wrapped, offered, leads_as}
+use Rattle.rs_machines.proofs.CanonNest.{scene, wrapped_fits}
+use Rattle.rs_machines.proofs.CanonSame.{state_name_is, opened_for, wrapped_acts, offered_acts, wrapped_end, offered_end, wrapped_labels, offered_labels, wrapped_states, wrapped_first, offered_states, offered_first}
 use Rattle.rs_machines.proofs.CanonWhole.{one_words}
 use Rattle.rs_machines.proofs.StateNames.{state_name_law}
-use Rattle.rs_machines.proofs.PlainNames.{plain_name, plain_role, plain_label}
+use Rattle.rs_text.proofs.PlainNames.{plain_name, plain_role, plain_label}
+use Rattle.rs_text.proofs.Basics.{some_is, two_true, both, or_true, or_false, or_assoc, or_first, any_stands, stands_any, drop_get}
+use Rattle.rs_text.proofs.Arms.{sort_same}
 
 -- ---- cases of options
 
@@ -42,9 +44,6 @@ if_true false x y e = absurd (cc e)
 if_false : (c : Bool) (x y : Option Walk) → c ≡ false → (if c then x else y) ≡ y
 if_false true x y e = absurd (cc e)
 if_false false x y e = refl
-
-walk_some : (x y : Walk) → Some x ≡ Some y → x ≡ y
-walk_some x y h = cc
 
 abbrev nothing : Option Walk
 nothing = None
@@ -90,12 +89,9 @@ arm_leads states n y s arms place a e f =
     stands_any State (act_leads a.next) (drop n states) 0 (state_of y s arms) (drop_get State n states 0 ∙ ap (λ z. slice_get states z) same ∙ e)
     (leads_as a.next y s arms ∙ stands_any Arm (leads_to a.next) arms place a f (eq-eqb a.next a.next refl))
 
-state_some : (x y : State) → Some x ≡ Some y → x ≡ y
-state_some x y h = cc
-
 drop_at : (states : List State) (n : ℕ) (x : State) → slice_get states n ≡ Some x → drop n states ≡ x ∷ drop (suc n) states
 drop_at [] n x e = absurd (cc e)
-drop_at (y ∷ states) zero x e = ap (λ z. z ∷ states) (state_some y x e)
+drop_at (y ∷ states) zero x e = ap (λ z. z ∷ states) (some_is y x e)
 drop_at (y ∷ states) (suc n) x e = drop_at states n x e
 
 -- the acts before `count` that are gone back to from there on have names
@@ -133,22 +129,6 @@ record GrownArms (p : Machine_data) (names : Names_data) (bound : Bound) (depth 
   shut : Closed p w.count u.count
   shape : two branches ≡ are_more arms
   within : u.count ≤ last_of p.states
-
-or_false : (a : Bool) → a ≡ (a || false)
-or_false true = refl
-or_false false = refl
-
-or_true : (a : Bool) → true ≡ (a || true)
-or_true true = refl
-or_true false = refl
-
-or_assoc : (a b c : Bool) → ((a || b) || c) ≡ (a || (b || c))
-or_assoc true b c = refl
-or_assoc false b c = refl
-
-or_first : (a b : Bool) → a ≡ true → (a || b) ≡ true
-or_first true b h = refl
-or_first false b h = absurd (cc h)
 
 -- ---- a way back, and an end
 
@@ -195,7 +175,7 @@ pub met_grown : (p : Machine_data) (names : Names_data) (bound : Bound) (depth :
 met_grown p names bound depth visit from to w u plain grows le within named back h = elim (true_or_false (nat_lt to from)) [
   | inl e ↦ (
       let lt : to < from = ltb-true to from e in
-      let same : w ≡ u = walk_some w u (sym (if_true (nat_lt to from) (Some w) (if to == w.count && nat_lt to (last_of p.states) then visit to w else to_end (last_of p.states) to w) e) ∙ h) in
+      let same : w ≡ u = some_is w u (sym (if_true (nat_lt to from) (Some w) (if to == w.count && nat_lt to (last_of p.states) then visit to w else to_end (last_of p.states) to w) e) ∙ h) in
       subst (λ (z : Walk). Grown p names bound depth w z to) same (back_grown p names bound depth to w plain (omega arith) within (back lt)))
   | inr e ↦ (
       let h2 = sym (if_false (nat_lt to from) (Some w) (if to == w.count && nat_lt to (last_of p.states) then visit to w else to_end (last_of p.states) to w) e) ∙ h in
@@ -207,7 +187,7 @@ met_grown p names bound depth visit from to w u plain grows le within named back
             let h3 = sym (if_false (to == w.count && nat_lt to (last_of p.states)) (visit to w) (to_end (last_of p.states) to w) f) ∙ h2 in
             elim (true_or_false (to == last_of p.states)) [
               | inl i ↦ (
-                  let same : record w { ended = true } ≡ u = walk_some (record w { ended = true }) u (sym (if_true (to == last_of p.states) (Some (record w { ended = true })) None i) ∙ h3) in
+                  let same : record w { ended = true } ≡ u = some_is (record w { ended = true }) u (sym (if_true (to == last_of p.states) (Some (record w { ended = true })) None i) ∙ h3) in
                   subst (λ (z : ℕ). Grown p names bound depth w u z) (sym (eqb-true to (last_of p.states) i)) (subst (λ (z : Walk). Grown p names bound depth w z (last_of p.states)) same (end_grown p names bound depth w within)))
               | inr i ↦ absurd (not_some u (sym (if_false (to == last_of p.states) (Some (record w { ended = true })) None i) ∙ h3))
             ])
@@ -258,7 +238,7 @@ one_grown p names bound depth a w u plain small g =
       counts = g.counts;
       labels = ap (λ z. grown z (labels_of g.body)) same ∙ g.labels;
       ended = g.ended;
-      fits = all_true (has_room_for l (scene names.roles bound depth w.count names.labels)) (body_fits g.body (scene names.roles bound depth w.count (grown names.labels (l ∷ []))))
+      fits = two_true (has_room_for l (scene names.roles bound depth w.count names.labels)) (body_fits g.body (scene names.roles bound depth w.count (grown names.labels (l ∷ []))))
           (or_first (is_among l names.labels) (nat_lt (length names.labels) 256) known) (subst (λ (z : List (List ℕ)). body_fits g.body (scene names.roles bound depth w.count z) ≡ true) (sym same) g.fits);
       words = (plain_label a.label.0 (omega arith), g.words);
       shut = g.shut;
@@ -285,9 +265,9 @@ more_grown p names bound depth a b bs w x u plain small g r =
       counts = omega arith;
       labels = grown_append (labels_of g.body) (labels_of_arms r.branches) (grown names.labels (l ∷ [])) ∙ ap (λ z. grown z (labels_of_arms r.branches)) labels ∙ r.labels;
       ended = r.ended ∙ ap (λ z. z || has_end_arms r.branches) g.ended ∙ or_assoc w.ended (has_end g.body) (has_end_arms r.branches);
-      fits = all_true (has_room_for l (scene roles bound depth w.count names.labels) && body_fits g.body (scene roles bound depth w.count (grown names.labels (l ∷ []))))
+      fits = two_true (has_room_for l (scene roles bound depth w.count names.labels) && body_fits g.body (scene roles bound depth w.count (grown names.labels (l ∷ []))))
           (arms_fit r.branches (scene roles bound depth (w.count + acts_in g.body) (grown (grown names.labels (l ∷ [])) (labels_of g.body))))
-          (all_true (has_room_for l (scene roles bound depth w.count names.labels)) (body_fits g.body (scene roles bound depth w.count (grown names.labels (l ∷ []))))
+          (two_true (has_room_for l (scene roles bound depth w.count names.labels)) (body_fits g.body (scene roles bound depth w.count (grown names.labels (l ∷ []))))
           (or_first (is_among l names.labels) (nat_lt (length names.labels) 256) known) (subst (λ (z : List (List ℕ)). body_fits g.body (scene roles bound depth w.count z) ≡ true) (sym same) g.fits))
           (subst (λ (z : ℕ). arms_fit r.branches (scene roles bound depth z (grown (grown names.labels (l ∷ [])) (labels_of g.body))) ≡ true) (sym counts)
           (subst (λ (z : List (List ℕ)). arms_fit r.branches (scene roles bound depth x.count z) ≡ true) (sym labels) r.fits));
@@ -306,7 +286,7 @@ arms_grown [] p names bound depth visit from a w u plain small grows le within n
     let s = both (is_small_arm a) true small in
     let x = chained (arms_met visit (last_of p.states) from []) (met visit (last_of p.states) from a.next w) u h in
     let g : Grown p names bound depth w x.0 a.next = met_grown p names bound depth visit from a.next w x.0 plain grows le within named (led 0 a refl) x.1 in
-    subst (λ (z : Walk). GrownArms p names bound depth w z (a ∷ [])) (walk_some x.0 u x.2) (one_grown p names bound depth a w x.0 plain s.0 g)
+    subst (λ (z : Walk). GrownArms p names bound depth w z (a ∷ [])) (some_is x.0 u x.2) (one_grown p names bound depth a w x.0 plain s.0 g)
 arms_grown (b ∷ bs) p names bound depth visit from a w u plain small grows le within named led h =
     let s = both (is_small_arm a) (list_all is_small_arm (b ∷ bs)) small in
     let x = chained (arms_met visit (last_of p.states) from (b ∷ bs)) (met visit (last_of p.states) from a.next w) u h in
@@ -327,11 +307,11 @@ opened_names false n v bound a b f g = f (λ same. cc (g same))
 offered_fits : (b : Branches) (s : List ℕ) (r : Mark) (roles : List (List ℕ)) (bound : Bound) (d k : ℕ) (ls : List (List ℕ)) → is_among s roles ≡ true → k < 256 → deeper (two b) d ≤ 200 → arms_fit b (scene roles bound (deeper (two b) d) (suc k) ls) ≡ true → body_fits (offered s r b) (scene roles bound d k ls) ≡ true
 offered_fits (one l sort b) s r roles bound d k ls known few low h =
     let q = both (has_room_for l (scene roles bound d (suc k) ls)) (body_fits b (scene roles bound d (suc k) (grown ls (l ∷ [])))) h in
-    all_true (is_among s roles && nat_lt k 256 && has_room_for l (scene roles bound d k ls)) (body_fits b (scene roles bound d (suc k) (grown ls (l ∷ []))))
-    (all_true (is_among s roles && nat_lt k 256) (has_room_for l (scene roles bound d k ls)) (all_true (is_among s roles) (nat_lt k 256) known (lt-ltb k 256 few)) q.0) q.1
+    two_true (is_among s roles && nat_lt k 256 && has_room_for l (scene roles bound d k ls)) (body_fits b (scene roles bound d (suc k) (grown ls (l ∷ []))))
+    (two_true (is_among s roles && nat_lt k 256) (has_room_for l (scene roles bound d k ls)) (two_true (is_among s roles) (nat_lt k 256) known (lt-ltb k 256 few)) q.0) q.1
 offered_fits (more l sort b arms) s r roles bound d k ls known few low h =
-    all_true (is_among s roles && nat_lt k 256 && nat_lt d 200) (arms_fit (more l sort b arms) (scene roles bound (suc d) (suc k) ls))
-    (all_true (is_among s roles && nat_lt k 256) (nat_lt d 200) (all_true (is_among s roles) (nat_lt k 256) known (lt-ltb k 256 few)) (lt-ltb d 200 (omega arith))) h
+    two_true (is_among s roles && nat_lt k 256 && nat_lt d 200) (arms_fit (more l sort b arms) (scene roles bound (suc d) (suc k) ls))
+    (two_true (is_among s roles && nat_lt k 256) (nat_lt d 200) (two_true (is_among s roles) (nat_lt k 256) known (lt-ltb k 256 few)) (lt-ltb d 200 (omega arith))) h
 
 offered_words : (b : Branches) (s : List ℕ) (r : Mark) → is_role_word s ≡ true → AreWordsInArms b → AreWordsIn (offered s r b)
 offered_words (one l sort b) s r x h = (x, h.0, h.1)
@@ -411,7 +391,7 @@ whole_grown (a ∷ arms) p names bound depth visit y s w u plain grows there lt 
           elim (true_or_false (leads_from p.states x.0.count n)) [
             | inl f ↦ absurd (not_some u (sym (if_true (leads_from p.states x.0.count n) None (Some x.0) f) ∙ x.2))
             | inr f ↦ (
-                let same : x.0 ≡ u = walk_some x.0 u (sym (if_false (leads_from p.states x.0.count n) None (Some x.0) f) ∙ x.2) in
+                let same : x.0 ≡ u = some_is x.0 u (sym (if_false (leads_from p.states x.0.count n) None (Some x.0) f) ∙ x.2) in
                 subst (λ (z : Walk). Grown p names bound depth w z n) same (act_grown p names bound depth y s a arms w x.0 plain there lt low f g))
           ])
       | inr e ↦ absurd (not_some u (sym (if_false (is_fit inner ours) (or_none (closed p.states n) (arms_met (visit inner) (last_of p.states) (suc n) ours (one_more w))) None e) ∙ h))

@@ -23,14 +23,15 @@ use Rattle.rs_machines.specs.Texts.{machine_text}
 use Rattle.rs_machines.specs.Trees.{MachineTree}
 use Rattle.rs_machines.specs.Writable.{AreWords}
 use Rattle.rs_machines.proofs.Acts.{is_act}
-use Rattle.rs_machines.proofs.CanonForms.{back_is, seam, both, fits_named}
+use Rattle.rs_machines.proofs.CanonForms.{back_is, fits_named}
 use Rattle.rs_machines.proofs.CanonNest.{Recs, tree_recs, fits_acts}
 use Rattle.rs_machines.proofs.EndsLast.{all_acts}
 use Rattle.rs_machines.proofs.Existence.{states_length}
-use Rattle.rs_machines.proofs.PlainNames.{plain_name, plain_names, plain_place, plain_role}
+use Rattle.rs_text.proofs.PlainNames.{plain_name, plain_names, plain_place, plain_role}
 use Rattle.rs_machines.proofs.PrintedTrees.{lone_tree_spelt}
 use Rattle.rs_machines.proofs.ShapeGoes.{goes}
 use Rattle.rs_machines.proofs.ShapeGrown.{Plain, Grown, numbers, met_grown, visited_grown, role_numbered}
+use Rattle.rs_text.proofs.Basics.{some_is, both, seam}
 
 -- ---- the end of a machine
 
@@ -113,9 +114,6 @@ shaped_is_walked p s = ap walks s.spells.machine_is ∙ tree_walks s.old s.spell
 
 -- ---- what is walked to its end has a text
 
-state_some : (x y : State) → Some x ≡ Some y → x ≡ y
-state_some x y h = cc
-
 ends_at : (o : Option State) → is_end_at o ≡ true → o ≡ Some Done
 ends_at None h = absurd (cc h)
 ends_at (Some Done) h = refl
@@ -124,7 +122,7 @@ ends_at (Some (Takes p arms)) h = absurd (cc h)
 
 drop_end : (states : List State) → slice_get states (length states - 1) ≡ Some Done → drop (length states - 1) states ≡ Done ∷ []
 drop_end [] e = absurd (cc e)
-drop_end (x ∷ []) e = ap (λ z. z ∷ []) (state_some x Done e)
+drop_end (x ∷ []) e = ap (λ z. z ∷ []) (some_is x Done e)
 drop_end (x ∷ y ∷ states) e =
     let one : length (x ∷ y ∷ states) - 1 ≡ suc (length (y ∷ states) - 1) = omega arith in
     ap (λ z. drop z (x ∷ y ∷ states)) one ∙ drop_end (y ∷ states) (ap (λ z. slice_get (x ∷ y ∷ states) z) (sym one) ∙ e)
@@ -160,7 +158,7 @@ names_by r l = record { roles = plain_names 82 r; labels = plain_names 108 l }
 
 small_at : (xs : List State) (n : ℕ) (x : State) → list_all is_small_state xs ≡ true → slice_get xs n ≡ Some x → is_small_state x ≡ true
 small_at [] n x h e = absurd (cc e)
-small_at (y ∷ xs) zero x h e = subst (λ (z : State). is_small_state z ≡ true) (state_some y x e) (both (is_small_state y) (list_all is_small_state xs) h).0
+small_at (y ∷ xs) zero x h e = subst (λ (z : State). is_small_state z ≡ true) (some_is y x e) (both (is_small_state y) (list_all is_small_state xs) h).0
 small_at (y ∷ xs) (suc n) x h e = small_at xs n x (both (is_small_state y) (list_all is_small_state xs) h).1 e
 
 small_act : (y : Mark) (p : Role) (arms : List Arm) → is_small_state (state_of y p arms) ≡ true → (is_small_role p ≡ true) × (list_all is_small_arm arms ≡ true)

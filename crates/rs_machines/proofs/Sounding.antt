@@ -16,7 +16,7 @@ use Rattle.rs_text.specs.Signs.{Sign, rec_word, end_word, plain, bang, question,
 use Rattle.rs_text.specs.Sound.{differ, IsSound}
 use Rattle.rs_text.specs.Data.{Lexer_data}
 use Rattle.rs_text.specs.Words.{is_word, is_role_word}
-use Rattle.rs_text.proofs.Naming.{grown_differ, grown_all, not_among, decides_sound}
+use Rattle.rs_text.proofs.Naming.{not_among, decides_sound, new_differ, new_all}
 use Rattle.rs_text.proofs.Nexts.{next_is_next, plain_law}
 use Rattle.rs_text.specs.Seen.{sort_named, plain_text, word_text, is_text}
 use Rattle.rs_machines.specs.declared.marks.Mark.{Mark}
@@ -29,6 +29,7 @@ use Rattle.rs_machines.specs.Drafts.{names_read}
 use Rattle.rs_machines.specs.Faults.{Keeps}
 use Rattle.rs_machines.specs.Data.{Reader_data}
 use Rattle.rs_machines.specs.Feeding.{Fed, in_mode, linked, feed_at, feed_of, feed_role, role_by, met_by, marked, feed_word, feed_body, named, feed_next, feed_head, feed_label, label_wanted, labelled_by, sorted_by}
+use Rattle.rs_text.proofs.Basics.{some_is}
 
 -- names that are still sound, with further labels behind the old ones
 pub record GoodNames (old : Names_data) (roles labels : List (List ℕ)) : Type 0 where
@@ -52,15 +53,6 @@ keep_if false old e x h = h
 keep_unless : (c : Bool) (old : Names_data) (e : TextFault) (x : Fed) → IfOk x (Good old) → IfOk (cond c x (Err e)) (Good old)
 keep_unless true old e x h = h
 keep_unless false old e x h = tt
-
-new_differ : (names : List (List ℕ)) (w : List ℕ) → is_among w names ≡ false → differ names ≡ true → differ (names ++ w ∷ []) ≡ true
-new_differ names w e h = rw e at (grown_differ (w ∷ []) names h)
-
-new_all : (test : List ℕ → Bool) (names : List (List ℕ)) (w : List ℕ) → is_among w names ≡ false → list_all test names ≡ true → test w ≡ true → list_all test (names ++ w ∷ []) ≡ true
-new_all test names w e h k = rw e at (grown_all test (w ∷ []) names h (rw k refl))
-
-some_is : (x y : List ℕ) → Some x ≡ Some y → x ≡ y
-some_is x y h = cc
 
 plain_named : (t : Sign) → Named t → (w : List ℕ) → plain_text t ≡ Some w → is_role_word w ≡ true
 plain_named (plain x) n w h = n w (ap plain (some_is x w h))

@@ -2,17 +2,11 @@
 use Rattle.std.proofs.Common.{◌≡◌, ◌∷◌, ◌++◌, codes, refl, ap}
 use Rattle.rs_text.specs.declared.faults.Wanted.TheVariants as wanted
 use Rattle.rs_text.specs.Signs.{rec_word, plain, colon, dot}
-use Rattle.rs_text.specs.Arms.{arm_signs, ArmCut, at_label, behind_label, behind_paren, behind_sort, behind_head, wanted_in_arm}
+use Rattle.rs_text.specs.Arms.{arm_signs, ArmCut, at_label, behind_label, behind_paren, behind_sort, behind_head}
 use Rattle.rs_machines.specs.Trees.{Body, ends, again, binds, acts, offers, MachineTree, mark_sign, body_signs, machine_signs, ends_by_name}
 use Rattle.rs_machines.specs.Cuts.{Cut, at_body, behind_end, behind_name, behind_rec, behind_rec_name, in_binds, in_arm, in_acts, in_offers, behind_brace, BranchCut, in_head, in_branch, later, MachineCut, in_body, cut_signs, machine_cut_signs, wanted_at, wanted_in, wanted_behind_mark}
 use Rattle.rs_machines.proofs.FaultPlaces.{place_wants, is_named, is_named_of}
-
-arm_inside : (arm : ArmCut) → wanted_in_arm arm ≡ wanted.PartOrEnd → ⊥
-arm_inside at_label h = cc
-arm_inside (behind_label l) h = cc
-arm_inside (behind_paren l) h = cc
-arm_inside (behind_sort l s) h = cc
-arm_inside (behind_head l s) h = cc
+use Rattle.rs_text.proofs.Arms.{arm_not}
 
 mark_inside : (arm : ArmCut) → wanted_behind_mark arm ≡ wanted.PartOrEnd → ⊥
 mark_inside at_label h = cc
@@ -35,7 +29,7 @@ mutual
   inside (behind_brace x y arms) h = cc
 
   inside_arms : (a : BranchCut) → wanted_in a ≡ wanted.PartOrEnd → ⊥
-  inside_arms (in_head arm) h = arm_inside arm h
+  inside_arms (in_head arm) h = arm_not arm wanted.PartOrEnd refl h
   inside_arms (in_branch l s b) h = inside b h
   inside_arms (later l s b arms) h = inside_arms arms h
 

@@ -1,17 +1,17 @@
--- The canonical text of a machine, and which machines have one.
-use Rattle.std.specs.Prelude.{◌≡◌, ℕ, ◌<◌, ◌≤◌, ◌+◌, List, [], ◌∷◌, ◌++◌, codes, Option, Some, None, slice_get}
+-- Believed: the canonical text of a machine, and which machines have one.
+use Rattle.std.specs.Prelude.{◌≡◌, ℕ, ◌<◌, ◌≤◌, ◌+◌, List, [], ◌∷◌, ◌++◌, codes, Option, Some, slice_get}
 use Rattle.std.specs.Fmt.{decimal}
 use Rattle.rs_model.specs.Data.{Machine_data, Names_data}
 use Rattle.rs_model.specs.declared.graph.Arm.{Arm}
 use Rattle.rs_model.specs.declared.machines.State.TheVariants.{Done}
 use Rattle.rs_model.specs.declared.graph.Role.{Role}
 use Rattle.rs_model.specs.declared.values.Sort.{Sort}
-use Rattle.rs_model.specs.declared.values.Sort.TheVariants as sort
 use Rattle.rs_machines.specs.declared.marks.Mark.{Mark}
 use Rattle.rs_machines.specs.Machines.{state_of}
 use Rattle.rs_machines.specs.Trees.{Body, ends, again, binds, acts, offers, Branches, one, more, MachineTree}
 use Rattle.rs_machines.specs.Texts.{machine_text}
 use Rattle.rs_machines.specs.Spells.{SpellsMachine}
+use Rattle.rs_text.specs.Arms.{shown_sort}
 
 -- some machine part reads to the machine
 pub record IsMachineTextShaped (machine : Machine_data) : Type 0 where
@@ -25,11 +25,6 @@ pub record IsMachineTextShaped (machine : Machine_data) : Type 0 where
 -- the recursion name of state n: X and the number
 abbrev pub name_of_state : ℕ → List ℕ
 name_of_state n = codes "X" ++ decimal n
-
--- the unit isn't written
-abbrev pub shown_sort : Sort → Option Sort
-shown_sort sort.Unit = None
-shown_sort s = Some s
 
 -- an arm of state n or a later one leads to n
 pub record IsGoneBackTo (machine : Machine_data) (n : ℕ) : Type 0 where

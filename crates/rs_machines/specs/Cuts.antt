@@ -1,4 +1,4 @@
--- The places of the grammar, and what is wanted there.
+-- Believed: the places of the grammar, and what is wanted there.
 use Rattle.std.specs.Prelude.{ℕ, List, [], ◌∷◌, ◌++◌, codes, Option}
 use Rattle.rs_model.specs.declared.values.Sort.{Sort}
 use Rattle.rs_text.specs.Signs.{Sign, rec_word, end_word, plain, colon, dot, comma, open_brace, close_brace}

@@ -1,4 +1,4 @@
--- What contracts see of the reader's own types.
+-- Steps: what contracts see of the reader's own types.
 use Rattle.std.specs.Prelude.{ℕ, List, Option, Bool}
 use Rattle.rs_model.specs.declared.graph.Role.{Role}
 use Rattle.rs_text.specs.Names.{Bound}

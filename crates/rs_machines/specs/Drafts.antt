@@ -1,4 +1,4 @@
--- Acts that are still read, and the machine that is made of them.
+-- Steps: acts that are still read, and the machine that is made of them.
 use Rattle.std.specs.Prelude.{ℕ, List, [], ◌∷◌, ◌++◌, length, map, Option, Some, None, slice_set}
 use Rattle.rs_model.specs.Data.{Machine_data, Names_data}
 use Rattle.rs_model.specs.declared.graph.Arm.{Arm}

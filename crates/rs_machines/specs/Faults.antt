@@ -1,4 +1,4 @@
--- The first fault of a text, and the names that it leaves.
+-- Believed: the first fault of a text, and the names that it leaves.
 use Rattle.std.specs.Prelude.{◌≡◌, ℕ, ◌⊎◌, List, [], ◌∷◌, ◌++◌, codes, Bool, true, false, Some}
 use Rattle.rs_model.specs.Data.{Names_data}
 use Rattle.rs_text.specs.declared.tokens.FaultKind.{FaultKind}
@@ -11,8 +11,8 @@ use Rattle.rs_text.specs.Names.{grown}
 use Rattle.rs_text.specs.Signs.{Sign, rec_word, end_word, plain, bang, question, comma, open_brace, broken}
 use Rattle.rs_machines.specs.Trees.{MachineTree, machine_signs}
 use Rattle.rs_machines.specs.Cuts.{Cut, behind_end, behind_name, in_binds, in_acts, behind_brace, MachineCut, in_body, IsBehind, machine_cut_signs, wanted_of}
-use Rattle.rs_machines.specs.Scenes.{fault_of}
 use Rattle.rs_text.specs.FirstFaults.{IsWhole, FirstFaultBy}
+use Rattle.rs_machines.specs.Misplaced.{fault_of}
 
 -- the tokens begin a machine
 abbrev pub Begins : List Sign → Type 0

@@ -1,6 +1,5 @@
--- The reader, token by token.
+-- Steps: the reader, token by token.
 use Rattle.std.specs.Prelude.{◌≡◌, ℕ, suc, ◌-◌, List, [], ◌∷◌, ◌++◌, codes, length, drop, slice_get, Option, Some, None, Result, Ok, Err, Bool, true, false, if◌then◌else◌, nat_lt, nat_le}
-use Rattle.std.specs.Str.{bytes_eq}
 use Rattle.rs_model.specs.declared.graph.Role.{Role}
 use Rattle.rs_model.specs.declared.graph.Label.{Label}
 use Rattle.rs_model.specs.declared.values.Sort.{Sort}
@@ -12,7 +11,7 @@ use Rattle.rs_text.specs.declared.faults.Wanted.TheVariants as wanted
 use Rattle.rs_text.specs.Faults.{kind_of}
 use Rattle.rs_model.specs.Data.{Names_data, Machine_data}
 use Rattle.rs_text.specs.Lexemes.{Lexeme, Lexed}
-use Rattle.rs_text.specs.Names.{place_of, Bound, bound_to}
+use Rattle.rs_text.specs.Names.{place_of, bound_to}
 use Rattle.rs_text.specs.Seen.{plain_text, word_text, is_text, sort_named}
 use Rattle.rs_machines.specs.declared.marks.Mark.{Mark}
 use Rattle.rs_machines.specs.declared.marks.Mark.TheVariants as mark
@@ -234,8 +233,3 @@ Reads r bytes at reading = ReadsBy feeding r bytes at reading
 abbrev pub Leaves : Stop → Reader_data → List ℕ → ℕ → List (List ℕ) → Type 0
 Leaves stops.Memory r bytes at labels = Unit {0}
 Leaves (stops.Fault f) r bytes at labels = (lexemes : List Lexeme) → Lexed bytes at lexemes → (last_of feeding r (Ok r) lexemes).labels ≡ labels
-
--- the last number that a name is bound to, by bindings in order
-abbrev pub last_bound : List ℕ → Bound → Option ℕ → Option ℕ
-last_bound name [] found = found
-last_bound name (b ∷ bs) found = last_bound name bs (if bytes_eq b.0 name then Some b.1 else found)

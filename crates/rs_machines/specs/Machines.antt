@@ -1,4 +1,4 @@
--- The names and the machine that a tree spells.
+-- Believed: the names and the machine that a tree spells.
 use Rattle.std.specs.Prelude.{ℕ, suc, ◌+◌, List, [], ◌∷◌, ◌++◌, Option, Bool, true, false, ◌||◌}
 use Rattle.rs_model.specs.Data.{Machine_data, Names_data}
 use Rattle.rs_model.specs.declared.graph.Arm.{Arm}

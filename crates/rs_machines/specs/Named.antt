@@ -1,4 +1,4 @@
--- Machines whose roles and labels have names.
+-- Believed: machines whose roles and labels have names.
 use Rattle.std.specs.Prelude.{◌<◌, List, length}
 use Rattle.std.specs.List.{All}
 use Rattle.rs_model.specs.Data.{Machine_data, Names_data}

@@ -1,4 +1,4 @@
--- How the canonical text is written, step by step: braces that are open are kept on a stack.
+-- Steps: how the canonical text is written, step by step: braces that are open are kept on a stack.
 use Rattle.std.specs.Prelude.{◌≡◌, ℕ, ◌+◌, List, [], ◌∷◌, ◌++◌, codes, length, Option, Some, None, Bool, true, false, get_or, slice_get, slice_set, nat_lt, nat_le, ◌&&◌, ◌||◌, is_some, if◌then◌else◌, ◌↔◌}
 use Rattle.rs_model.specs.Data.{Machine_data, Names_data}
 use Rattle.rs_model.specs.declared.graph.Arm.{Arm}
@@ -8,9 +8,10 @@ use Rattle.rs_model.specs.declared.graph.Role.{Role}
 use Rattle.rs_machines.specs.declared.marks.Mark.{Mark}
 use Rattle.rs_machines.specs.declared.marks.Mark.TheVariants as mark
 use Rattle.rs_machines.specs.declared.printing.Target.{Target}
-use Rattle.rs_machines.specs.Canonical.{name_of_state, shown_sort, IsGoneBackTo}
-use Rattle.rs_machines.specs.Tables.{name_at}
-use Rattle.rs_machines.specs.Texts.{arm_text, mark_text}
+use Rattle.rs_machines.specs.Canonical.{name_of_state, IsGoneBackTo}
+use Rattle.rs_machines.specs.Texts.{mark_text}
+use Rattle.rs_text.specs.Arms.{shown_sort, arm_text}
+use Rattle.rs_text.specs.Names.{name_at}
 
 -- ---- which acts are gone back to
 

@@ -1,4 +1,4 @@
--- What a text spells.
+-- Believed: what a text spells.
 use Rattle.std.specs.Prelude.{◌≡◌, ℕ, List, ◌∷◌, ◌++◌, length, true, false, Bool, ◌&&◌, ◌||◌, nat_lt, Option, Some, None}
 use Rattle.rs_model.specs.Data.{Machine_data, Names_data}
 use Rattle.rs_text.specs.Lexemes.{Lexeme, Lexed, signs_of}

@@ -1,5 +1,6 @@
--- The table that a machine is printed as.
-use Rattle.std.specs.Prelude.{ℕ, suc, List, [], ◌∷◌, ◌++◌, codes, slice_get, Option, Some, None}
+-- Believed: the table that a machine is printed as.
+pub use Rattle.rs_text.specs.Names.{name_at}
+use Rattle.std.specs.Prelude.{ℕ, suc, List, [], ◌∷◌, ◌++◌, codes}
 use Rattle.std.specs.Fmt.{decimal}
 use Rattle.std.specs.List.{flat_map}
 use Rattle.rs_model.specs.Data.{Machine_data, Names_data}
@@ -10,15 +11,6 @@ use Rattle.rs_model.specs.declared.machines.State.TheVariants as state
 use Rattle.rs_model.specs.declared.values.Sort.{Sort}
 use Rattle.rs_model.specs.declared.values.Sort.TheVariants as sort
 use Rattle.rs_text.specs.Arms.{sort_text}
-
--- the name, where there is one
-abbrev pub name_or_none : Option (List ℕ) → List ℕ
-name_or_none None = []
-name_or_none (Some name) = name
-
--- the name at a place
-abbrev pub name_at : List (List ℕ) → ℕ → List ℕ
-name_at names k = name_or_none (slice_get names k)
 
 -- the unit is written as nothing
 abbrev pub sort_in_table : Sort → List ℕ

@@ -1,19 +1,9 @@
--- The text of a machine tree, with the spacing of canonical texts.
-use Rattle.std.specs.Prelude.{ℕ, List, [], ◌++◌, codes, Option, Some, None}
-use Rattle.rs_model.specs.declared.values.Sort.{Sort}
-use Rattle.rs_text.specs.Arms.{sort_text}
+-- Believed: the text of a machine tree, with the spacing of canonical texts.
+use Rattle.std.specs.Prelude.{ℕ, List, ◌++◌, codes}
+use Rattle.rs_text.specs.Arms.{arm_text}
 use Rattle.rs_machines.specs.declared.marks.Mark.{Mark}
 use Rattle.rs_machines.specs.declared.marks.Mark.TheVariants as mark
 use Rattle.rs_machines.specs.Trees.{Body, ends, again, binds, acts, offers, Branches, one, more, MachineTree}
-
--- nothing stands in the parentheses where no sort is shown
-abbrev pub shown_text : Option Sort → List ℕ
-shown_text None = []
-shown_text (Some s) = sort_text s
-
--- `label(sort). `
-abbrev pub arm_text : List ℕ → Option Sort → List ℕ
-arm_text label sort = label ++ (codes "(" ++ (shown_text sort ++ codes "). "))
 
 -- ! sends, ? receives
 abbrev pub mark_text : Mark → List ℕ

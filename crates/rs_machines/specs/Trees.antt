@@ -1,4 +1,4 @@
--- How texts of the machine grammar are built.
+-- Believed: how texts of the machine grammar are built.
 use Rattle.std.specs.Prelude.{ℕ, List, [], ◌∷◌, ◌++◌, codes, Option, Bool, true, false}
 use Rattle.rs_model.specs.declared.values.Sort.{Sort}
 use Rattle.rs_machines.specs.declared.marks.Mark.{Mark}

@@ -1,4 +1,4 @@
--- Trees whose names can be written.
+-- Believed: trees whose names can be written.
 use Rattle.std.specs.Prelude.{◌≡◌, true}
 use Rattle.rs_text.specs.Words.{is_word, is_role_word}
 use Rattle.rs_machines.specs.Trees.{Body, ends, again, binds, acts, offers, Branches, one, more, MachineTree}

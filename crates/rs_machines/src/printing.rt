@@ -1,7 +1,8 @@
 ghost use Rattle.std.specs.Prelude.{◌≡◌, ◌<◌, ◌^◌, ◌+◌, ◌++◌, ◌∷◌, [], List, ℕ, false, get_or, length, replicate, reverse, slice_get, IfNone, IfOk, IfSome, None, OnOk};
 ghost use Rattle.std.specs.Fmt.{decimal};
 ghost use Rattle.rs_text.specs.Sound.{IsSound};
-ghost use Rattle.rs_machines.specs.Canonical.{IsCanonicalMachineText, IsMachineTextShaped, Draws, name_of_state, shown_sort};
+ghost use Rattle.rs_machines.specs.Canonical.{IsCanonicalMachineText, IsMachineTextShaped, Draws, name_of_state};
+ghost use Rattle.rs_text.specs.Arms.{shown_sort};
 ghost use Rattle.rs_machines.specs.Enough.{AreEnoughFor};
 ghost use Rattle.rs_machines.specs.Printing as spec;
 ghost use Rattle.rs_machines.specs.Printing.{AreBack, Step, marked, marked_all, pair_text, head_text, rec_text, state_step, act_step, whole_step, arms_step, brace_step};

@@ -9,31 +9,13 @@ ghost use Rattle.rs_text.specs.Readings.{Fails};
 
 use crate::drafts::{Draft, DraftArm, add_arm};
 use crate::marks::Mark;
-use rs_model::{Label, Name, Role, Sort};
-use rs_text::{Kind, Lexer, Stop, TextKind, Token, Wanted, expected, fault, find, seen};
+use rs_model::{Label, MOST_ACTS, MOST_LABELS, MOST_NESTING, Name, Role, Sort};
+use rs_text::{
+    Binding, Kind, Lexer, Stop, TextKind, Token, Wanted, bound_number, expected, fault, find, seen,
+    unbind,
+};
 use std::alloc::Global;
 use std::marker::Model;
-
-const DEEPEST: u32 = 200;
-
-const MOST_ACTS: usize = 256;
-
-const MOST_LABELS: usize = 256;
-
-/// A recursion name, and the number of the first act of its body.
-#[derive(Drop, Debug)]
-pub(crate) struct Binding<'a> {
-    pub name: &'a [u8],
-    pub act: u32,
-}
-
-impl<'a> Model for Binding<'a> {
-    ghost use Rattle.std.specs.Prelude.{ℕ, List};
-
-    ghost Value = { List ℕ × ℕ };
-
-    ghost view = { λ b. (b.name.now, b.act) };
-}
 
 /// An open brace: its act, the count of names bound round it, and the nesting within it.
 #[derive(Clone, Copy, Debug, PartialEq, Eq)]
@@ -109,20 +91,6 @@ fn label_wanted(brace: bool) -> Wanted
     } else {
         Wanted::Label
     }
-}
-
-/// The number of the act that the name is bound to, by the nearest `rec`.
-#[tactic(auto, using(crate::proofs::Bindings::nearest))]
-fn found(bound: &[Binding], name: &[u8]) -> Option<u32>
-    ensures { result ≡ bound_to name.now (reverse bound.now) }
-{
-    let mut act = None;
-    for binding in bound {
-        if binding.name == name {
-            act = Some(binding.act);
-        }
-    }
-    act
 }
 
 impl<'a> Reader<'a> {
@@ -267,7 +235,7 @@ impl<'a> Reader<'a> {
             return expected(Wanted::Name, token.from);
         };
         let act = self.drafts.len() as u32;
-        self.bound.push(Binding { name, act })?;
+        self.bound.push(Binding { name, number: act })?;
         self.mode = Mode::RecDot { from };
         Ok(())
     }
@@ -322,7 +290,7 @@ impl<'a> Reader<'a> {
         ensures err { IfErr result (λ e. Fails e (spec.feed_brace act at self.old)) }
         ensures kept { OnErr result (names_read self.new ≡ names_read self.old) }
     {
-        if self.depth >= DEEPEST {
+        if self.depth as usize >= MOST_NESTING {
             return fault(TextKind::TooDeep, at);
         }
         let depth = self.depth + 1;
@@ -479,11 +447,10 @@ impl<'a> Reader<'a> {
     }
 
     /// Names and nesting are again as they were where the brace was opened.
-    #[tactic(auto, using(crate::proofs::Bindings::cut_short))]
     fn restore(&mut self, frame: Frame)
         ensures { self.new ≡ spec.restored frame self.old }
     {
-        self.bound.truncate(frame.bound);
+        unbind(&mut self.bound, frame.bound);
         self.depth = frame.depth;
     }
 
@@ -541,7 +508,7 @@ impl<'a> Reader<'a> {
         ensures err { IfErr result (λ e. Fails e (spec.feed_rec from at self.old)) }
         ensures kept { OnErr result (names_read self.new ≡ names_read self.old) }
     {
-        if self.depth >= DEEPEST {
+        if self.depth as usize >= MOST_NESTING {
             return fault(TextKind::TooDeep, at);
         }
         self.depth += 1;
@@ -573,7 +540,7 @@ impl<'a> Reader<'a> {
                 self.met_by(from, peer, token.from)
             }
             _ => {
-                let act = found(self.bound.as_slice(), word);
+                let act = bound_number(self.bound.as_slice(), word);
                 self.named(from, act, token.from)
             }
         }

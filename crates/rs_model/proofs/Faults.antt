@@ -1,135 +1,23 @@
 -- What the first fault of a machine says, and that a machine has none exactly where it is well formed.
-use Rattle.std.proofs.Common.{◌≡◌, ◌≢◌, ◌⊎◌, ℕ, zero, suc, ◌+◌, ◌<◌, ◌≤◌, List, [], ◌∷◌, ◌++◌, length, Bool, true, false, cond, eqb, ltb, leb, ◌==◌, ◌&&◌, Option, Some, None, slice_get, inl, inr, ⊎_elim, sym, refl, ap, subst, ◌∙◌, arith, append_assoc, length-append, zero-add}
-use Rattle.std.proofs.lemmas.Bool.{cases_order, ltb-true, ltb-false, leb-true, leb-false, eqb-true, eqb-false, or_cases, or_parts, and_cases, and_parts, false≢true}
-use Rattle.std.proofs.lemmas.Option.{none-some, same_Some, slice_get_within}
+use Rattle.std.proofs.Common.{◌≡◌, ◌≢◌, ℕ, zero, suc, ◌+◌, ◌<◌, ◌≤◌, List, [], ◌∷◌, length, cond, eqb, ltb, leb, ◌&&◌, Option, Some, None, slice_get, inl, inr, ⊎_elim, sym, refl, ap, subst, ◌∙◌, arith, zero-add}
+use Rattle.std.proofs.lemmas.Bool.{ltb-true, ltb-false, leb-true, leb-false, eqb-true, eqb-false, and_cases, and_parts}
+use Rattle.std.proofs.lemmas.Option.{none-some, same_Some}
 use Rattle.std.specs.List.{list_any}
+use Rattle.rs_model.proofs.FirstFailed.{or_some, or_none, cond_is, label_is, label_none, any_place, any_not, role_same, stands_twice, once}
+use Rattle.rs_model.specs.FirstFailed.{or_later, label_fault}
 use Rattle.rs_model.proofs.Order.{in_order}
 use Rattle.rs_model.specs.Data.{Machine_data}
-use Rattle.rs_model.specs.Checks.{or_later, first_repeat, twice, nexts_fault, peer_fault, arms_fault, choice_fault, state_fault, states_fault, start_fault, machine_fault}
-use Rattle.rs_model.specs.Faults.{Chooses, StandsTwice, LeadsOut, Blames, first_fault}
+use Rattle.rs_model.specs.Checks.{first_repeat, nexts_fault, peer_fault, arms_fault, choice_fault, state_fault, states_fault, start_fault, machine_fault}
+use Rattle.rs_model.specs.Faults.{Chooses, LeadsOut, Blames, first_fault}
 use Rattle.rs_model.specs.WellFormed.{StateFits, IsWellFormedMachine}
 use Rattle.rs_model.specs.declared.checks.MachineFault.{MachineFault}
 use Rattle.rs_model.specs.declared.checks.MachineFault.TheVariants.{BadNext, NoArms, TwiceLabel, SelfPeer, UnknownPeer}
 use Rattle.rs_model.specs.declared.graph.Arm.{Arm}
-use Rattle.rs_model.specs.declared.graph.Label.{Label}
 use Rattle.rs_model.specs.declared.graph.Role.{Role}
 use Rattle.rs_model.specs.declared.machines.State.{State}
 use Rattle.rs_model.specs.declared.machines.State.TheVariants.{Done, Puts, Takes}
 
--- choices of what is told
-
-or_some : (a b : Option MachineFault) (f : MachineFault) → or_later a b ≡ Some f → (a ≡ Some f) ⊎ (b ≡ Some f)
-or_some None b f e = inr e
-or_some (Some g) b f e = inl e
-
-or_none : (a b : Option MachineFault) → or_later a b ≡ None → (a ≡ None) × (b ≡ None)
-or_none None b e = (refl, e)
-or_none (Some g) b e = absurd (none-some g (sym e))
-
-cond_is : {A : Type 0} (b : Bool) (x y z : A) → cond b x y ≡ z → ((b ≡ true) × (x ≡ z)) ⊎ ((b ≡ false) × (y ≡ z))
-cond_is true x y z e = inl (refl, e)
-cond_is false x y z e = inr (refl, e)
-
--- lists
-
-get_front : {A : Type 0} (xs ys : List A) (i : ℕ) → i < length xs → slice_get (xs ++ ys) i ≡ slice_get xs i
-get_front [] ys i h = absurd (omega arith)
-get_front (x ∷ xs) ys zero h = refl
-get_front (x ∷ xs) ys (suc i) h = get_front xs ys i (omega arith)
-
-get_here : {A : Type 0} (xs : List A) (y : A) (ys : List A) → slice_get (xs ++ y ∷ ys) (length xs) ≡ Some y
-get_here [] y ys = refl
-get_here (x ∷ xs) y ys = get_here xs y ys
-
-any_place : {A : Type 0} (p : A → Bool) (xs : List A) → list_any p xs ≡ true
-    → (i : ℕ) × (x : A) × (slice_get xs i ≡ Some x) × (p x ≡ true)
-any_place p [] e = absurd (false≢true e)
-any_place p (x ∷ xs) e =
-    ⊎_elim (λ h. (zero, x, refl, h))
-    (λ h. let r = any_place p xs h in (suc r.0, r.1, r.2, r.3)) (or_cases (p x) (list_any p xs) e)
-
-any_not : {A : Type 0} (p : A → Bool) (xs : List A) (i : ℕ) (x : A) → list_any p xs ≡ false → slice_get xs i ≡ Some x
-    → p x ≡ false
-any_not p [] i x e g = absurd (none-some x g)
-any_not p (y ∷ xs) zero x e g =
-    ap p (sym (same_Some y x g)) ∙ (or_parts (p y) (list_any p xs) e).0
-any_not p (y ∷ xs) (suc i) x e g = any_not p xs i x (or_parts (p y) (list_any p xs) e).1 g
-
--- roles and labels are their numbers
-
-role_same : (p q : Role) → p.0 ≡ q.0 → p ≡ q
-role_same p q e = let role : ℕ → Role = λ n. record { 0 = n } in ap role e
-
-label_same : (l k : Label) → l.0 ≡ k.0 → l ≡ k
-label_same l k e = let label : ℕ → Label = λ n. record { 0 = n } in ap label e
-
--- labels
-
-stands_twice : (later earlier : List Arm) (l : Label) → first_repeat later earlier ≡ Some l
-    → StandsTwice (earlier ++ later) l
-stands_twice [] earlier l e = absurd (none-some l e)
-stands_twice (a ∷ later) earlier l e =
-    ⊎_elim
-    (λ h. let r = any_place (λ b. b.label.0 == a.label.0) earlier h.0 in
-    let k : a.label ≡ l = same_Some a.label l h.1 in
-    let w : r.0 < length earlier = slice_get_within earlier r.0 r.1 r.2 in
-    record {
-      first = r.0;
-      second = length earlier;
-      one = r.1;
-      other = a;
-      order = w;
-      at_first = get_front earlier (a ∷ later) r.0 w ∙ r.2;
-      at_second = get_here earlier a later;
-      its_first = label_same r.1.label a.label (eqb-true r.1.label.0 a.label.0 r.3) ∙ k;
-      its_second = k;
-    })
-    (λ h. subst (λ x. StandsTwice x l) (append_assoc earlier (a ∷ []) later)
-    (stands_twice later (earlier ++ a ∷ []) l h.1))
-    (cond_is (list_any (λ b. b.label.0 == a.label.0) earlier) (Some a.label)
-    (first_repeat later (earlier ++ a ∷ [])) (Some l) e)
-
-apart : (later earlier : List Arm) → first_repeat later earlier ≡ None → (i j : ℕ) (a b : Arm)
-    → slice_get later j ≡ Some b → slice_get (earlier ++ later) i ≡ Some a → i < length earlier + j
-    → a.label ≡ b.label → ⊥
-apart [] earlier e i j a b gb ga h l = none-some b gb
-apart (c ∷ later) earlier e i zero a b gb ga h l =
-    ⊎_elim (λ w. none-some c.label (sym w.1))
-    (λ w.
-    eqb-false a.label.0 c.label.0
-    (any_not (λ x. x.label.0 == c.label.0) earlier i a w.0
-    (sym (get_front earlier (c ∷ later) i (omega arith)) ∙ ga))
-    (ap (λ x. x.0) (l ∙ ap (λ x. x.label) (sym (same_Some c b gb)))))
-    (cond_is (list_any (λ x. x.label.0 == c.label.0) earlier) (Some c.label)
-    (first_repeat later (earlier ++ c ∷ [])) None e)
-apart (c ∷ later) earlier e i (suc j) a b gb ga h l =
-    ⊎_elim (λ w. none-some c.label (sym w.1))
-    (λ w.
-    apart later (earlier ++ c ∷ []) w.1 i j a b gb
-    (ap (λ x. slice_get x i) (append_assoc earlier (c ∷ []) later) ∙ ga)
-    (omega (arith, length-append earlier (c ∷ []))) l)
-    (cond_is (list_any (λ x. x.label.0 == c.label.0) earlier) (Some c.label)
-    (first_repeat later (earlier ++ c ∷ [])) None e)
-
-once : (arms : List Arm) → first_repeat arms [] ≡ None → (i j : ℕ) (a b : Arm) → slice_get arms i ≡ Some a
-    → slice_get arms j ≡ Some b → a.label ≡ b.label → i ≡ j
-once arms e i j a b ga gb l =
-    ⊎_elim (λ h. h)
-    (λ h.
-    ⊎_elim (λ k. absurd (apart arms [] e i j a b gb ga (omega arith) l))
-    (λ k. absurd (apart arms [] e j i b a ga gb (omega arith) (sym l))) h)
-    (cases_order i j)
-
 -- what is told of a state that puts or takes
-
-twice_is : (s : ℕ) (o : Option Label) (f : MachineFault) → twice s o ≡ Some f
-    → (l : Label) × (o ≡ Some l) × (TwiceLabel s l ≡ f)
-twice_is s None f e = absurd (none-some f e)
-twice_is s (Some l) f e = (l, refl, same_Some (TwiceLabel s l) f e)
-
-twice_none : (s : ℕ) (o : Option Label) → twice s o ≡ None → o ≡ None
-twice_none s None e = refl
-twice_none s (Some l) e = absurd (none-some (TwiceLabel s l) (sym e))
 
 arms_blamed : (m : Machine_data) (roles s : ℕ) (peer : Role) (arms : List Arm) (f : MachineFault)
     → arms_fault s arms ≡ Some f → Chooses m s peer arms → Blames m roles f
@@ -171,9 +59,9 @@ peer_fits m roles s peer e =
     None e)
 
 twice_blamed : (m : Machine_data) (roles s : ℕ) (peer : Role) (arms : List Arm) (f : MachineFault)
-    → twice s (first_repeat arms []) ≡ Some f → Chooses m s peer arms → Blames m roles f
+    → label_fault (λ l. TwiceLabel s l) (first_repeat arms []) ≡ Some f → Chooses m s peer arms → Blames m roles f
 twice_blamed m roles s peer arms f e ch =
-    let r = twice_is s (first_repeat arms []) f e in
+    let r = label_is (λ l. TwiceLabel s l) (first_repeat arms []) f e in
     subst (λ g. Blames m roles g) r.2 (peer, arms, ch, stands_twice arms [] r.0 r.1)
 
 nexts_blamed : (m : Machine_data) (roles s : ℕ) (peer : Role) (arms : List Arm) (f : MachineFault)
@@ -206,7 +94,7 @@ nexts_fit s count arms e i a g =
 choice_blamed : (m : Machine_data) (roles s : ℕ) (peer : Role) (arms : List Arm) (f : MachineFault)
     → choice_fault m roles s peer arms ≡ Some f → Chooses m s peer arms → Blames m roles f
 choice_blamed m roles s peer arms f e ch =
-    let labels : Option MachineFault = twice s (first_repeat arms []) in
+    let labels : Option MachineFault = label_fault (λ l. TwiceLabel s l) (first_repeat arms []) in
     let nexts : Option MachineFault = nexts_fault s (length m.states) arms in
     ⊎_elim (λ h. arms_blamed m roles s peer arms f h ch)
     (λ h.
@@ -220,7 +108,7 @@ choice_blamed m roles s peer arms f e ch =
 choice_fits : (m : Machine_data) (roles s : ℕ) (peer : Role) (arms : List Arm)
     → choice_fault m roles s peer arms ≡ None → StateFits m roles peer arms
 choice_fits m roles s peer arms e =
-    let labels : Option MachineFault = twice s (first_repeat arms []) in
+    let labels : Option MachineFault = label_fault (λ l. TwiceLabel s l) (first_repeat arms []) in
     let nexts : Option MachineFault = nexts_fault s (length m.states) arms in
     let p = or_none (arms_fault s arms) (or_later (peer_fault m roles s peer) (or_later labels nexts)) e in
     let q = or_none (peer_fault m roles s peer) (or_later labels nexts) p.1 in
@@ -230,7 +118,7 @@ choice_fits m roles s peer arms e =
       some = arms_some s arms p.0;
       other = right.0;
       known = right.1;
-      once = once arms (twice_none s (first_repeat arms []) r.0);
+      once = once arms (label_none (λ l. TwiceLabel s l) (first_repeat arms []) r.0);
       nexts = nexts_fit s (length m.states) arms r.1;
     }
 

@@ -1,6 +1,7 @@
--- The first fault of a machine, as the code finds it.
+-- Steps: the first fault of a machine, as the code finds it.
 use Rattle.std.specs.Prelude.{ℕ, ◌+◌, List, [], ◌∷◌, ◌++◌, length, ◌==◌, ◌&&◌, nat_lt, nat_le, if◌then◌else◌, Option, Some, None}
 use Rattle.std.specs.List.{list_any}
+use Rattle.rs_model.specs.FirstFailed.{or_later, label_fault}
 use Rattle.rs_model.specs.Data.{Machine_data}
 use Rattle.rs_model.specs.declared.checks.MachineFault.{MachineFault}
 use Rattle.rs_model.specs.declared.checks.MachineFault.TheVariants.{BadNext, NoArms, TwiceLabel, SelfPeer, UnknownPeer}
@@ -10,20 +11,11 @@ use Rattle.rs_model.specs.declared.graph.Role.{Role}
 use Rattle.rs_model.specs.declared.machines.State.{State}
 use Rattle.rs_model.specs.declared.machines.State.TheVariants.{Done, Puts, Takes}
 
--- the first fault, where there is one, else the later one
-abbrev pub or_later : Option MachineFault → Option MachineFault → Option MachineFault
-or_later None later = later
-or_later (Some f) _ = Some f
-
 -- the first label of the arms that stands at an arm before it, earlier ones included
 abbrev pub first_repeat : List Arm → List Arm → Option Label
 first_repeat [] earlier = None
 first_repeat (a ∷ later) earlier =
     if list_any (λ b. b.label.0 == a.label.0) earlier then Some a.label else first_repeat later (earlier ++ a ∷ [])
-
-abbrev pub twice : ℕ → Option Label → Option MachineFault
-twice n None = None
-twice n (Some l) = Some (TwiceLabel n l)
 
 abbrev pub nexts_fault : ℕ → ℕ → List Arm → Option MachineFault
 nexts_fault n count arms = if list_any (λ a. nat_le count a.next) arms then Some (BadNext n) else None
@@ -39,7 +31,7 @@ abbrev pub choice_fault : Machine_data → ℕ → ℕ → Role → List Arm →
 choice_fault m roles n peer arms =
     or_later (arms_fault n arms)
     (or_later (peer_fault m roles n peer)
-    (or_later (twice n (first_repeat arms [])) (nexts_fault n (length m.states) arms)))
+    (or_later (label_fault (λ l. TwiceLabel n l) (first_repeat arms [])) (nexts_fault n (length m.states) arms)))
 
 abbrev pub state_fault : Machine_data → ℕ → ℕ → State → Option MachineFault
 state_fault m roles n Done = None

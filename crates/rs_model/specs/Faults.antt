@@ -1,6 +1,6 @@
--- The first fault of a machine, and what each fault says.
-use Rattle.std.specs.Prelude.{◌≡◌, ◌⊎◌, ℕ, ◌+◌, ◌<◌, ◌≤◌, List, [], ◌∷◌, ◌++◌, length, map, slice_get, Bool, not, ◌==◌, nat_lt, if◌then◌else◌, Option, Some, None}
-use Rattle.std.specs.List.{list_any}
+-- Believed: the first fault of a machine, and what each fault says.
+use Rattle.std.specs.Prelude.{◌≡◌, ◌⊎◌, ℕ, ◌+◌, ◌<◌, ◌≤◌, List, [], ◌∷◌, ◌++◌, length, slice_get, not, ◌==◌, nat_lt, Option, Some}
+use Rattle.rs_model.specs.FirstFailed.{Test, first_failed, label_tests, next_tests}
 use Rattle.rs_model.specs.Data.{Machine_data}
 use Rattle.rs_model.specs.declared.checks.MachineFault.{MachineFault}
 use Rattle.rs_model.specs.declared.checks.MachineFault.TheVariants.{BadNext, NoArms, TwiceLabel, SelfPeer, UnknownPeer}
@@ -10,48 +10,27 @@ use Rattle.rs_model.specs.declared.graph.Role.{Role}
 use Rattle.rs_model.specs.declared.machines.State.{State}
 use Rattle.rs_model.specs.declared.machines.State.TheVariants.{Done, Puts, Takes}
 
--- one test of a machine: whether the machine passes it, and the fault that is told where it doesn't
-pub record Test : Type 0 where
-  pub passes : Bool
-  pub fault : MachineFault
-
--- the fault of the first test that isn't passed
-abbrev pub first_failed : List Test → Option MachineFault
-first_failed [] = None
-first_failed (t ∷ ts) = if t.passes then first_failed ts else Some t.fault
-
--- for each arm, whether its label stands at no earlier arm
-abbrev pub label_tests : ℕ → List Arm → List Arm → List Test
-label_tests s [] earlier = []
-label_tests s (a ∷ later) earlier =
-    record { passes = not (list_any (λ b. b.label.0 == a.label.0) earlier); fault = TwiceLabel s a.label }
-    ∷ label_tests s later (earlier ++ a ∷ [])
-
--- for each arm, whether it leads to one of so many states
-abbrev pub next_tests : ℕ → ℕ → List Arm → List Test
-next_tests s count arms = map (λ a. record { passes = nat_lt a.next count; fault = BadNext s }) arms
-
 -- the tests of state s that puts or takes: some arms, another peer, one of the roles, all labels, all nexts
-abbrev pub choice_tests : Machine_data → ℕ → ℕ → Role → List Arm → List Test
+abbrev pub choice_tests : Machine_data → ℕ → ℕ → Role → List Arm → List (Test MachineFault)
 choice_tests m roles s peer arms =
     record { passes = nat_lt 0 (length arms); fault = NoArms s }
     ∷ record { passes = not (peer.0 == m.role.0); fault = SelfPeer s }
     ∷ record { passes = nat_lt peer.0 roles; fault = UnknownPeer s }
-    ∷ (label_tests s arms [] ++ next_tests s (length m.states) arms)
+    ∷ (label_tests (λ l. TwiceLabel s l) arms [] ++ next_tests (BadNext s) (length m.states) arms)
 
 -- those of state s, of any kind
-abbrev pub state_tests : Machine_data → ℕ → ℕ → State → List Test
+abbrev pub state_tests : Machine_data → ℕ → ℕ → State → List (Test MachineFault)
 state_tests m roles s Done = []
 state_tests m roles s (Puts peer arms) = choice_tests m roles s peer arms
 state_tests m roles s (Takes peer arms) = choice_tests m roles s peer arms
 
 -- those of the states in order, the first of which has the number s
-abbrev pub states_tests : Machine_data → ℕ → List State → ℕ → List Test
+abbrev pub states_tests : Machine_data → ℕ → List State → ℕ → List (Test MachineFault)
 states_tests m roles [] s = []
 states_tests m roles (state ∷ later) s = state_tests m roles s state ++ states_tests m roles later (s + 1)
 
 -- all tests of a machine, in order: the start, the role, and those of the states
-abbrev pub tests_of : Machine_data → ℕ → List Test
+abbrev pub tests_of : Machine_data → ℕ → List (Test MachineFault)
 tests_of m roles =
     record { passes = nat_lt m.start (length m.states); fault = BadNext m.start }
     ∷ record { passes = nat_lt m.role.0 roles; fault = BadNext m.start }

@@ -2,4 +2,6 @@ pub mod Checks
 pub mod Data
 pub mod Faults
 pub mod Sorts
+pub mod Talks
 pub mod WellFormed
+pub mod FirstFailed

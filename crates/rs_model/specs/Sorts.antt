@@ -1,4 +1,4 @@
--- Which values a sort has, and which sort may stand for which.
+-- Believed: which values a sort has, and which sort may stand for which.
 use Rattle.std.specs.Prelude.{◌≡◌, ℕ, Bool, true, false, IsTrue, nat_lt, ◌^◌, ◌==◌}
 use Rattle.rs_model.specs.declared.values.Sort.{Sort}
 use Rattle.rs_model.specs.declared.values.Sort.TheVariants as sort

@@ -1,4 +1,4 @@
-ghost use Rattle.std.specs.Prelude.{◌≡◌, ◌<◌, [], ◌∷◌, ◌++◌, length, slice_get, Some, OnOk, OnErr};
+ghost use Rattle.std.specs.Prelude.{◌≡◌, ◌<◌, [], ◌∷◌, ◌++◌, length, slice_get, IfOk, Some, OnOk, OnErr};
 ghost use Rattle.rs_prefix.specs.Earliest.{Finds, without};
 ghost use Rattle.rs_prefix.specs.Search.{earliest};
 
@@ -31,6 +31,38 @@ impl Pending {
         Pending {
             acts: Vec::new(alloc),
         }
+    }
+
+    /// The same acts in memory of their own.
+    pub fn copy(&self, alloc: Global) -> Result<Pending, NoMemory>
+        ensures { IfOk result (λ p. p ≡ self.now) }
+    {
+        Ok(Pending {
+            acts: Vec::from_slice(alloc, self.acts.as_slice())?,
+        })
+    }
+
+    /// A copy with one act more, the newest.
+    pub fn copy_with(&self, alloc: Global, act: Act) -> Result<Pending, NoMemory>
+        ensures { IfOk result (λ p. p ≡ self.now ++ act ∷ []) }
+    {
+        let mut acts = Vec::with_capacity(alloc, self.acts.len() + 1)?;
+        acts.extend_from_slice(self.acts.as_slice())?;
+        acts.push(act)?;
+        Ok(Pending { acts })
+    }
+
+    /// A copy without the act at the place; those behind it close up.
+    pub fn copy_without(&self, alloc: Global, place: usize) -> Result<Pending, NoMemory>
+        requires { place < length self.now }
+        ensures { IfOk result (λ p. p ≡ without self.now place) }
+    {
+        let (before, rest) = self.acts.as_slice().split_at(place);
+        let (_, behind) = rest.split_at(1);
+        let mut acts = Vec::with_capacity(alloc, self.acts.len())?;
+        acts.extend_from_slice(before)?;
+        acts.extend_from_slice(behind)?;
+        Ok(Pending { acts })
     }
 
     /// Appends an act; where memory is refused nothing changes.

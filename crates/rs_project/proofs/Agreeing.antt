@@ -12,7 +12,7 @@ use Rattle.rs_model.specs.declared.graph.Node.TheVariants.{Finished, Talk}
 use Rattle.rs_model.specs.declared.graph.Role.{Role}
 use Rattle.rs_model.specs.declared.values.Sort.{Sort}
 use Rattle.rs_model.specs.declared.values.Sort.TheVariants as sort
-use Rattle.rs_wellformed.specs.Faults.{Talks}
+use Rattle.rs_model.specs.Talks.{Talks}
 use Rattle.rs_wellformed.specs.WellFormed.{IsWellFormed}
 use Rattle.rs_project.specs.Clashes.{is_choice, is_other_sort, has_all, same_sorts, both_send, both_receive, agree_nodes, AgreeAt, AgreeBefore, AllAgree, TalksClash, EndsAlone, sends}
 use Rattle.rs_project.specs.Data.{Front_data}

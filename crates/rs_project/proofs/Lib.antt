@@ -17,3 +17,5 @@ pub mod OneProjection
 pub mod Choices
 pub mod Machines
 pub mod Histories
+pub mod Marking
+pub mod Deciding

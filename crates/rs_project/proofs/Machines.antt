@@ -11,7 +11,7 @@ use Rattle.rs_model.specs.declared.graph.Node.{Node}
 use Rattle.rs_model.specs.declared.graph.Role.{Role}
 use Rattle.rs_model.specs.declared.machines.State.{State}
 use Rattle.rs_model.specs.declared.machines.State.TheVariants.{Puts, Takes}
-use Rattle.rs_wellformed.specs.Faults.{Talks}
+use Rattle.rs_model.specs.Talks.{Talks}
 use Rattle.rs_wellformed.specs.WellFormed.{IsWellFormed}
 use Rattle.rs_project.specs.Data.{Projection_data}
 use Rattle.rs_project.specs.Projection.{Choice, choice_of, choices_of, first_choices, merged_choices, AreArmsOf, IsStateOf, IsDone, IsPuts, IsTakes, IsProjection}

@@ -1,4 +1,4 @@
--- The test for a clash, as the code makes it.
+-- Steps: the test for a clash, as the code makes it.
 use Rattle.std.specs.Prelude.{◌≡◌, ℕ, ◌<◌, Bool, true, false, not, ◌&&◌, ◌||◌, ◌==◌, List, [], ◌∷◌, Option, Some, slice_get, if◌then◌else◌}
 use Rattle.std.specs.List.{list_any}
 use Rattle.rs_model.specs.Data.{Protocol_data}

@@ -1,4 +1,4 @@
--- Where the number of a front is filed.
+-- Steps: where the number of a front is filed.
 use Rattle.std.specs.Prelude.{◌≡◌, ℕ, ◌+◌, ◌*◌, ◌%◌, List, [], ◌∷◌, length, Some, slice_get, slice_index_or}
 use Rattle.rs_project.specs.Data.{Front_data}
 use Rattle.rs_project.specs.Marks.{Among}

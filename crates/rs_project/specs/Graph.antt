@@ -1,9 +1,9 @@
--- Protocols as graphs: paths, and what a role first meets on them.
+-- Believed: protocols as graphs: paths, and what a role first meets on them.
 use Rattle.std.specs.Prelude.{◌≡◌, ◌≢◌, ◌⊎◌, ℕ, List, [], ◌∷◌, Some, slice_get}
 use Rattle.rs_model.specs.Data.{Protocol_data}
 use Rattle.rs_model.specs.declared.graph.Arm.{Arm}
 use Rattle.rs_model.specs.declared.graph.Role.{Role}
-use Rattle.rs_wellformed.specs.Faults.{Talks}
+use Rattle.rs_model.specs.Talks.{Talks}
 
 -- one step of a path: a node, and the place of the arm that is taken there
 pub record PathStep : Type 0 where

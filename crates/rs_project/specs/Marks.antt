@@ -1,4 +1,4 @@
--- What the search over the graph keeps: flags of nodes.
+-- Steps: what the search over the graph keeps: flags of nodes.
 use Rattle.std.specs.Prelude.{◌≡◌, ◌≢◌, ◌⊎◌, ◌↔◌, ℕ, ◌<◌, Bool, true, false, suc, List, [], ◌∷◌, length, slice_index_or, if◌then◌else◌, ◌==◌, ◌||◌, Option, None, Some, slice_get}
 use Rattle.std.specs.List.{All, AllPairs}
 use Rattle.rs_model.specs.Data.{Protocol_data}

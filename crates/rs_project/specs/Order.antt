@@ -1,4 +1,4 @@
--- Numbers in order of discovery.
+-- Believed: numbers in order of discovery.
 use Rattle.std.specs.Prelude.{◌≡◌, ℕ, suc, ◌<◌, List, [], ◌∷◌, Some, slice_get}
 
 -- no item stands at two places

@@ -1,4 +1,4 @@
--- The projection of a protocol onto a role, with full merging: what the role has to do, where it can't tell apart all
+-- Believed: the projection of a protocol onto a role, with full merging: what the role has to do, where it can't tell apart all
 -- the nodes at which the session may be. What is left open here is said at `IsProjection`.
 use Rattle.std.specs.Prelude.{◌≡◌, ◌≢◌, ◌↔◌, ℕ, ◌<◌, List, [], ◌∷◌, ◌++◌, map, length, Option, Some, None, slice_get, ◌==◌, if◌then◌else◌}
 use Rattle.std.specs.List.{AllPairs, Contains, flat_map, list_any}
@@ -11,7 +11,7 @@ use Rattle.rs_model.specs.declared.graph.Role.{Role}
 use Rattle.rs_model.specs.declared.machines.State.{State}
 use Rattle.rs_model.specs.declared.machines.State.TheVariants.{Done, Puts, Takes}
 use Rattle.rs_model.specs.declared.values.Sort.{Sort}
-use Rattle.rs_wellformed.specs.Faults.{Talks}
+use Rattle.rs_model.specs.Talks.{Talks}
 use Rattle.rs_project.specs.Data.{Projection_data}
 use Rattle.rs_project.specs.Graph.{LeadsTo, MeetsFirst, MeetsTheEnd, IsUnreached}
 

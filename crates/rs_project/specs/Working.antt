@@ -1,4 +1,4 @@
--- What the work on the states keeps, and what it comes to.
+-- Steps: what the work on the states keeps, and what it comes to.
 use Rattle.std.specs.Prelude.{◌≡◌, ◌≢◌, ◌⊎◌, ℕ, ◌<◌, ◌≤◌, true, List, [], ◌∷◌, ◌++◌, map, length, Option, Some, slice_get}
 use Rattle.std.specs.List.{Contains}
 use Rattle.rs_model.specs.declared.limits.TheConstants.{MOST_STATES}
@@ -8,7 +8,7 @@ use Rattle.rs_model.specs.declared.graph.Label.{Label}
 use Rattle.rs_model.specs.declared.graph.Role.{Role}
 use Rattle.rs_model.specs.declared.machines.State.{State}
 use Rattle.rs_model.specs.declared.machines.State.TheVariants.{Done, Puts, Takes}
-use Rattle.rs_wellformed.specs.Faults.{Talks}
+use Rattle.rs_model.specs.Talks.{Talks}
 use Rattle.rs_project.specs.Data.{Front_data}
 use Rattle.rs_project.specs.Graph.{Involves, MeetsFirst, MeetsTheEnd}
 use Rattle.rs_project.specs.Marks.{Among}

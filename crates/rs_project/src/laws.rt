@@ -1,7 +1,7 @@
 //! Laws over the definitions: each function does nothing, and its contract is the law.
 
 ghost use Rattle.std.specs.List.{Contains};
-ghost use Rattle.std.specs.Prelude.{◌≡◌, ◌<◌, ◌↔◌, ℕ, List, [], Some, length, slice_get};
+ghost use Rattle.std.specs.Prelude.{◌≡◌, ◌⊎◌, ◌<◌, ◌↔◌, ℕ, List, [], Some, length, slice_get};
 ghost use Rattle.rs_model.specs.Data.{Protocol_data};
 ghost use Rattle.rs_model.specs.WellFormed.{IsWellFormedMachine};
 ghost use Rattle.rs_model.specs.declared.graph.Label.{Label};
@@ -48,4 +48,10 @@ pub fn members_are_the_talks_met()
 /// A state has no members exactly where the role may meet the end after the labels that lead to it.
 pub fn no_members_are_the_end()
     ensures { (protocol : Protocol_data) (role : Role) (projection : Projection_data) (labels : List Label) (number : ℕ) (members : List ℕ) → IsProjection protocol role projection → LeadToState projection labels number → slice_get projection.sets number ≡ Some members → (members ≡ []) ↔ EndsAfter protocol role labels }
+{}
+
+/// A well-formed protocol has, for each role, a projection or a first refusal.
+pub fn a_projection_or_a_refusal()
+    ensures { (protocol : Protocol_data) (role : Role) → IsWellFormed protocol
+        → ((projection : Projection_data) × IsNumberedProjection protocol role projection) ⊎ ((fault : ProjFault) × FirstRefusal protocol role fault) }
 {}

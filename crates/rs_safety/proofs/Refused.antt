@@ -1,5 +1,6 @@
 -- Protocols that have no projection onto a role.
-use Rattle.std.proofs.Common.{[], ◌∷◌, refl}
+use Rattle.std.proofs.Common.{◌≡◌, ◌≢◌, [], ◌∷◌, refl, ap, arith}
+use Rattle.rs_model.specs.declared.graph.Role.{Role}
 use Rattle.rs_project.specs.Data.{Projection_data}
 use Rattle.rs_project.specs.Graph.{LeadsTo, Involves, PassesBy}
 use Rattle.rs_project.specs.Projection.{IsProjection}
@@ -7,7 +8,12 @@ use Rattle.rs_safety.specs.Examples.{a, b, c, to, not_told, left_waiting}
 use Rattle.rs_safety.proofs.Members.{no-member}
 use Rattle.rs_safety.proofs.Walks.{step_of, not-empty, involves-receiver, involves-neither, idle-end}
 use Rattle.rs_safety.proofs.Fronts.{meets-itself, ends-itself, meets-on, ends-on}
-use Rattle.rs_safety.proofs.Rounds.{a-c, b-c}
+
+a-c : a ≢ c
+a-c e = let n : 0 ≡ 2 = ap (λ (z : Role). z.0) e in absurd (omega (arith, n))
+
+b-c : b ≢ c
+b-c e = let n : 1 ≡ 2 = ap (λ (z : Role). z.0) e in absurd (omega (arith, n))
 
 -- the choice that C isn't told of
 abbrev told : LeadsTo not_told 0 0 1

@@ -15,7 +15,7 @@ use Rattle.rs_project.proofs.Machines.{projection-machine}
 use Rattle.rs_safety.proofs.Built.{safe-of-parts}
 use Rattle.rs_safety.proofs.Equal.{equal}
 
-no-machine : Machine_data
+pub no-machine : Machine_data
 no-machine = record { role = numbered 0; states = []; start = 0 }
 
 pub no-projection : Projection_data

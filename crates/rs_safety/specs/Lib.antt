@@ -1,3 +1,7 @@
+pub mod Sessions
+pub mod Room
+pub mod Accepting
 pub mod Alike
 pub mod Examples
-pub mod Accepting
+pub mod Buffering
+pub mod Waiting

@@ -1,105 +1,139 @@
 //! Sessions that are accepted.
 
-ghost use Rattle.std.specs.Prelude.{◌≡◌, ◌≤◌, ◌<◌, ◌⊎◌, ◌^◌, length, IfOk, IfErr, IfSome, IfNone, take, map};
+ghost use Rattle.std.specs.Prelude.{◌≡◌, ◌<◌, length, IfOk, IfErr, IfSome, IfNone, OnOk};
 ghost use Rattle.rs_core.specs.Safety.{IsSafe};
-ghost use Rattle.rs_project.specs.Projection.{AreProjections};
-ghost use Rattle.rs_safety.specs.Accepting.{AreSame, FirstOther};
-ghost use Rattle.rs_wellformed.specs.WellFormed.{IsWellFormed};
+ghost use Rattle.rs_model.specs.Data.{Protocol_data};
+ghost use Rattle.rs_safety.specs.Accepting.{FirstRefused, IsAcceptedSession};
+ghost use Rattle.rs_safety.specs.Room.{room_of};
+ghost use Rattle.rs_safety.specs.Sessions.{AreDerivations, AreOneEach, IsSession};
 
+use rs_derive::{Derivation, DeriveFault, check, longest, top_rank};
 use rs_model::{Machine, Protocol, Role};
 use rs_project::Projection;
 use std::marker::Model;
 
-/// A session whose machines are safe.
+/// A session whose machines are safe: each has a derivation, which shows that it may stand for its role's projection.
 ///
-/// It owns the machines, one for each role in order, and keeps the protocol and its projections.
+/// It owns the machines, one for each role in order, and keeps the protocol, its projections and the derivations.
 #[derive(Drop)]
 pub struct Accepted<'a> {
     protocol: &'a Protocol,
     projections: &'a [Projection],
+    derivations: &'a [Derivation],
     machines: Vec<Machine>,
 }
 
 impl<'a> Model for Accepted<'a> {
-    ghost use Rattle.rs_core.specs.Safety.{IsSafe};
-    ghost use Rattle.rs_safety.specs.Accepting.{Accepted_data};
+    ghost use Rattle.rs_safety.specs.Accepting.{Accepted_data, IsAcceptedSession};
 
     ghost Value = { Accepted_data };
 
-    ghost view = { λ a. record { protocol = a.protocol.now; projections = a.projections.now; machines = a.machines.items } };
+    ghost view = { λ a. record { protocol = a.protocol.now; projections = a.projections.now; derivations = a.derivations.now; machines = a.machines.items } };
 
-    ghost invariant = { λ a. IsSafe a.machines.items };
+    ghost invariant = { λ a. IsAcceptedSession (record { protocol = a.protocol.now; projections = a.projections.now; derivations = a.derivations.now; machines = a.machines.items }) };
 }
 
 impl<'a> Accepted<'a> {
-    /// The machines, in role order. They are safe.
+    /// The machines, in role order. They are safe, and the session is all that `IsAcceptedSession` says.
     pub fn machines(&self) -> &[Machine]
         ensures machines { result.now ≡ self.now.machines }
+        ensures session { IsAcceptedSession self.now }
         ensures safe { IsSafe result.now }
     {
         self.machines.as_slice()
     }
+
+    /// The derivations, in role order.
+    pub fn derivations(&self) -> &[Derivation]
+        ensures derivations { result.now ≡ self.now.derivations }
+        ensures session { IsAcceptedSession self.now }
+    {
+        self.derivations
+    }
+
+    /// How many messages each ring must hold, so that no role can be held up by full rings: one more than the greatest
+    /// number of acts that are owed and the greatest lag of a derivation.
+    pub fn room(&self) -> u64
+        ensures { result ≡ room_of self.now.derivations }
+    {
+        let mut most_owed = 0;
+        let mut most_lag = 0;
+        for derivation in self.derivations {
+            let owed = longest(derivation) as u64;
+            most_owed = most_owed.max(owed);
+            most_lag = most_lag.max(owed * (top_rank(derivation) as u64 + 1));
+        }
+        1 + most_owed + most_lag
+    }
 }
 
-/// The first role whose machine isn't that of its projection, and the machines that were handed in.
+/// The first role whose derivation is refused, why, and the machines that were handed in.
 #[derive(Drop)]
-pub struct SameRefused {
+pub struct AcceptRefused {
     pub role: Role,
+    pub cause: DeriveFault,
     pub machines: Vec<Machine>,
 }
 
-impl Model for SameRefused {
-    ghost use Rattle.rs_safety.specs.Accepting.{SameRefused_data};
+impl Model for AcceptRefused {
+    ghost use Rattle.rs_safety.specs.Accepting.{AcceptRefused_data};
 
-    ghost Value = { SameRefused_data };
+    ghost Value = { AcceptRefused_data };
 
-    ghost view = { λ r. record { role = r.role; machines = r.machines.items } };
+    ghost view = { λ r. record { role = r.role; cause = r.cause; machines = r.machines.items } };
 }
 
-/// The first place at which the machine is another than that of the projection.
-#[tactic(auto, using(crate::proofs::Firsts::same_begin, crate::proofs::Firsts::same_on, crate::proofs::Firsts::first_is, crate::proofs::Firsts::all_same))]
-fn first_other(projections: &[Projection], machines: &[Machine]) -> Option<usize>
-    requires one_each { length machines.now ≡ length projections.now }
-    ensures some { IfSome result (λ place. FirstOther machines.now projections.now (record { 0 = place })) }
-    ensures within { IfSome result (λ place. place < length machines.now) }
-    ensures none { IfNone result (AreSame machines.now projections.now) }
+/// The first place at which `check` refuses the derivation, and why.
+fn first_refused(
+    projections: &[Projection],
+    machines: &[Machine],
+    derivations: &[Derivation],
+) -> Option<(usize, DeriveFault)>
+    requires session { (protocol : Protocol_data) × IsSession protocol projections.now machines.now }
+    requires derivations { AreOneEach (length machines.now) derivations.now }
+    ensures some { IfSome result (λ r. FirstRefused machines.now projections.now derivations.now r.0 r.1) }
+    ensures within { IfSome result (λ r. r.0 < length machines.now) }
+    ensures none { IfNone result (AreDerivations machines.now projections.now derivations.now) }
 {
     for place in 0..machines.len() {
         let projection = &projections[place];
-        if !machines[place].same(&projection.machine) {
-            return Some(place);
+        if let Err(cause) = check(&derivations[place], &machines[place], &projection.machine) {
+            return Some((place, cause));
         }
     }
     None
 }
 
-/// Accepts the machines where each is that of its role's projection: then they are safe.
+/// Accepts the machines where each role's derivation shows that its machine may stand for its projection: then they are
+/// safe.
 ///
-/// The error names the first role whose machine is another, and hands the machines back. Takes no memory.
-pub fn accept_same<'a>(
+/// The error names the first role whose derivation is refused, with its first fault, and hands the machines back. Takes
+/// no memory.
+pub fn accept<'a>(
     protocol: &'a Protocol,
     projections: &'a [Projection],
     machines: Vec<Machine>,
-) -> Result<Accepted<'a>, SameRefused>
-    requires well_formed { IsWellFormed protocol.now }
-    requires projected { AreProjections protocol.now projections.now }
-    requires one_each { length machines.items ≡ length projections.now }
-    ensures same { IfOk result (λ a. AreSame machines.items projections.now) }
-    ensures accepted { IfOk result (λ a. a ≡ record { protocol = protocol.now; projections = projections.now; machines = machines.items }) }
-    ensures safe { IfOk result (λ a. IsSafe machines.items) }
-    ensures other { IfErr result (λ e. FirstOther machines.items projections.now e.role) }
+    derivations: &'a [Derivation],
+) -> Result<Accepted<'a>, AcceptRefused>
+    requires session { IsSession protocol.now projections.now machines.items }
+    requires derivations { AreOneEach protocol.now.roles derivations.now }
+    ensures derived { OnOk result (AreDerivations machines.items projections.now derivations.now) }
+    ensures accepted { IfOk result (λ a. a ≡ record { protocol = protocol.now; projections = projections.now; derivations = derivations.now; machines = machines.items }) }
+    ensures session { IfOk result IsAcceptedSession }
+    ensures safe { OnOk result (IsSafe machines.items) }
+    ensures refused { IfErr result (λ e. FirstRefused machines.items projections.now derivations.now e.role.0 e.cause) }
     ensures back { IfErr result (λ e. e.machines ≡ machines.items) }
 {
-    // The proof takes from this that a role's number fits its type.
-    let _roles = protocol.roles;
-    match first_other(projections, machines.as_slice()) {
-        Some(place) => Err(SameRefused {
+    match first_refused(projections, machines.as_slice(), derivations) {
+        Some((place, cause)) => Err(AcceptRefused {
             role: Role(place as u8),
+            cause,
             machines,
         }),
         None => Ok(Accepted {
             protocol,
             projections,
+            derivations,
             machines,
         }),
     }

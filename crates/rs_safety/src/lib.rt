@@ -1,7 +1,8 @@
-//! Which sessions are safe: machines that do what a protocol with choice and recursion asks of them.
+//! Which sessions are safe: machines that do what a protocol with choice and recursion asks of them, each in an order
+//! that its derivation allows.
 #![tactic(auto)]
 
 mod accepting;
 pub mod laws;
 
-pub use accepting::{Accepted, SameRefused, accept_same};
+pub use accepting::{AcceptRefused, Accepted, accept};

@@ -4,9 +4,13 @@ pub mod Gaps
 pub mod Starts
 pub mod Nexts
 pub mod Naming
+pub mod Basics
 pub mod Numbers
 pub mod Written
 pub mod Leading
 pub mod Standing
 pub mod Judging
 pub mod Keeping
+pub mod Arms
+pub mod Bindings
+pub mod PlainNames

@@ -1,4 +1,4 @@
-use Rattle.std.proofs.Common.{◌≡◌, ◌≢◌, ℕ, zero, suc, ◌+◌, ◌<◌, List, [], ◌∷◌, ◌++◌, length, Bool, true, false, if◌then◌else◌, ◌&&◌, ◌||◌, Option, Some, None, ◌⊎◌, ◌↔◌, inl, inr, refl, sym, ap, ◌∙◌, arith}
+use Rattle.std.proofs.Common.{◌≡◌, ◌≢◌, ℕ, zero, suc, ◌+◌, ◌<◌, List, [], ◌∷◌, ◌++◌, length, Bool, true, false, if◌then◌else◌, ◌&&◌, ◌||◌, Option, Some, None, ◌⊎◌, ◌↔◌, inl, inr, refl, sym, ap, ◌∙◌, arith, slice_get, subst}
 use Rattle.std.proofs.lemmas.Bool.Decides.{Decides-by_and}
 use Rattle.std.proofs.lemmas.List.Folds.{list_any-append, list_all-append}
 use Rattle.std.proofs.lemmas.Slice.Eq.{bytes_eq-Decides}
@@ -12,13 +12,11 @@ use Rattle.rs_model.specs.Data.{Names_data}
 use Rattle.rs_text.specs.Sound.{differ, are_sound, IsSound}
 use Rattle.rs_text.specs.Words.{is_word, is_role_word}
 use Rattle.rs_text.proofs.Gaps.{true_or_false}
+use Rattle.rs_text.proofs.Basics.{stands_any, any_stands, some_is, both}
 
 -- ---- places
 
-some_is : (x y : List ℕ) → Some x ≡ Some y → x ≡ y
-some_is x y h = cc
-
-bytes_same : (xs : List ℕ) → bytes_eq xs xs ≡ true
+pub bytes_same : (xs : List ℕ) → bytes_eq xs xs ≡ true
 bytes_same xs = (bytes_eq-Decides xs xs).1 refl
 
 -- a name keeps its place when others come behind it
@@ -239,3 +237,57 @@ decides_sound names = (
       }),
   (λ s. rw ((decides_differ names.roles).1 s.roles_differ, (decides_all is_role_word names.roles).1 s.roles_are_words, (decides_differ names.labels).1 s.labels_differ, (decides_all is_word names.labels).1 s.labels_are_words) refl),
 )
+
+pub at_among : (names : List (List ℕ)) (i : ℕ) (x : List ℕ) → slice_get names i ≡ Some x → is_among x names ≡ true
+at_among names i x e = stands_any (List ℕ) (λ z. bytes_eq z x) names i x e (bytes_same x)
+
+pub among_at : (names : List (List ℕ)) (x : List ℕ) → is_among x names ≡ true → (i : ℕ) × (slice_get names i ≡ Some x)
+among_at names x h =
+    let f = any_stands (List ℕ) (λ z. bytes_eq z x) names h in
+    (f.0, f.2 ∙ ap Some ((bytes_eq-Decides f.1 x).0 f.3))
+
+pub differ_rest : (c b : Bool) → (if c then false else b) ≡ true → (c ≡ false) × (b ≡ true)
+differ_rest true b h = absurd (cc h)
+differ_rest false b h = (refl, h)
+
+pub place_at_from : (names : List (List ℕ)) (n i : ℕ) (x : List ℕ) → differ names ≡ true → slice_get names i ≡ Some x → place_from n x names ≡ Some (n + i)
+place_at_from [] n i x d e = absurd (cc e)
+place_at_from (y ∷ names) n zero x d e = let same : n ≡ n + 0 = omega arith in rw (subst (λ (z : List ℕ). bytes_eq y z ≡ true) (some_is y x e) (bytes_same y)) (ap Some same)
+place_at_from (y ∷ names) n (suc i) x d e = elim (true_or_false (bytes_eq y x)) [
+  | inl h ↦ (
+      let there : is_among x names ≡ true = at_among names i x e in
+      let here : is_among y names ≡ true = subst (λ (z : List ℕ). is_among z names ≡ true) (sym ((bytes_eq-Decides y x).0 h)) there in
+      absurd (cc (here, (differ_rest (is_among y names) (differ names) d).0)))
+  | inr h ↦ (let same : suc n + i ≡ n + suc i = omega arith in rw h (place_at_from names (suc n) i x (differ_rest (is_among y names) (differ names) d).1 e ∙ ap Some same))
+]
+
+pub place_at : (names : List (List ℕ)) (i : ℕ) (x : List ℕ) → differ names ≡ true → slice_get names i ≡ Some x → place_of x names ≡ Some i
+place_at names i x d e = let same : 0 + i ≡ i = omega arith in place_at_from names 0 i x d e ∙ ap Some same
+
+pub all_at : (test : List ℕ → Bool) (xs : List (List ℕ)) (i : ℕ) (x : List ℕ) → list_all test xs ≡ true → slice_get xs i ≡ Some x → test x ≡ true
+all_at test [] i x h e = absurd (cc e)
+all_at test (y ∷ xs) zero x h e = subst (λ (z : List ℕ). test z ≡ true) (some_is y x e) (both (test y) (list_all test xs) h).0
+all_at test (y ∷ xs) (suc i) x h e = all_at test xs i x (both (test y) (list_all test xs) h).1 e
+
+pub new_differ : (names : List (List ℕ)) (w : List ℕ) → is_among w names ≡ false → differ names ≡ true → differ (names ++ w ∷ []) ≡ true
+new_differ names w e h = rw e at (grown_differ (w ∷ []) names h)
+
+pub new_all : (test : List ℕ → Bool) (names : List (List ℕ)) (w : List ℕ) → is_among w names ≡ false → list_all test names ≡ true → test w ≡ true → list_all test (names ++ w ∷ []) ≡ true
+new_all test names w e h k = rw e at (grown_all test (w ∷ []) names h (rw k refl))
+
+pub placed_by : (o : Option ℕ) (x : List ℕ) (names : List (List ℕ)) → place_of x names ≡ o → is_among x names ≡ true → (k : ℕ) × (place_of x names ≡ Some k)
+placed_by None x names e h = absurd (cc (not_among names x 0 e, h))
+placed_by (Some k) x names e h = (k, e)
+
+pub absent_by : (o : Option ℕ) (x : List ℕ) (names : List (List ℕ)) → place_of x names ≡ o → is_among x names ≡ false → place_of x names ≡ None
+absent_by None x names e h = e
+absent_by (Some k) x names e h = absurd (cc (among names x 0 k e, h))
+
+pub grown_one : (names xs : List (List ℕ)) (l : List ℕ) → grown (grown names (l ∷ [])) xs ≡ grown names (l ∷ xs)
+grown_one names xs l = refl
+
+pub grown_new : (names : List (List ℕ)) (l : List ℕ) → place_of l names ≡ None → grown names (l ∷ []) ≡ names ++ l ∷ []
+grown_new names l e = ap (λ z. if z then names else names ++ l ∷ []) (not_among names l 0 e)
+
+pub grown_old : (names : List (List ℕ)) (l : List ℕ) (k : ℕ) → place_of l names ≡ Some k → grown names (l ∷ []) ≡ names
+grown_old names l k e = ap (λ z. if z then names else names ++ l ∷ []) (among names l 0 k e)

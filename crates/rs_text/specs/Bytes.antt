@@ -1,4 +1,4 @@
--- The bytes of which tokens are made.
+-- Believed: the bytes of which tokens are made.
 use Rattle.std.specs.Prelude.{ℕ, Bool, nat_le, ◌==◌, ◌||◌, ◌&&◌}
 
 -- space, tab, CR and LF

@@ -1,4 +1,4 @@
--- The first fault of a text, for any rule that says which faults a token has.
+-- Believed: the first fault of a text, for any rule that says which faults a token has.
 use Rattle.std.specs.Prelude.{◌≡◌, ℕ, ◌≤◌, List, [], ◌∷◌, ◌++◌}
 use Rattle.rs_text.specs.declared.faults.TextKind.{TextKind}
 use Rattle.rs_text.specs.Faults.{kind_number}

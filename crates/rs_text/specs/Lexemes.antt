@@ -1,4 +1,4 @@
--- The tokens of a text, cut off from its front one by one.
+-- Believed: the tokens of a text, cut off from its front one by one.
 use Rattle.std.specs.Prelude.{◌≡◌, ℕ, suc, ◌+◌, ◌-◌, ◌*◌, List, [], ◌∷◌, drop, take, map, nat_lt, if◌then◌else◌, ◌==◌, Bool, true, false}
 use Rattle.std.specs.List.{prefix_len}
 use Rattle.rs_text.specs.declared.tokens.Fault.{Fault}

@@ -1,4 +1,4 @@
--- Names by their places, and names that recursions bind.
+-- Believed: names by their places, and names that recursions bind.
 use Rattle.std.specs.Prelude.{◌≡◌, ◌≢◌, ◌<◌, slice_get, ℕ, Bool, suc, List, [], ◌∷◌, ◌++◌, Option, Some, None, if◌then◌else◌}
 use Rattle.std.specs.List.{list_any}
 use Rattle.std.specs.Str.{bytes_eq}
@@ -35,7 +35,21 @@ abbrev pub bound_to : List ℕ → Bound → Option ℕ
 bound_to name [] = None
 bound_to name (b ∷ bs) = if bytes_eq b.0 name then Some b.1 else bound_to name bs
 
+-- the text, where there is one
+abbrev pub text_or_none : Option (List ℕ) → List ℕ
+text_or_none None = []
+text_or_none (Some text) = text
+
 -- the number, where there is one
 abbrev pub number_or : Option ℕ → ℕ
 number_or None = 0
 number_or (Some n) = n
+
+-- the last number that a name is bound to, by bindings in order
+abbrev pub last_bound : List ℕ → Bound → Option ℕ → Option ℕ
+last_bound name [] found = found
+last_bound name (b ∷ bs) found = last_bound name bs (if bytes_eq b.0 name then Some b.1 else found)
+
+-- the name at a place, or nothing
+abbrev pub name_at : List (List ℕ) → ℕ → List ℕ
+name_at names k = text_or_none (slice_get names k)

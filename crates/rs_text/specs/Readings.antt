@@ -1,4 +1,4 @@
--- What a reader makes of the tokens of a text, for any kind of reader.
+-- Steps: what a reader makes of the tokens of a text, for any kind of reader.
 use Rattle.std.specs.Prelude.{◌≡◌, ℕ, List, [], ◌∷◌, Result, Ok, Err, Bool, if◌then◌else◌}
 use Rattle.rs_text.specs.declared.faults.TextFault.{TextFault}
 use Rattle.rs_text.specs.declared.faults.TextKind.{TextKind}

@@ -1,4 +1,4 @@
--- How printers write names and sorts.
+-- Believed: how printers write names and sorts.
 use Rattle.std.specs.Prelude.{ℕ, List, [], slice_get, Option, Some, None}
 use Rattle.rs_model.specs.declared.values.Sort.{Sort}
 use Rattle.rs_model.specs.declared.values.Sort.TheVariants as sort

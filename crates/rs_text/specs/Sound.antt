@@ -1,4 +1,4 @@
--- Names that a text can have.
+-- Believed: names that a text can have.
 use Rattle.std.specs.Prelude.{◌≡◌, ◌≢◌, ℕ, List, [], ◌∷◌, Bool, true, false, ◌&&◌, if◌then◌else◌}
 use Rattle.std.specs.List.{list_all, All, AllPairs}
 use Rattle.rs_model.specs.Data.{Names_data}

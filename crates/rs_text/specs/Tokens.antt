@@ -1,4 +1,4 @@
--- What the tokens of a text are, apart from any way to find them.
+-- Believed: what the tokens of a text are, apart from any way to find them.
 use Rattle.std.specs.Prelude.{◌≡◌, ◌≢◌, ◌<◌, ◌≤◌, ◌+◌, ℕ, List, [], ◌∷◌, ◌++◌, length, drop, codes, ◌==◌, true, false}
 use Rattle.std.specs.List.{list_all, list_any}
 use Rattle.rs_text.specs.declared.tokens.FaultKind.{FaultKind}

@@ -5,10 +5,8 @@ ghost use Rattle.rs_text.specs.Signs.{broken};
 ghost use Rattle.rs_text.specs.declared.tokens.FaultKind.TheVariants as fault;
 
 use crate::{Fault, FaultKind, Kind, Token};
+use rs_model::MOST_NAME_BYTES;
 use std::marker::Model;
-
-/// The length of the longest word, in bytes.
-pub(crate) const LONGEST_WORD: usize = 64;
 
 /// Cuts a text into its tokens, one by one, without copying it.
 #[derive(Drop)]
@@ -150,7 +148,7 @@ fn word_in_front(bytes: &[u8]) -> Result<(Kind, usize), FaultKind>
     ensures fault { IfErr result (λ kind. word_front bytes.now (word_length bytes.now) ≡ front (broken kind) 0) }
 {
     let size = word_size(bytes);
-    if size > LONGEST_WORD {
+    if size > MOST_NAME_BYTES {
         return Err(FaultKind::NameTooLong);
     }
     Ok((Kind::Word, size))

@@ -1,6 +1,7 @@
 //! Texts: their tokens, places, names and faults, and the buffer that texts are written into.
 #![tactic(auto)]
 
+mod bound;
 mod faults;
 pub mod laws;
 mod lexing;
@@ -14,6 +15,7 @@ pub mod shown;
 mod tests;
 mod tokens;
 
+pub use bound::{Binding, bound_number, unbind};
 pub use faults::{TextFault, TextKind, Wanted};
 pub use lexing::{Lexer, number};
 pub use names::{add, find, is_role_word, is_word, sound};

@@ -6,8 +6,8 @@ ghost use Rattle.rs_text.specs.Words as words;
 ghost use Rattle.rs_text.specs.Words.{begins};
 ghost use Rattle.rs_text.specs.Sound as spec;
 
-use crate::lexing::{LONGEST_WORD, is_digit, is_letter};
-use rs_model::{Name, Names, NoMemory};
+use crate::lexing::{is_digit, is_letter};
+use rs_model::{MOST_NAME_BYTES, Name, Names, NoMemory};
 use std::alloc::Global;
 
 /// The place of a name among others, the first one if it stands there more than once.
@@ -92,7 +92,7 @@ pub fn is_role_word(text: &[u8]) -> bool
 pub fn is_word(text: &[u8]) -> bool
     ensures { result ≡ words.is_word text.now }
 {
-    starts_as_word(text) && are_word_bytes(text) && text.len() <= LONGEST_WORD
+    starts_as_word(text) && are_word_bytes(text) && text.len() <= MOST_NAME_BYTES
 }
 
 fn starts_as_word(text: &[u8]) -> bool

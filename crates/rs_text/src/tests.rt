@@ -1,7 +1,8 @@
 ghost use Rattle.std.specs.Prelude.{◌≤◌, length};
 
 use crate::{
-    FaultKind, Kind, Lexer, Text, TextFault, TextKind, Wanted, add, find, number, place, sound,
+    Binding, FaultKind, Kind, Lexer, Stop, Text, TextFault, TextKind, Wanted, add, bound_number,
+    expected, fault, find, number, place, sound, unbind,
 };
 use rs_model::{Name, Names, NoMemory};
 use std::alloc::Global;
@@ -204,5 +205,49 @@ fn finds_and_adds_names(rt: HostRuntime) -> Result<(), Fail> {
     assert_eq!(rt; add(rt.alloc(), &mut names, b"xy")?, 1);
     assert_eq!(rt; find(&names, b"xy"), Some(1));
     assert_eq!(rt; find(&names, b"y"), None);
+    Ok(())
+}
+
+#[test]
+fn nearest_binding_counts(rt: HostRuntime) -> Result<(), Fail> {
+    let mut bindings = Vec::new(rt.alloc());
+    for (name, number) in [
+        (b"x".as_slice(), 1),
+        (b"y".as_slice(), 2),
+        (b"x".as_slice(), 3),
+    ] {
+        bindings.push(Binding { name, number })?;
+    }
+    assert_eq!(rt; bound_number(&bindings, b"x"), Some(3));
+    assert_eq!(rt; bound_number(&bindings, b"z"), None);
+    unbind(&mut bindings, 2);
+    assert_eq!(rt; bound_number(&bindings, b"x"), Some(1));
+    assert_eq!(rt; bound_number(&bindings, b"y"), Some(2));
+    Ok(())
+}
+
+#[test]
+fn tells_why_a_reading_stops(rt: HostRuntime) -> Result<(), Fail> {
+    let memory = Stop::from(NoMemory).told(7);
+    assert!(rt;
+        memory
+            == TextFault {
+                kind: TextKind::NoMemory,
+                at: 7
+            }
+    );
+    let deep = TextFault {
+        kind: TextKind::TooDeep,
+        at: 3,
+    };
+    assert!(rt; fault(TextKind::TooDeep, 3) == Err(Stop::Fault(deep)));
+    assert!(rt; Stop::Fault(deep).told(7) == deep);
+    let dot = TextFault {
+        kind: TextKind::Expected(Wanted::Dot),
+        at: 4,
+    };
+    assert!(rt; expected(Wanted::Dot, 4) == Err(Stop::Fault(dot)));
+    let lexer = Lexer::new(b"a  # no\n ;", 1);
+    assert_eq!(rt; lexer.next_offset(), 9);
     Ok(())
 }

@@ -1,5 +1,5 @@
 -- A document that a text spells can be printed.
-use Rattle.std.proofs.Common.{◌≡◌, ℕ, zero, suc, ◌≤◌, List, [], ◌∷◌, length, map, Option, Some, None, refl, sym, ap, subst, ◌∙◌, arith, slice_set, if◌then◌else◌, Bool, true, false, ◌++◌, length-append}
+use Rattle.std.proofs.Common.{◌≡◌, ℕ, zero, suc, ◌≤◌, List, [], ◌∷◌, length, Option, Some, None, refl, sym, ap, subst, ◌∙◌, arith, slice_set, if◌then◌else◌, Bool, true, false, ◌++◌, length-append}
 use Rattle.rs_model.specs.Data.{Names_data, Protocol_data, Machine_data}
 use Rattle.rs_text.specs.Names.{grown, is_among}
 use Rattle.rs_text.specs.Sound.{IsSound}
@@ -7,13 +7,14 @@ use Rattle.rs_global.specs.Canonical.{IsTextShaped}
 use Rattle.rs_global.specs.Enough.{AreEnough}
 use Rattle.rs_global.proofs.EnoughNames.{spelt_enough, spelt_shaped}
 use Rattle.rs_machines.specs.Canonical.{IsMachineTextShaped}
-use Rattle.rs_machines.specs.Machines.{names_of, labels_of}
+use Rattle.rs_machines.specs.Machines.{labels_of}
 use Rattle.rs_machines.specs.Spells.{SpellsMachine}
 use Rattle.rs_tool.specs.Data.{Document_data}
-use Rattle.rs_tool.specs.Documents.{GoesOn, Ends, Derives, Breaks, Repeats, Fails, Adds, with_machine, no_machines, IsBehindProtocol}
+use Rattle.rs_tool.specs.Documents.{GoesOn, Ends, Derives, Breaks, Repeats, Fails, Adds, with_machine, no_machines, SpellsDocument}
+use Rattle.rs_tool.proofs.Spelt.{document_found}
 use Rattle.rs_tool.specs.Shown.{AreShown, CanBeShown}
-use Rattle.rs_tool.specs.declared.documents.Found.{Found}
-use Rattle.rs_tool.specs.declared.documents.Found.TheVariants as found
+use Rattle.rs_tool.specs.declared.documents.Content.{Content}
+use Rattle.rs_tool.specs.declared.documents.Content.TheVariants as content
 use Rattle.rs_machines.specs.Enough.{AreEnoughFor}
 use Rattle.rs_machines.proofs.EnoughNames as of_machines
 
@@ -33,7 +34,7 @@ longer (x ∷ ls) names =
     let b = longer ls (if is_among x names then names else names ++ x ∷ []) in
     omega arith
 
-spelt_grows : (bytes : List ℕ) (at : ℕ) (old new : Names_data) (machine : Machine_data) (until : ℕ) → SpellsMachine bytes at old new machine until → Grows old new
+pub spelt_grows : (bytes : List ℕ) (at : ℕ) (old new : Names_data) (machine : Machine_data) (until : ℕ) → SpellsMachine bytes at old new machine until → Grows old new
 spelt_grows bytes at old new machine until s =
     subst (λ (x : Names_data). Grows old x) (sym s.names_are) (record { roles = refl; labels = longer (labels_of s.tree.body) old.labels })
 
@@ -54,8 +55,8 @@ shown_set names [] k m h s e = tt
 shown_set names (x ∷ ms) zero m h s e = ((s, e), h.1)
 shown_set names (x ∷ ms) (suc k) m h s e = (h.0, shown_set names ms k m h.1 s e)
 
-keeps : (bytes : List ℕ) (p : Protocol_data) (at : ℕ) (names : Names_data) (machines : List (Option Machine_data)) (what : Found) → GoesOn bytes p at names machines what → AreShown names machines
-    → (d : Document_data) → what ≡ found.Document d → (d.protocol ≡ p) × Grows names d.names × AreShown d.names d.machines
+keeps : (bytes : List ℕ) (p : Protocol_data) (at : ℕ) (names : Names_data) (machines : List (Option Machine_data)) (what : Content) → GoesOn bytes p at names machines what → AreShown names machines
+    → (d : Document_data) → what ≡ content.Document d → (d.protocol ≡ p) × Grows names d.names × AreShown d.names d.machines
 keeps bytes p at names machines what (Ends a n m e) h d is =
     let same : record { names = names; protocol = p; machines = machines } ≡ d = cc in
     (ap (λ (x : Document_data). x.protocol) (sym same), subst (λ (x : Document_data). Grows names x.names) same (record { roles = refl; labels = omega arith }), subst (λ (x : Document_data). AreShown x.names x.machines) same h)
@@ -82,9 +83,10 @@ enough_more old new p q g e h =
     subst (λ (x : Protocol_data). AreEnough new x) (sym e)
     (record { roles = ap length g.roles ∙ h.roles; labels = λ n place s r arms arm a b. let c = h.labels n place s r arms arm a b in omega arith })
 
-pub can_show : (bytes : List ℕ) (d : Document_data) → IsBehindProtocol bytes (found.Document d) → IsSound d.names → CanBeShown d
-can_show bytes d h sound =
-    let k = keeps bytes h.protocol h.until h.names (no_machines h.names.roles) (found.Document d) h.goes_on (none_shown h.names h.names.roles) d refl in
+pub can_show : (bytes : List ℕ) (d : Document_data) → SpellsDocument bytes d → IsSound d.names → CanBeShown d
+can_show bytes d spelt sound =
+    let h = document_found bytes d spelt in
+    let k = keeps bytes h.protocol h.until h.names (no_machines h.names.roles) (content.Document d) h.goes_on (none_shown h.names h.names.roles) d refl in
     record {
       sound = sound;
       shaped = subst IsTextShaped (sym k.0) (spelt_shaped bytes 0 h.names h.protocol h.until h.spells);
@@ -93,8 +95,9 @@ can_show bytes d h sound =
     }
 
 -- .. and has as many names of roles as its protocol has roles
-pub role_names : (bytes : List ℕ) (d : Document_data) → IsBehindProtocol bytes (found.Document d) → (length d.names.roles ≡ d.protocol.roles) × AreEnough d.names d.protocol × AreShown d.names d.machines × IsTextShaped d.protocol
-role_names bytes d h =
-    let k = keeps bytes h.protocol h.until h.names (no_machines h.names.roles) (found.Document d) h.goes_on (none_shown h.names h.names.roles) d refl in
+pub role_names : (bytes : List ℕ) (d : Document_data) → SpellsDocument bytes d → (length d.names.roles ≡ d.protocol.roles) × AreEnough d.names d.protocol × AreShown d.names d.machines × IsTextShaped d.protocol
+role_names bytes d spelt =
+    let h = document_found bytes d spelt in
+    let k = keeps bytes h.protocol h.until h.names (no_machines h.names.roles) (content.Document d) h.goes_on (none_shown h.names h.names.roles) d refl in
     let e = enough_more h.names d.names h.protocol d.protocol k.1 k.0 (spelt_enough bytes 0 h.names h.protocol h.until h.spells) in
     (e.roles, e, k.2, subst IsTextShaped (sym k.0) (spelt_shaped bytes 0 h.names h.protocol h.until h.spells))

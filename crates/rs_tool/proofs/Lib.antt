@@ -1,9 +1,13 @@
 pub mod Parts
-pub mod OneFound
+pub mod Spelt
+pub mod OneContent
 pub mod CanShow
+pub mod EachRole
+pub mod SpeltSessions
+pub mod Derivings
+pub mod Answering
 pub mod Headline
 pub mod Unique
-pub mod Founds
-pub mod Sameness
 pub mod SomeAnswer
 pub mod Lines
+pub mod OneSession

@@ -1,5 +1,5 @@
--- What a text spells: a document, one with derivations, or a fault.
-use Rattle.std.specs.Prelude.{◌≡◌, ℕ, List, map, codes, Bool, true, false, ◌||◌, Option, Some, None, slice_get, slice_set, if◌then◌else◌}
+-- Steps: what a text is, token by token: a document, one with derivations, or a fault.
+use Rattle.std.specs.Prelude.{◌≡◌, ℕ, List, codes, Bool, false, ◌||◌, Option, Some, None, slice_get, if◌then◌else◌}
 use Rattle.std.specs.Str.{bytes_eq}
 use Rattle.rs_model.specs.Data.{Names_data, Protocol_data, Machine_data}
 use Rattle.rs_text.specs.Faults.{kind_of}
@@ -13,9 +13,9 @@ use Rattle.rs_global.specs.Faults as of_protocols
 use Rattle.rs_global.specs.Spells.{SpellsProtocol}
 use Rattle.rs_machines.specs.Faults as of_machines
 use Rattle.rs_machines.specs.Spells.{SpellsMachine}
-use Rattle.rs_tool.specs.Data.{Document_data}
-use Rattle.rs_tool.specs.declared.documents.Found.{Found}
-use Rattle.rs_tool.specs.declared.documents.Found.TheVariants as found
+pub use Rattle.rs_tool.specs.Spells.{SpellsDocument, no_machines, with_machine}
+use Rattle.rs_tool.specs.declared.documents.Content.{Content}
+use Rattle.rs_tool.specs.declared.documents.Content.TheVariants as content
 
 -- the next token at the offset
 abbrev pub StandsAt : List ℕ → ℕ → Sign → Type 0
@@ -49,55 +49,43 @@ pub record IsTwice (bytes : List ℕ) (names : Names_data) (machines : List (Opt
   pub has : slice_get machines place ≡ Some (Some machine)
   pub stands : second ≡ (next_lexeme bytes (next_lexeme bytes at).until).from
 
--- the machines so far, with one more
-abbrev pub with_machine : List (Option Machine_data) → Machine_data → List (Option Machine_data)
-with_machine machines machine = slice_set machines machine.role.0 (Some machine)
-
 -- what the text is, where the protocol and these machines stand before the offset
-pub data GoesOn (bytes : List ℕ) (protocol : Protocol_data) : (at : ℕ) → Names_data → List (Option Machine_data) → Found → Type 0 where
+pub data GoesOn (bytes : List ℕ) (protocol : Protocol_data) : (at : ℕ) → Names_data → List (Option Machine_data) → Content → Type 0 where
   -- nothing more stands there
   Ends : (at : ℕ) (names : Names_data) (machines : List (Option Machine_data)) → StandsAt bytes at finish
-      → GoesOn bytes protocol at names machines (found.Document (record { names = names; protocol = protocol; machines = machines }))
+      → GoesOn bytes protocol at names machines (content.Document (record { names = names; protocol = protocol; machines = machines }))
   -- derivations
   Derives : (at : ℕ) (names : Names_data) (machines : List (Option Machine_data)) → StandsAt bytes at derivation_word
-      → GoesOn bytes protocol at names machines found.Derivations
+      → GoesOn bytes protocol at names machines content.Derivations
   -- something else that is no machine
   Breaks : (at : ℕ) (names : Names_data) (machines : List (Option Machine_data)) (sign : Sign) (k : TextKind) → StandsAt bytes at sign → fault_behind sign ≡ Some k
-      → GoesOn bytes protocol at names machines (found.Fault (record { kind = k; at = at }))
+      → GoesOn bytes protocol at names machines (content.Fault (record { kind = k; at = at }))
   -- a machine of a role that has one
   Repeats : (at second : ℕ) (names : Names_data) (machines : List (Option Machine_data)) → StandsAt bytes at machine_word → IsTwice bytes names machines at second
-      → GoesOn bytes protocol at names machines (found.Fault (record { kind = kind.NameTwice; at = second }))
+      → GoesOn bytes protocol at names machines (content.Fault (record { kind = kind.NameTwice; at = second }))
   -- a machine at fault
   Fails : (at offset : ℕ) (names : Names_data) (machines : List (Option Machine_data)) (k : TextKind) → StandsAt bytes at machine_word
       → ((second : ℕ) → IsTwice bytes names machines at second → ⊥) → of_machines.FirstFault names bytes at k offset
-      → GoesOn bytes protocol at names machines (found.Fault (record { kind = k; at = offset }))
+      → GoesOn bytes protocol at names machines (content.Fault (record { kind = k; at = offset }))
   -- a machine, and behind it the text goes on
-  Adds : (at next : ℕ) (names new : Names_data) (machines : List (Option Machine_data)) (machine : Machine_data) (what : Found) → StandsAt bytes at machine_word
+  Adds : (at next : ℕ) (names new : Names_data) (machines : List (Option Machine_data)) (machine : Machine_data) (what : Content) → StandsAt bytes at machine_word
       → ((second : ℕ) → IsTwice bytes names machines at second → ⊥) → SpellsMachine bytes at names new machine next
       → GoesOn bytes protocol next new (with_machine machines machine) what
       → GoesOn bytes protocol at names machines what
 
--- no role has a machine
-abbrev pub no_machines : List (List ℕ) → List (Option Machine_data)
-no_machines roles = map (λ (name : List ℕ). None) roles
-
 -- behind a protocol the text is this
-pub record IsBehindProtocol (bytes : List ℕ) (what : Found) : Type 0 where
+pub record IsBehindProtocol (bytes : List ℕ) (what : Content) : Type 0 where
   pub names : Names_data
   pub protocol : Protocol_data
   pub until : ℕ
   pub spells : SpellsProtocol bytes 0 names protocol until
   pub goes_on : GoesOn bytes protocol until names (no_machines names.roles) what
 
--- the bytes spell the document
-abbrev pub SpellsDocument : List ℕ → Document_data → Type 0
-SpellsDocument bytes d = IsBehindProtocol bytes (found.Document d)
-
 -- the bytes spell a protocol and machines, and go on with derivations
 abbrev pub HasDerivations : List ℕ → Type 0
-HasDerivations bytes = IsBehindProtocol bytes found.Derivations
+HasDerivations bytes = IsBehindProtocol bytes content.Derivations
 
 -- the first fault of the text, as far as its machines go
 pub data HasFault (bytes : List ℕ) (kind : TextKind) (at : ℕ) : Type 0 where
   InProtocol : of_protocols.FirstFault bytes 0 kind at → HasFault bytes kind at
-  BehindProtocol : IsBehindProtocol bytes (found.Fault (record { kind = kind; at = at })) → HasFault bytes kind at
+  BehindProtocol : IsBehindProtocol bytes (content.Fault (record { kind = kind; at = at })) → HasFault bytes kind at

@@ -1,13 +1,16 @@
--- The session of a document: its projections and its machines.
-use Rattle.std.specs.Prelude.{◌≡◌, ◌⊎◌, ℕ, ◌<◌, List, [], ◌∷◌, length, Option, Some, None, slice_get}
+-- Believed: the session of a document: its projections and its machines.
+use Rattle.std.specs.Prelude.{◌≡◌, ℕ, ◌<◌, List, [], ◌∷◌, Option, Some, None}
 use Rattle.rs_model.specs.Data.{Machine_data, Protocol_data}
 use Rattle.rs_model.specs.Faults.{first_fault}
 use Rattle.rs_model.specs.declared.checks.MachineFault.{MachineFault}
 use Rattle.rs_model.specs.declared.graph.Role.{Role}
 use Rattle.rs_project.specs.Data.{Projection_data}
-use Rattle.rs_project.specs.Numbered.{IsNumberedProjection, AreFirstProjections}
+use Rattle.rs_project.specs.Numbered.{AreFirstProjections, AreNumberedProjections}
 use Rattle.rs_project.specs.Refusals.{FirstRefusal}
 use Rattle.rs_project.specs.declared.projecting.ProjFault.{ProjFault}
+use Rattle.rs_wellformed.specs.Faults as of_protocols
+use Rattle.rs_tool.specs.Data.{Document_data}
+pub use Rattle.rs_tool.specs.Machines.{machine_or, machines_of}
 
 -- the first role onto which the protocol has no projection, and the first reason
 pub record IsUnprojectable (protocol : Protocol_data) (role : Role) (fault : ProjFault) : Type 0 where
@@ -16,16 +19,14 @@ pub record IsUnprojectable (protocol : Protocol_data) (role : Role) (fault : Pro
   pub projected : AreFirstProjections protocol role.0 earlier
   pub refused : FirstRefusal protocol role fault
 
--- a role without a machine runs its projection
-abbrev pub machine_or : Option Machine_data → Projection_data → Machine_data
-machine_or None projection = projection.machine
-machine_or (Some machine) projection = machine
+-- .. of any role
+abbrev pub Refuses : Protocol_data → ProjFault → Type 0
+Refuses protocol fault = (role : Role) × IsUnprojectable protocol role fault
 
--- the machines of the session, in role order
-abbrev pub machines_of : List (Option Machine_data) → List Projection_data → List Machine_data
-machines_of (own ∷ machines) (projection ∷ projections) = machine_or own projection ∷ machines_of machines projections
-machines_of [] projections = []
-machines_of (own ∷ machines) [] = []
+-- the protocol is well formed, and these are its projections
+pub record HasProjections (d : Document_data) (projections : List Projection_data) : Type 0 where
+  pub well_formed : of_protocols.first_fault d.protocol ≡ None
+  pub projected : AreNumberedProjections d.protocol projections
 
 -- the first machine among so many roles that isn't well formed: its role and its first fault
 pub record MachineRefusal : Type 0 where
@@ -39,8 +40,3 @@ refusal_or None role later = later
 abbrev pub first_refusal : ℕ → List Machine_data → Option MachineRefusal
 first_refusal roles [] = None
 first_refusal roles (machine ∷ machines) = refusal_or (first_fault machine roles) machine.role (first_refusal roles machines)
-
--- each role has a projection, or there is a first reason why it has none
-abbrev pub AreDecided : Protocol_data → Type 0
-AreDecided protocol = (role : Role) → role.0 < protocol.roles
-    → ((projection : Projection_data) × IsNumberedProjection protocol role projection) ⊎ ((fault : ProjFault) × FirstRefusal protocol role fault)

@@ -1,4 +1,4 @@
--- The canonical text of a document.
+-- Believed: what `show` answers to a document: its canonical text.
 use Rattle.std.specs.Prelude.{◌≡◌, ℕ, List, [], ◌∷◌, ◌++◌, Option, Some, None}
 use Rattle.rs_model.specs.Data.{Names_data, Machine_data}
 use Rattle.rs_global.specs.Canonical.{IsCanonicalText, IsTextShaped}
@@ -6,7 +6,8 @@ use Rattle.rs_global.specs.Enough.{AreEnough}
 use Rattle.rs_machines.specs.Canonical.{IsCanonicalMachineText, IsMachineTextShaped}
 use Rattle.rs_machines.specs.Enough.{AreEnoughFor}
 use Rattle.rs_text.specs.Sound.{IsSound}
-use Rattle.rs_tool.specs.Data.{Document_data}
+use Rattle.rs_tool.specs.Data.{Document_data, Answer_data}
+use Rattle.rs_tool.specs.declared.statuses.Verdict.TheVariants.{Fine}
 
 -- a line for each machine that is there, in role order
 abbrev pub AreCanonicalMachines : Names_data → List (Option Machine_data) → List ℕ → Type 0
@@ -22,6 +23,11 @@ pub record IsCanonicalDocument (d : Document_data) (text : List ℕ) : Type 0 wh
   pub protocol : IsCanonicalText d.names d.protocol front
   pub machines : AreCanonicalMachines d.names d.machines back
   pub is : text ≡ front ++ back
+
+-- the document is shown, whether it is well formed or not
+pub record Shows (d : Document_data) (answer : Answer_data) : Type 0 where
+  pub text : IsCanonicalDocument d answer.text
+  pub fine : answer.verdict ≡ Fine
 
 -- the machine, where it is there, can be printed by these names
 abbrev pub IsShown : Names_data → Option Machine_data → Type 0

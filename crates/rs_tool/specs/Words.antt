@@ -1,9 +1,14 @@
--- The words of the program.
-use Rattle.std.specs.Prelude.{List, [], ◌∷◌, ℕ, Bool, false, codes, Option, Some, None, is_some, if◌then◌else◌}
+-- Believed: the words of the program.
+use Rattle.std.specs.Prelude.{String, string_bytes, map, List, [], ◌∷◌, ℕ, Bool, false, codes, Option, Some, None, is_some, if◌then◌else◌}
 use Rattle.std.specs.List.{list_any}
 use Rattle.std.specs.Str.{bytes_eq}
+use Rattle.std.specs.declared.alloc.Global.{Global}
 use Rattle.rs_tool.specs.declared.words.Task.{Task}
 use Rattle.rs_tool.specs.declared.words.Task.TheVariants as task
+
+-- words as lists of bytes
+abbrev pub bytes_of_words : List (String Global) → List (List ℕ)
+bytes_of_words words = map (λ word. string_bytes word) words
 
 -- the names of the commands
 abbrev pub commands : List (List ℕ)

@@ -1,10 +1,11 @@
 //! Documents: a protocol, and machines for some of its roles.
 
 ghost use Rattle.std.specs.Prelude.{◌≡◌, ◌≤◌, ◌<◌, length, IfOk, IfSome, Some, None, slice_get};
+ghost use Rattle.rs_model.specs.declared.limits.TheConstants.{MOST_ROLES};
 ghost use Rattle.rs_text.specs.Lexemes.{sign_of, text_of, next_lexeme, lexeme_of};
 ghost use Rattle.rs_tool.specs.Documents as spec;
 ghost use Rattle.rs_tool.specs.Documents.{StandsAt, is_word, machine_word, with_machine};
-ghost use Rattle.rs_tool.specs.Reading.{GoesOnWith, IsBegin, IsFound, IsInOrder, IsPart, IsReady, is_held, twice_of};
+ghost use Rattle.rs_tool.specs.Reading.{GoesOnWith, IsPartBegin, IsContent, IsInOrder, IsPart, IsReady, is_held, twice_of};
 
 use rs_global::read_protocol;
 use rs_machines::read_machine;
@@ -32,7 +33,7 @@ impl Model for Document {
 
 /// What a text is.
 #[derive(Drop)]
-pub enum Found {
+pub enum Content {
     Document(Document),
     /// A protocol and machines, and derivations behind them.
     Derivations,
@@ -41,7 +42,7 @@ pub enum Found {
 
 /// What the token begins at a place where a machine may stand.
 #[derive(Clone, Copy)]
-enum Begin {
+enum PartBegin {
     End,
     Machine,
     Derivation,
@@ -69,17 +70,17 @@ fn is_word(bytes: &[u8], token: Token, word: &[u8]) -> bool
     }
 }
 
-fn begin_at(bytes: &[u8], at: usize) -> Begin
+fn part_begin_at(bytes: &[u8], at: usize) -> PartBegin
     requires { at ≤ length bytes.now }
-    ensures { IsBegin (next_lexeme bytes.now at).sign result }
+    ensures { IsPartBegin (next_lexeme bytes.now at).sign result }
 {
     let mut lexer = Lexer::new(bytes, at);
     match lexer.next() {
-        Ok(token) if token.kind == Kind::Finish => Begin::End,
-        Ok(token) if is_word(bytes, token, b"machine") => Begin::Machine,
-        Ok(token) if is_word(bytes, token, b"derivation") => Begin::Derivation,
-        Ok(_) => Begin::Fault(TextKind::Expected(Wanted::PartOrEnd)),
-        Err(fault) => Begin::Fault(TextKind::from(fault.kind)),
+        Ok(token) if token.kind == Kind::Finish => PartBegin::End,
+        Ok(token) if is_word(bytes, token, b"machine") => PartBegin::Machine,
+        Ok(token) if is_word(bytes, token, b"derivation") => PartBegin::Derivation,
+        Ok(_) => PartBegin::Fault(TextKind::Expected(Wanted::PartOrEnd)),
+        Err(fault) => PartBegin::Fault(TextKind::from(fault.kind)),
     }
 }
 
@@ -96,7 +97,7 @@ fn is_held(machines: &[Option<Machine>], place: usize) -> bool
 fn twice_of(document: &Document, bytes: &[u8], token: Token) -> Option<usize>
     requires ordered { token.from ≤ token.until }
     requires within { token.until ≤ length bytes.now }
-    requires roles { length document.now.names.roles ≤ 16 }
+    requires roles { length document.now.names.roles ≤ MOST_ROLES }
     ensures twice { result ≡ twice_of document.now.names document.now.machines (lexeme_of bytes.now token) }
     ensures place { IfSome result (λ offset. offset ≤ length bytes.now) }
 {
@@ -112,7 +113,7 @@ fn twice_of(document: &Document, bytes: &[u8], token: Token) -> Option<usize>
 /// The offset of the second token of a machine, where it is a role that has a machine.
 fn twice_at(document: &Document, bytes: &[u8], at: usize) -> Option<usize>
     requires within { at ≤ length bytes.now }
-    requires roles { length document.now.names.roles ≤ 16 }
+    requires roles { length document.now.names.roles ≤ MOST_ROLES }
     requires machine { StandsAt bytes.now at machine_word }
     ensures twice { result ≡ twice_of document.now.names document.now.machines (next_lexeme bytes.now (next_lexeme bytes.now at).until) }
     ensures place { IfSome result (λ offset. offset ≤ length bytes.now) }
@@ -178,16 +179,21 @@ fn read_part(
     requires ready { IsReady document.old }
     ensures { IfOk result (IsPart bytes.now at document.old document.new) }
 {
-    match begin_at(bytes, at) {
-        Begin::End => Ok(Part::End),
-        Begin::Machine => add_machine(alloc, bytes, at, document),
-        Begin::Derivation => Ok(Part::Derivations),
-        Begin::Fault(kind) => Ok(Part::Fault(TextFault { kind, at })),
+    match part_begin_at(bytes, at) {
+        PartBegin::End => Ok(Part::End),
+        PartBegin::Machine => add_machine(alloc, bytes, at, document),
+        PartBegin::Derivation => Ok(Part::Derivations),
+        PartBegin::Fault(kind) => Ok(Part::Fault(TextFault { kind, at })),
     }
 }
 
 /// Reads the machines behind a protocol, to the end of the text or to the first derivation.
-fn read_parts(alloc: Global, bytes: &[u8], at: usize, document: Document) -> Result<Found, NoMemory>
+fn read_parts(
+    alloc: Global,
+    bytes: &[u8],
+    at: usize,
+    document: Document,
+) -> Result<Content, NoMemory>
     requires within { at ≤ length bytes.now }
     requires ready { IsReady document }
     ensures found { IfOk result (GoesOnWith bytes.now document at) }
@@ -197,10 +203,10 @@ fn read_parts(alloc: Global, bytes: &[u8], at: usize, document: Document) -> Res
     let mut at = at;
     loop {
         match read_part(alloc, bytes, at, &mut document) {
-            Ok(Part::End) => return Ok(Found::Document(document)),
+            Ok(Part::End) => return Ok(Content::Document(document)),
             Ok(Part::Machine(next)) => at = next,
-            Ok(Part::Derivations) => return Ok(Found::Derivations),
-            Ok(Part::Fault(fault)) => return Ok(Found::Fault(fault)),
+            Ok(Part::Derivations) => return Ok(Content::Derivations),
+            Ok(Part::Fault(fault)) => return Ok(Content::Fault(fault)),
             Err(refused) => return Err(refused),
         }
     }
@@ -218,8 +224,8 @@ fn no_machines(alloc: Global, roles: &[Name]) -> Result<Vec<Option<Machine>>, No
 }
 
 /// Reads a document, to the end of the text.
-pub fn read_document(alloc: Global, bytes: &[u8]) -> Result<Found, NoMemory>
-    ensures found { IfOk result (IsFound bytes.now) }
+pub fn read_document(alloc: Global, bytes: &[u8]) -> Result<Content, NoMemory>
+    ensures found { IfOk result (IsContent bytes.now) }
     ensures order { IfOk result (IsInOrder bytes.now) }
 {
     match read_protocol(alloc, bytes, 0) {
@@ -237,6 +243,6 @@ pub fn read_document(alloc: Global, bytes: &[u8]) -> Result<Found, NoMemory>
             )
         }
         Err(fault) if fault.kind == TextKind::NoMemory => Err(NoMemory),
-        Err(fault) => Ok(Found::Fault(fault)),
+        Err(fault) => Ok(Content::Fault(fault)),
     }
 }

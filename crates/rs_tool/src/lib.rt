@@ -1,21 +1,25 @@
 //! Documents, reports and `command`.
 #![tactic(auto)]
 
-mod answering;
+mod answers;
+mod calls;
+mod checks;
+mod derivations;
 mod documents;
 pub mod laws;
-mod made;
+mod refusal_texts;
 mod report;
-mod running;
 mod sessions;
 mod shown;
-mod status;
+mod statuses;
+mod tables;
+mod texts;
 mod words;
 
-pub use documents::{Document, Found, read_document};
-pub use running::{command, command_serial};
+pub use calls::{command, command_serial};
+pub use documents::{Content, Document, read_document};
 pub use shown::print_document;
-pub use status::{Reply, Serial, Status};
+pub use statuses::{Reply, Serial, Status};
 
 #[cfg(test)]
 mod tests;

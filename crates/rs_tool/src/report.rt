@@ -1,138 +1,85 @@
 //! The report of an accepted session.
 
-ghost use Rattle.std.specs.Prelude.{◌≡◌, ◌≤◌, ◌<◌, ◌+◌, ◌^◌, ◌++◌, None, length, IfOk, OnOk, IfSome, IfNone};
-ghost use Rattle.std.specs.List.{list_any};
+ghost use Rattle.std.specs.Prelude.{◌≡◌, ◌<◌, ◌^◌, ◌++◌, length, IfOk, OnOk};
+ghost use Rattle.std.specs.List.{All};
+ghost use Rattle.rs_safety.specs.Room as room;
 ghost use Rattle.rs_tool.specs.Report as spec;
 
-use rs_model::{Machine, Name, NoMemory, State};
+use crate::answers::Answer;
+use crate::statuses::Verdict;
+use crate::texts::Piece::{Number, Words};
+use crate::texts::push_pieces;
+use rs_derive::{Derivation, longest, top_rank};
+use rs_model::{Name, NoMemory};
+use rs_safety::Accepted;
 use rs_text::Text;
 use std::alloc::Global;
 
-const MOST_NODES: usize = 65_536;
-
-fn is_takes(state: &State) -> bool
-    ensures { result ≡ spec.is_takes state.now }
+/// The most acts that are owed at a node.
+fn owed_at_most(derivation: &Derivation) -> u64
+    requires { All (λ n. length n.pending < 2 ^ 32) derivation.now.nodes }
+    ensures { result ≡ room.longest derivation.now }
 {
-    match state {
-        State::Takes { .. } => true,
-        State::Puts { .. } | State::Done => false,
-    }
+    u64::from(longest(derivation))
 }
 
-fn receives(machine: &Machine) -> bool
-    ensures { result ≡ spec.receives machine.now }
+/// The greatest rank of a node.
+fn greatest_rank(derivation: &Derivation) -> u64
+    ensures { result ≡ room.top_rank derivation.now }
 {
-    machine.states.iter().any(|state| is_takes(state))
+    u64::from(top_rank(derivation))
 }
 
-fn nodes_at(state: &State) -> usize
-    ensures nodes { result ≡ spec.nodes_at state.now }
-    ensures few { result < 2 ^ 62 }
+fn push_figures(text: &mut Text, name: &Name, derivation: &Derivation) -> Result<(), NoMemory>
+    requires { All (λ n. length n.pending < 2 ^ 32) derivation.now.nodes }
+    ensures { OnOk result (text.new ≡ text.old ++ spec.figures_text name.now derivation.now) }
 {
-    match state {
-        State::Takes { arms, .. } => arms.as_slice().len() + 1,
-        State::Puts { .. } | State::Done => 1,
-    }
+    push_pieces(
+        text,
+        &[
+            Words(name.as_slice()),
+            Words(b": nodes "),
+            Number(derivation.nodes.len() as u64),
+            Words(b" pending "),
+            Number(owed_at_most(derivation)),
+            Words(b" rank "),
+            Number(greatest_rank(derivation)),
+            Words(b"\n"),
+        ],
+    )
 }
 
-/// How many nodes the derivation of a machine has that is its projection; none where they are more than 65,536.
-fn nodes_of(machine: &Machine) -> Option<usize>
-    ensures some { IfSome result (λ nodes. nodes ≡ spec.nodes_of machine.now) }
-    ensures few { IfSome result (λ nodes. nodes ≤ spec.most_nodes) }
-    ensures none { IfNone result (spec.most_nodes < spec.nodes_of machine.now) }
-{
-    let mut nodes = 0;
-    for state in machine.states.as_slice() {
-        nodes += nodes_at(state);
-        if nodes > MOST_NODES {
-            return None;
-        }
-    }
-    Some(nodes)
-}
-
-/// The name of the first role whose machine has a derivation of more than 65,536 nodes.
-pub fn too_many_for<'a>(names: &'a [Name], machines: &[Machine]) -> Option<&'a Name>
-    ensures some { IfSome result (λ name. spec.too_many_for names.now machines.now ≡ Some name.now) }
-    ensures none { IfNone result (spec.too_many_for names.now machines.now ≡ None) }
-{
-    let [name, names @ ..] = names else {
-        return None;
-    };
-    let [machine, machines @ ..] = machines else {
-        return None;
-    };
-    if nodes_of(machine).is_none() {
-        Some(name)
-    } else {
-        too_many_for(names, machines)
-    }
-}
-
-/// One act is pending at most, and none where the machine never receives.
-fn pending_of(machine: &Machine) -> u64
-    ensures { result ≡ spec.pending_of machine.now }
-{
-    if receives(machine) { 1 } else { 0 }
-}
-
-#[tactic(auto, unfolding(crate::specs::Report::figures_text))]
-fn push_figures(
+fn push_all_figures(
     text: &mut Text,
-    name: &Name,
-    machine: &Machine,
-    nodes: usize,
+    names: &[Name],
+    derivations: &[Derivation],
 ) -> Result<(), NoMemory>
-    requires { nodes ≡ spec.nodes_of machine.now }
-    ensures { OnOk result (text.new ≡ text.old ++ spec.figures_text name.now machine.now) }
-{
-    text.push(name.as_slice())?;
-    text.push(b": nodes ")?;
-    text.push_number(nodes as u64)?;
-    text.push(b" pending ")?;
-    text.push_number(pending_of(machine))?;
-    text.push(b" rank 0\n")
-}
-
-fn push_all_figures(text: &mut Text, names: &[Name], machines: &[Machine]) -> Result<(), NoMemory>
-    requires { spec.too_many_for names.now machines.now ≡ None }
-    ensures { OnOk result (text.new ≡ text.old ++ spec.all_figures_text names.now machines.now) }
+    requires { All (λ d. All (λ n. length n.pending < 2 ^ 32) d.nodes) derivations.now }
+    ensures { OnOk result (text.new ≡ text.old ++ spec.all_figures_text names.now derivations.now) }
 {
     let [name, names @ ..] = names else {
         return Ok(());
     };
-    let [machine, machines @ ..] = machines else {
+    let [derivation, derivations @ ..] = derivations else {
         return Ok(());
     };
-    match nodes_of(machine) {
-        Some(nodes) => push_figures(text, name, machine, nodes)?,
-        None => unreachable!(),
-    }
-    push_all_figures(text, names, machines)
+    push_figures(text, name, derivation)?;
+    push_all_figures(text, names, derivations)
 }
 
-fn any_receives(machines: &[Machine]) -> bool
-    ensures { result ≡ list_any spec.receives machines.now }
-{
-    machines.iter().any(|machine| receives(machine))
-}
-
-fn room_of(machines: &[Machine]) -> u64
-    ensures { result ≡ spec.room_of machines.now }
-{
-    if any_receives(machines) { 3 } else { 1 }
-}
-
-/// The report of an accepted session of machines that are their projections.
-pub fn report_text(alloc: Global, names: &[Name], machines: &[Machine]) -> Result<Text, NoMemory>
-    requires { spec.too_many_for names.now machines.now ≡ None }
-    ensures { IfOk result (λ text. text ≡ spec.report_text names.now machines.now) }
+/// The report of an accepted session, from its derivations.
+pub fn report(alloc: Global, names: &[Name], accepted: &Accepted) -> Result<Answer, NoMemory>
+    ensures { IfOk result (λ a. a ≡ spec.report names.now accepted.now.derivations) }
 {
     let mut text = Text::new(alloc);
     text.push(b"accepted\n")?;
-    push_all_figures(&mut text, names, machines)?;
-    text.push(b"room ")?;
-    text.push_number(room_of(machines))?;
-    text.push(b"\n")?;
-    Ok(text)
+    push_all_figures(&mut text, names, accepted.derivations())?;
+    push_pieces(
+        &mut text,
+        &[Words(b"room "), Number(accepted.room()), Words(b"\n")],
+    )?;
+    Ok(Answer {
+        text,
+        verdict: Verdict::Fine,
+    })
 }

@@ -1,4 +1,4 @@
-//! The canonical text of a document.
+//! What `show` answers to a document: its canonical text.
 
 ghost use Rattle.std.specs.Prelude.{◌≡◌, IfOk, OnOk};
 ghost use Rattle.rs_global.specs.Canonical.{IsTextShaped};
@@ -6,9 +6,11 @@ ghost use Rattle.rs_global.specs.Enough.{AreEnough};
 ghost use Rattle.rs_machines.specs.Canonical.{IsMachineTextShaped};
 ghost use Rattle.rs_machines.specs.Enough.{AreEnoughFor};
 ghost use Rattle.rs_text.specs.Sound.{IsSound};
-ghost use Rattle.rs_tool.specs.Shown.{AreShown, CanBeShown, IsCanonicalDocument, IsLineBehind, IsMachineBehind, IsShown, IsShownBehind};
+ghost use Rattle.rs_tool.specs.Shown.{AreShown, CanBeShown, IsCanonicalDocument, IsLineBehind, IsMachineBehind, IsShown, IsShownBehind, Shows};
 
+use crate::answers::Answer;
 use crate::documents::Document;
+use crate::statuses::Verdict;
 use rs_global::print_protocol;
 use rs_machines::print_machine;
 use rs_model::{Machine, Names, NoMemory};
@@ -77,4 +79,15 @@ pub fn print_document(alloc: Global, document: &Document) -> Result<Text, NoMemo
         document.machines.as_slice(),
     )?;
     Ok(text)
+}
+
+/// What `show` answers to a document, whether it is well formed or not.
+pub fn show(alloc: Global, document: &Document) -> Result<Answer, NoMemory>
+    requires { CanBeShown document.now }
+    ensures { IfOk result (Shows document.now) }
+{
+    Ok(Answer {
+        text: print_document(alloc, document)?,
+        verdict: Verdict::Fine,
+    })
 }

@@ -89,13 +89,6 @@ fn texts_and_words_have_their_answers(rt: HostRuntime) -> Result<(), Fail> {
             Status::Fine,
             "accepted\nK: nodes 10 pending 1 rank 0\nS: nodes 6 pending 1 rank 0\nT: nodes 5 pending 1 rank 0\nroom 3\n",
         ),
-        // a machine that differs from its projection
-        (
-            check,
-            "roles A, B\nprotocol A->B:x(). B->A:y(). end\nmachine B: A!y(). A?x(). end\n",
-            Status::NotBuilt,
-            "not built\n",
-        ),
         // derivations
         (
             check,
@@ -315,6 +308,108 @@ fn texts_and_words_have_their_answers(rt: HostRuntime) -> Result<(), Fail> {
         ),
     ] {
         let (found, bytes) = answer(&rt, alloc, words, text.as_bytes())?;
+        assert_eq!(rt; found, status, "{text}");
+        assert_eq!(rt; bytes.as_slice(), written.as_bytes(), "{text}");
+    }
+    Ok(())
+}
+
+#[test]
+fn machines_of_their_own_are_accepted_or_refused(rt: HostRuntime) -> Result<(), Fail> {
+    let alloc = rt.alloc();
+    for (text, status, written) in [
+        // double buffering with an end, the kernel one `ready` ahead
+        (
+            "roles K, S, T\nprotocol rec X. K->S:ready(). T->K:ready(). S->K{copy(bytes). K->T:copy(bytes). X, stop(). K->S:ready(). K->T:stop(). end}\nmachine K: S!ready(). rec X. S!ready(). T?ready(). S?{copy(bytes). T!copy(bytes). X, stop(). T!stop(). end}\n",
+            Status::Fine,
+            "accepted\nK: nodes 13 pending 3 rank 3\nS: nodes 6 pending 1 rank 0\nT: nodes 5 pending 1 rank 0\nroom 16\n",
+        ),
+        // .. without an end
+        (
+            "roles K, S, T\nprotocol rec X. K->S:ready(). T->K:ready(). S->K:copy(bytes). K->T:copy(bytes). X\nmachine K: S!ready(). rec X. S!ready(). T?ready(). S?copy(bytes). T!copy(bytes). X\n",
+            Status::Fine,
+            "accepted\nK: nodes 8 pending 3 rank 3\nS: nodes 3 pending 1 rank 0\nT: nodes 3 pending 1 rank 0\nroom 16\n",
+        ),
+        // B sends first
+        (
+            "roles A, B\nprotocol A->B:x(). B->A:y(). end\nmachine B: A!y(). A?x(). end\n",
+            Status::Fine,
+            "accepted\nA: nodes 4 pending 1 rank 0\nB: nodes 4 pending 1 rank 1\nroom 4\n",
+        ),
+        // A waits where it is to send
+        (
+            "roles A, B\nprotocol A->B:x(). B->A:y(). end\nmachine A: B?y(). B!x(). end\n",
+            Status::Refused,
+            "refused\nA: not found, cut no\n",
+        ),
+        // a source one value ahead
+        (
+            "roles S, T\nprotocol rec X. T->S:ready(). S->T{value(bytes). X, stop(). end}\nmachine S: T!value(bytes). rec X. T?ready(). T!{value(bytes). X, stop(). T?ready(). end}\n",
+            Status::Fine,
+            "accepted\nS: nodes 7 pending 1 rank 1\nT: nodes 5 pending 1 rank 0\nroom 4\n",
+        ),
+        // .. that leaves a `ready` behind
+        (
+            "roles S, T\nprotocol rec X. T->S:ready(). S->T{value(bytes). X, stop(). end}\nmachine S: T!value(bytes). rec X. T?ready(). T!{value(bytes). X, stop(). end}\n",
+            Status::Refused,
+            "refused\nS: not found, cut no\n",
+        ),
+        // .. that never receives
+        (
+            "roles S, T\nprotocol rec X. T->S:ready(). S->T{value(bytes). X, stop(). end}\nmachine S: rec X. T!value(bytes). X\n",
+            Status::Refused,
+            "refused\nS: not found, cut yes\n",
+        ),
+        // P owes a receive for ever
+        (
+            "roles P, Q, R\nprotocol R->P:x(). rec X. P->Q:a(). X\nmachine P: rec X. Q!a(). X\n",
+            Status::Refused,
+            "refused\nP: forgets at node 1\n",
+        ),
+        // fewer sends and more receives
+        (
+            "roles A, B\nprotocol A->B{x(). end, y(). end}\nmachine A: B!x(). end\nmachine B: A?{x(). end, y(). end, z(). end}\n",
+            Status::Fine,
+            "accepted\nA: nodes 2 pending 0 rank 0\nB: nodes 4 pending 1 rank 0\nroom 3\n",
+        ),
+        // a label that isn't taken
+        (
+            "roles A, B\nprotocol A->B{x(). end, y(). end}\nmachine A: B!x(). end\nmachine B: A?x(). end\n",
+            Status::Refused,
+            "refused\nB: not found, cut no\n",
+        ),
+        // as far ahead as the bound allows
+        (
+            "roles A, B\nprotocol A->B:x(). A->B:x(). A->B:x(). A->B:x(). A->B:x(). A->B:x(). A->B:x(). A->B:x(). A->B:x(). A->B:x(). A->B:x(). A->B:x(). A->B:x(). A->B:x(). A->B:x(). A->B:x(). B->A:y(). end\nmachine B: A!y(). A?x(). A?x(). A?x(). A?x(). A?x(). A?x(). A?x(). A?x(). A?x(). A?x(). A?x(). A?x(). A?x(). A?x(). A?x(). A?x(). end\n",
+            Status::Fine,
+            "accepted\nA: nodes 19 pending 1 rank 0\nB: nodes 34 pending 16 rank 16\nroom 289\n",
+        ),
+        // .. and one more
+        (
+            "roles A, B\nprotocol A->B:x(). A->B:x(). A->B:x(). A->B:x(). A->B:x(). A->B:x(). A->B:x(). A->B:x(). A->B:x(). A->B:x(). A->B:x(). A->B:x(). A->B:x(). A->B:x(). A->B:x(). A->B:x(). A->B:x(). B->A:y(). end\nmachine B: A!y(). A?x(). A?x(). A?x(). A?x(). A?x(). A?x(). A?x(). A?x(). A?x(). A?x(). A?x(). A?x(). A?x(). A?x(). A?x(). A?x(). A?x(). end\n",
+            Status::Refused,
+            "refused\nB: not found, cut yes\n",
+        ),
+        // an output that is owed blocks the receive behind it
+        (
+            "roles A, B, C\nprotocol A->B:b(). C->A:c(). A->C:d(). end\nmachine A: C!d(). C?c(). B!b(). end\n",
+            Status::Refused,
+            "refused\nA: not found, cut no\n",
+        ),
+        // the room is of the greatest products, not the product of the greatest figures
+        (
+            "roles A, B, C\nprotocol A->B:x(). A->B:x(). B->A:y(). A->C:s(). C->A:t(). C->A:t(). C->A:t(). C->A:t(). end\nmachine B: A!y(). A?x(). A?x(). end\nmachine C: A!t(). A!t(). A!t(). A!t(). A?s(). end\n",
+            Status::Fine,
+            "accepted\nA: nodes 14 pending 1 rank 0\nB: nodes 6 pending 2 rank 2\nC: nodes 7 pending 1 rank 4\nroom 9\n",
+        ),
+        // both send twice before they receive
+        (
+            "roles A, B\nprotocol A->B:x(). A->B:x(). B->A:y(). B->A:y(). end\nmachine B: A!y(). A!y(). A?x(). A?x(). end\n",
+            Status::Fine,
+            "accepted\nA: nodes 7 pending 1 rank 0\nB: nodes 7 pending 2 rank 3\nroom 11\n",
+        ),
+    ] {
+        let (found, bytes) = answer(&rt, alloc, &["check"], text.as_bytes())?;
         assert_eq!(rt; found, status, "{text}");
         assert_eq!(rt; bytes.as_slice(), written.as_bytes(), "{text}");
     }

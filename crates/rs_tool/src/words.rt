@@ -1,10 +1,10 @@
 //! The words of the program.
 
-ghost use Rattle.std.specs.Prelude.{◌≡◌, map, codes};
+ghost use Rattle.std.specs.Prelude.{◌≡◌, codes};
 ghost use Rattle.std.specs.List.{list_any};
 ghost use Rattle.std.specs.Str.{bytes_eq};
-ghost use Rattle.std.specs.String.{string_bytes};
 ghost use Rattle.rs_tool.specs.Words as spec;
+ghost use Rattle.rs_tool.specs.Words.{bytes_of_words};
 
 /// What the words ask for.
 #[derive(Clone, Copy, Debug, PartialEq, Eq)]
@@ -29,7 +29,7 @@ fn is_command(word: &str) -> bool
 
 /// Whether the first word is a command's name.
 pub fn names_command(words: &[String]) -> bool
-    ensures { result ≡ spec.names_command (map (λ w. string_bytes w) words.now) }
+    ensures { result ≡ spec.names_command (bytes_of_words words.now) }
 {
     match words {
         [] => false,
@@ -39,7 +39,7 @@ pub fn names_command(words: &[String]) -> bool
 
 /// Whether the words are `check` alone.
 fn is_check(words: &[String]) -> bool
-    ensures { result ≡ spec.is_check (map (λ w. string_bytes w) words.now) }
+    ensures { result ≡ spec.is_check (bytes_of_words words.now) }
 {
     match words {
         [word] => word.as_str() == "check",
@@ -49,7 +49,7 @@ fn is_check(words: &[String]) -> bool
 
 /// Whether the words are `show` alone.
 fn is_show(words: &[String]) -> bool
-    ensures { result ≡ spec.is_show (map (λ w. string_bytes w) words.now) }
+    ensures { result ≡ spec.is_show (bytes_of_words words.now) }
 {
     match words {
         [word] => word.as_str() == "show",
@@ -59,7 +59,7 @@ fn is_show(words: &[String]) -> bool
 
 /// Whether the words are `project` alone.
 fn is_project(words: &[String]) -> bool
-    ensures { result ≡ spec.is_project (map (λ w. string_bytes w) words.now) }
+    ensures { result ≡ spec.is_project (bytes_of_words words.now) }
 {
     match words {
         [word] => word.as_str() == "project",
@@ -69,7 +69,7 @@ fn is_project(words: &[String]) -> bool
 
 /// What the words ask for, where it is carried out.
 pub fn task_of(words: &[String]) -> Option<Task>
-    ensures { result ≡ spec.task_of (map (λ w. string_bytes w) words.now) }
+    ensures { result ≡ spec.task_of (bytes_of_words words.now) }
 {
     if is_check(words) {
         Some(Task::Check)

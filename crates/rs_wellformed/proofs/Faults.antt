@@ -1,137 +1,24 @@
 -- What the first fault of a protocol says, and that a protocol has none exactly where it is well formed.
-use Rattle.std.proofs.Common.{◌≡◌, ◌≢◌, ◌⊎◌, ℕ, zero, suc, ◌+◌, ◌<◌, ◌≤◌, List, [], ◌∷◌, ◌++◌, length, Bool, true, false, cond, eqb, ltb, leb, ◌==◌, ◌||◌, Option, Some, None, slice_get, inl, inr, ⊎_elim, sym, refl, ap, subst, ◌∙◌, arith, append_assoc, length-append, zero-add}
-use Rattle.std.proofs.lemmas.Bool.{cases_order, ltb-true, ltb-false, leb-true, leb-false, eqb-true, eqb-false, or_cases, or_parts, false≢true}
-use Rattle.std.proofs.lemmas.Option.{none-some, same_Some, slice_get_within}
+use Rattle.std.proofs.Common.{◌≡◌, ◌≢◌, ◌⊎◌, ℕ, zero, suc, ◌+◌, ◌<◌, ◌≤◌, List, [], ◌∷◌, length, Bool, true, cond, eqb, ltb, leb, ◌||◌, Option, Some, None, slice_get, inl, inr, ⊎_elim, sym, refl, ap, subst, ◌∙◌, arith, zero-add}
+use Rattle.std.proofs.lemmas.Bool.{ltb-true, ltb-false, leb-true, leb-false, eqb-true, eqb-false, or_cases, or_parts}
+use Rattle.std.proofs.lemmas.Option.{none-some, same_Some}
 use Rattle.std.specs.List.{list_any}
+use Rattle.rs_model.proofs.FirstFailed.{or_some, or_none, cond_is, label_is, label_none, any_place, any_not, role_same, stands_twice, once}
+use Rattle.rs_model.specs.FirstFailed.{or_later, label_fault}
 use Rattle.rs_model.specs.Checks.{first_repeat}
 use Rattle.rs_model.specs.Data.{Protocol_data}
-use Rattle.rs_model.specs.Faults.{StandsTwice}
 use Rattle.rs_model.specs.declared.graph.Arm.{Arm}
-use Rattle.rs_model.specs.declared.graph.Label.{Label}
 use Rattle.rs_model.specs.declared.graph.Node.{Node}
 use Rattle.rs_model.specs.declared.graph.Node.TheVariants.{Finished, Talk}
 use Rattle.rs_model.specs.declared.graph.Role.{Role}
 use Rattle.rs_wellformed.proofs.Order.{in_order}
-use Rattle.rs_wellformed.specs.Checks.{or_later, twice, self_fault, count_fault, next_fault, talk_fault, node_fault, nodes_fault, root_fault, protocol_fault}
+use Rattle.rs_wellformed.specs.Checks.{self_fault, count_fault, next_fault, talk_fault, node_fault, nodes_fault, root_fault, protocol_fault}
 use Rattle.rs_wellformed.specs.Faults.{Talks, LeadsOut, Blames, first_fault}
 use Rattle.rs_wellformed.specs.WellFormed.{TalkFits, IsWellFormed}
 use Rattle.rs_wellformed.specs.declared.checks.WfFault.{WfFault}
 use Rattle.rs_wellformed.specs.declared.checks.WfFault.TheVariants.{SelfTalk, NoArms, TooManyArms, TwiceLabel, BadNext}
 
--- choices of what is told
-
-or_some : (a b : Option WfFault) (f : WfFault) → or_later a b ≡ Some f → (a ≡ Some f) ⊎ (b ≡ Some f)
-or_some None b f e = inr e
-or_some (Some g) b f e = inl e
-
-or_none : (a b : Option WfFault) → or_later a b ≡ None → (a ≡ None) × (b ≡ None)
-or_none None b e = (refl, e)
-or_none (Some g) b e = absurd (none-some g (sym e))
-
-cond_is : {A : Type 0} (b : Bool) (x y z : A) → cond b x y ≡ z → ((b ≡ true) × (x ≡ z)) ⊎ ((b ≡ false) × (y ≡ z))
-cond_is true x y z e = inl (refl, e)
-cond_is false x y z e = inr (refl, e)
-
--- lists
-
-get_front : {A : Type 0} (xs ys : List A) (i : ℕ) → i < length xs → slice_get (xs ++ ys) i ≡ slice_get xs i
-get_front [] ys i h = absurd (omega arith)
-get_front (x ∷ xs) ys zero h = refl
-get_front (x ∷ xs) ys (suc i) h = get_front xs ys i (omega arith)
-
-get_here : {A : Type 0} (xs : List A) (y : A) (ys : List A) → slice_get (xs ++ y ∷ ys) (length xs) ≡ Some y
-get_here [] y ys = refl
-get_here (x ∷ xs) y ys = get_here xs y ys
-
-any_place : {A : Type 0} (p : A → Bool) (xs : List A) → list_any p xs ≡ true
-    → (i : ℕ) × (x : A) × (slice_get xs i ≡ Some x) × (p x ≡ true)
-any_place p [] e = absurd (false≢true e)
-any_place p (x ∷ xs) e =
-    ⊎_elim (λ h. (zero, x, refl, h))
-    (λ h. let r = any_place p xs h in (suc r.0, r.1, r.2, r.3)) (or_cases (p x) (list_any p xs) e)
-
-any_not : {A : Type 0} (p : A → Bool) (xs : List A) (i : ℕ) (x : A) → list_any p xs ≡ false → slice_get xs i ≡ Some x
-    → p x ≡ false
-any_not p [] i x e g = absurd (none-some x g)
-any_not p (y ∷ xs) zero x e g =
-    ap p (sym (same_Some y x g)) ∙ (or_parts (p y) (list_any p xs) e).0
-any_not p (y ∷ xs) (suc i) x e g = any_not p xs i x (or_parts (p y) (list_any p xs) e).1 g
-
--- roles and labels are their numbers
-
-role_same : (p q : Role) → p.0 ≡ q.0 → p ≡ q
-role_same p q e = let role : ℕ → Role = λ n. record { 0 = n } in ap role e
-
-label_same : (l k : Label) → l.0 ≡ k.0 → l ≡ k
-label_same l k e = let label : ℕ → Label = λ n. record { 0 = n } in ap label e
-
--- labels
-
-stands_twice : (later earlier : List Arm) (l : Label) → first_repeat later earlier ≡ Some l
-    → StandsTwice (earlier ++ later) l
-stands_twice [] earlier l e = absurd (none-some l e)
-stands_twice (a ∷ later) earlier l e =
-    ⊎_elim
-    (λ h. let r = any_place (λ b. b.label.0 == a.label.0) earlier h.0 in
-    let k : a.label ≡ l = same_Some a.label l h.1 in
-    let w : r.0 < length earlier = slice_get_within earlier r.0 r.1 r.2 in
-    record {
-      first = r.0;
-      second = length earlier;
-      one = r.1;
-      other = a;
-      order = w;
-      at_first = get_front earlier (a ∷ later) r.0 w ∙ r.2;
-      at_second = get_here earlier a later;
-      its_first = label_same r.1.label a.label (eqb-true r.1.label.0 a.label.0 r.3) ∙ k;
-      its_second = k;
-    })
-    (λ h. subst (λ x. StandsTwice x l) (append_assoc earlier (a ∷ []) later)
-    (stands_twice later (earlier ++ a ∷ []) l h.1))
-    (cond_is (list_any (λ b. b.label.0 == a.label.0) earlier) (Some a.label)
-    (first_repeat later (earlier ++ a ∷ [])) (Some l) e)
-
-apart : (later earlier : List Arm) → first_repeat later earlier ≡ None → (i j : ℕ) (a b : Arm)
-    → slice_get later j ≡ Some b → slice_get (earlier ++ later) i ≡ Some a → i < length earlier + j
-    → a.label ≡ b.label → ⊥
-apart [] earlier e i j a b gb ga h l = none-some b gb
-apart (c ∷ later) earlier e i zero a b gb ga h l =
-    ⊎_elim (λ w. none-some c.label (sym w.1))
-    (λ w.
-    eqb-false a.label.0 c.label.0
-    (any_not (λ x. x.label.0 == c.label.0) earlier i a w.0
-    (sym (get_front earlier (c ∷ later) i (omega arith)) ∙ ga))
-    (ap (λ x. x.0) (l ∙ ap (λ x. x.label) (sym (same_Some c b gb)))))
-    (cond_is (list_any (λ x. x.label.0 == c.label.0) earlier) (Some c.label)
-    (first_repeat later (earlier ++ c ∷ [])) None e)
-apart (c ∷ later) earlier e i (suc j) a b gb ga h l =
-    ⊎_elim (λ w. none-some c.label (sym w.1))
-    (λ w.
-    apart later (earlier ++ c ∷ []) w.1 i j a b gb
-    (ap (λ x. slice_get x i) (append_assoc earlier (c ∷ []) later) ∙ ga)
-    (omega (arith, length-append earlier (c ∷ []))) l)
-    (cond_is (list_any (λ x. x.label.0 == c.label.0) earlier) (Some c.label)
-    (first_repeat later (earlier ++ c ∷ [])) None e)
-
-once : (arms : List Arm) → first_repeat arms [] ≡ None → (i j : ℕ) (a b : Arm) → slice_get arms i ≡ Some a
-    → slice_get arms j ≡ Some b → a.label ≡ b.label → i ≡ j
-once arms e i j a b ga gb l =
-    ⊎_elim (λ h. h)
-    (λ h.
-    ⊎_elim (λ k. absurd (apart arms [] e i j a b gb ga (omega arith) l))
-    (λ k. absurd (apart arms [] e j i b a ga gb (omega arith) (sym l))) h)
-    (cases_order i j)
-
 -- what is told of a talk
-
-twice_is : (n : ℕ) (o : Option Label) (f : WfFault) → twice n o ≡ Some f
-    → (l : Label) × (o ≡ Some l) × (TwiceLabel n l ≡ f)
-twice_is n None f e = absurd (none-some f e)
-twice_is n (Some l) f e = (l, refl, same_Some (TwiceLabel n l) f e)
-
-twice_none : (n : ℕ) (o : Option Label) → twice n o ≡ None → o ≡ None
-twice_none n None e = refl
-twice_none n (Some l) e = absurd (none-some (TwiceLabel n l) (sym e))
 
 self_blamed : (p : Protocol_data) (n : ℕ) (sender receiver : Role) (arms : List Arm) (f : WfFault)
     → self_fault n sender receiver ≡ Some f → Talks p n sender receiver arms → Blames p f
@@ -184,9 +71,9 @@ arms_few n arms e =
     None e)
 
 twice_blamed : (p : Protocol_data) (n : ℕ) (sender receiver : Role) (arms : List Arm) (f : WfFault)
-    → twice n (first_repeat arms []) ≡ Some f → Talks p n sender receiver arms → Blames p f
+    → label_fault (λ l. TwiceLabel n l) (first_repeat arms []) ≡ Some f → Talks p n sender receiver arms → Blames p f
 twice_blamed p n sender receiver arms f e t =
-    let r = twice_is n (first_repeat arms []) f e in
+    let r = label_is (λ l. TwiceLabel n l) (first_repeat arms []) f e in
     subst (λ g. Blames p g) r.2 (sender, receiver, arms, t, stands_twice arms [] r.0 r.1)
 
 -- why a next or a role is none
@@ -242,7 +129,7 @@ talk_blamed : (p : Protocol_data) (n : ℕ) (sender receiver : Role) (arms : Lis
 talk_blamed p n sender receiver arms f e t =
     let own : Option WfFault = self_fault n sender receiver in
     let count : Option WfFault = count_fault n arms in
-    let labels : Option WfFault = twice n (first_repeat arms []) in
+    let labels : Option WfFault = label_fault (λ l. TwiceLabel n l) (first_repeat arms []) in
     let nexts : Option WfFault = next_fault p n sender receiver arms in
     ⊎_elim (λ h. self_blamed p n sender receiver arms f h t)
     (λ h.
@@ -258,7 +145,7 @@ talk_fits : (p : Protocol_data) (n : ℕ) (sender receiver : Role) (arms : List 
 talk_fits p n sender receiver arms e =
     let own : Option WfFault = self_fault n sender receiver in
     let count : Option WfFault = count_fault n arms in
-    let labels : Option WfFault = twice n (first_repeat arms []) in
+    let labels : Option WfFault = label_fault (λ l. TwiceLabel n l) (first_repeat arms []) in
     let nexts : Option WfFault = next_fault p n sender receiver arms in
     let h = or_none own (or_later count (or_later labels nexts)) e in
     let q = or_none count (or_later labels nexts) h.1 in
@@ -270,7 +157,7 @@ talk_fits p n sender receiver arms e =
       takes = placed.takes;
       some = arms_some n arms q.0;
       few = arms_few n arms q.0;
-      once = once arms (twice_none n (first_repeat arms []) r.0);
+      once = once arms (label_none (λ l. TwiceLabel n l) (first_repeat arms []) r.0);
       nexts = placed.nexts;
     }
 

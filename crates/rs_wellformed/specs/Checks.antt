@@ -1,25 +1,15 @@
--- The first fault of a protocol, as the code finds it.
+-- Steps: the first fault of a protocol, as the code finds it.
 use Rattle.std.specs.Prelude.{ℕ, ◌+◌, List, [], ◌∷◌, length, ◌==◌, ◌||◌, nat_lt, nat_le, if◌then◌else◌, Option, Some, None}
 use Rattle.std.specs.List.{list_any}
+use Rattle.rs_model.specs.FirstFailed.{or_later, label_fault}
 use Rattle.rs_model.specs.Checks.{first_repeat}
 use Rattle.rs_model.specs.Data.{Protocol_data}
 use Rattle.rs_model.specs.declared.graph.Arm.{Arm}
-use Rattle.rs_model.specs.declared.graph.Label.{Label}
 use Rattle.rs_model.specs.declared.graph.Node.{Node}
 use Rattle.rs_model.specs.declared.graph.Node.TheVariants.{Finished, Talk}
 use Rattle.rs_model.specs.declared.graph.Role.{Role}
 use Rattle.rs_wellformed.specs.declared.checks.WfFault.{WfFault}
 use Rattle.rs_wellformed.specs.declared.checks.WfFault.TheVariants.{SelfTalk, NoArms, TooManyArms, TwiceLabel, BadNext}
-
--- the first fault, where there is one, else the later one
-abbrev pub or_later : Option WfFault → Option WfFault → Option WfFault
-or_later None later = later
-or_later (Some f) _ = Some f
-
--- a label found twice, as a fault
-abbrev pub twice : ℕ → Option Label → Option WfFault
-twice n None = None
-twice n (Some l) = Some (TwiceLabel n l)
 
 -- the sender is the receiver
 abbrev pub self_fault : ℕ → Role → Role → Option WfFault
@@ -41,7 +31,7 @@ abbrev pub talk_fault : Protocol_data → ℕ → Role → Role → List Arm →
 talk_fault p n sender receiver arms =
     or_later (self_fault n sender receiver)
     (or_later (count_fault n arms)
-    (or_later (twice n (first_repeat arms [])) (next_fault p n sender receiver arms)))
+    (or_later (label_fault (λ l. TwiceLabel n l) (first_repeat arms [])) (next_fault p n sender receiver arms)))
 
 -- that of node n, of any kind
 abbrev pub node_fault : Protocol_data → ℕ → Node → Option WfFault

@@ -1,4 +1,4 @@
--- Small protocols that show what the definitions say.
+-- Believed: small protocols that show what the definitions say.
 use Rattle.std.specs.Prelude.{ℕ, [], ◌∷◌}
 use Rattle.rs_model.specs.Data.{Protocol_data}
 use Rattle.rs_model.specs.declared.graph.Node.TheVariants.{Finished, Talk}

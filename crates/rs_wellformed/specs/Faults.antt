@@ -1,6 +1,6 @@
--- The first fault of a protocol, and what each fault says.
-use Rattle.std.specs.Prelude.{◌≡◌, ◌⊎◌, ℕ, ◌+◌, ◌<◌, ◌≤◌, List, [], ◌∷◌, ◌++◌, length, map, slice_get, Bool, not, ◌==◌, nat_le, nat_lt, if◌then◌else◌, Option, Some, None}
-use Rattle.std.specs.List.{list_any}
+-- Believed: the first fault of a protocol, and what each fault says.
+use Rattle.std.specs.Prelude.{◌≡◌, ◌⊎◌, ℕ, ◌+◌, ◌<◌, ◌≤◌, List, [], ◌∷◌, ◌++◌, length, slice_get, not, ◌==◌, nat_le, nat_lt, Option, Some}
+use Rattle.rs_model.specs.FirstFailed.{Test, first_failed, label_tests, next_tests}
 use Rattle.rs_model.specs.Data.{Protocol_data}
 use Rattle.rs_model.specs.Faults.{StandsTwice}
 use Rattle.rs_model.specs.declared.graph.Arm.{Arm}
@@ -10,54 +10,33 @@ use Rattle.rs_model.specs.declared.graph.Role.{Role}
 use Rattle.rs_wellformed.specs.declared.checks.WfFault.{WfFault}
 use Rattle.rs_wellformed.specs.declared.checks.WfFault.TheVariants.{SelfTalk, NoArms, TooManyArms, TwiceLabel, BadNext}
 
--- one test of a protocol: whether the protocol passes it, and the fault that is told where it doesn't
-pub record Test : Type 0 where
-  pub passes : Bool
-  pub fault : WfFault
-
--- the fault of the first test that isn't passed
-abbrev pub first_failed : List Test → Option WfFault
-first_failed [] = None
-first_failed (t ∷ ts) = if t.passes then first_failed ts else Some t.fault
-
--- for each arm, whether its label stands at no earlier arm
-abbrev pub label_tests : ℕ → List Arm → List Arm → List Test
-label_tests n [] earlier = []
-label_tests n (a ∷ later) earlier =
-    record { passes = not (list_any (λ b. b.label.0 == a.label.0) earlier); fault = TwiceLabel n a.label }
-    ∷ label_tests n later (earlier ++ a ∷ [])
-
--- for each arm, whether it leads to one of so many nodes
-abbrev pub next_tests : ℕ → ℕ → List Arm → List Test
-next_tests n count arms = map (λ a. record { passes = nat_lt a.next count; fault = BadNext n }) arms
-
 -- whether the sender and the receiver are among so many roles
-abbrev pub role_tests : ℕ → ℕ → Role → Role → List Test
+abbrev pub role_tests : ℕ → ℕ → Role → Role → List (Test WfFault)
 role_tests n roles sender receiver =
     record { passes = nat_lt sender.0 roles; fault = BadNext n }
     ∷ record { passes = nat_lt receiver.0 roles; fault = BadNext n }
     ∷ []
 
 -- the tests of the talk at node n: two roles, some arms, at most 32, all labels, all nexts, both roles known
-abbrev pub talk_tests : Protocol_data → ℕ → Role → Role → List Arm → List Test
+abbrev pub talk_tests : Protocol_data → ℕ → Role → Role → List Arm → List (Test WfFault)
 talk_tests p n sender receiver arms =
     record { passes = not (sender.0 == receiver.0); fault = SelfTalk n }
     ∷ record { passes = nat_lt 0 (length arms); fault = NoArms n }
     ∷ record { passes = nat_le (length arms) 32; fault = TooManyArms n }
-    ∷ (label_tests n arms [] ++ (next_tests n (length p.nodes) arms ++ role_tests n p.roles sender receiver))
+    ∷ (label_tests (λ l. TwiceLabel n l) arms [] ++ (next_tests (BadNext n) (length p.nodes) arms ++ role_tests n p.roles sender receiver))
 
 -- those of node n, of any kind
-abbrev pub node_tests : Protocol_data → ℕ → Node → List Test
+abbrev pub node_tests : Protocol_data → ℕ → Node → List (Test WfFault)
 node_tests p n Finished = []
 node_tests p n (Talk sender receiver arms) = talk_tests p n sender receiver arms
 
 -- those of the nodes in order, the first of which has the number n
-abbrev pub nodes_tests : Protocol_data → List Node → ℕ → List Test
+abbrev pub nodes_tests : Protocol_data → List Node → ℕ → List (Test WfFault)
 nodes_tests p [] n = []
 nodes_tests p (node ∷ later) n = node_tests p n node ++ nodes_tests p later (n + 1)
 
 -- all tests of a protocol, in order: the root, and those of the nodes
-abbrev pub tests_of : Protocol_data → List Test
+abbrev pub tests_of : Protocol_data → List (Test WfFault)
 tests_of p =
     record { passes = nat_lt p.root (length p.nodes); fault = BadNext p.root } ∷ nodes_tests p p.nodes 0
 

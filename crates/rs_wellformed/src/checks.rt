@@ -3,9 +3,7 @@ ghost use Rattle.rs_wellformed.specs.Checks.{node_fault, protocol_fault, talk_fa
 ghost use Rattle.rs_wellformed.specs.Faults.{first_fault};
 ghost use Rattle.rs_wellformed.specs.WellFormed.{IsWellFormed};
 
-use rs_model::{Arm, Label, Node, Protocol, Role, first_repeat, has_next_from};
-
-const MOST_ARMS: usize = 32;
+use rs_model::{Arm, Label, MOST_ARMS, Node, Protocol, Role, first_repeat, has_next_from};
 
 /// Why a protocol isn't well formed. `node` is the number of the node that is at fault.
 #[derive(Clone, Copy, Debug, PartialEq, Eq)]

@@ -1,4 +1,4 @@
-use Rattle.rs_tool.proofs.OneFound.{some_found}
+use Rattle.rs_tool.proofs.OneContent.{some_found}
 use Rattle.rs_tool.proofs.laws.a_text_is_something.Goals as goal
 
 pub returns : goal.returns

@@ -1,4 +1,4 @@
-use Rattle.rs_tool.proofs.Founds.{all_chosen}
+use Rattle.rs_tool.proofs.EachRole.{all_chosen}
 use Rattle.rs_tool.proofs.sessions.machines_of.Goals as goal
 
 pub returns : goal.returns

@@ -1,6 +1,6 @@
 use Rattle.std.proofs.Common.{◌<◌, subst}
 use Rattle.rs_model.specs.Data.{Protocol_data}
-use Rattle.rs_tool.proofs.Founds.{next_projection, refused_at}
+use Rattle.rs_tool.proofs.EachRole.{next_projection, refused_at}
 use Rattle.rs_tool.proofs.sessions.projections_of.Goals as goal
 
 pub returns-in-Err-clause-err : goal.returns-in-Err-clause-err

@@ -1,0 +1,39 @@
+-- Believed: the law of the actor that draws: it chooses an arm that is there, and a value of its sort.
+use Rattle.std.proofs.Common.{◌≡◌, ℕ, zero, suc, ◌+◌, ◌*◌, ◌<◌, ◌%◌, ◌^◌, List, [], ◌∷◌, Option, Some, slice_get, length, refl, sym, subst, arith}
+use Rattle.std.proofs.lemmas.Bool.{lt-ltb}
+use Rattle.std.proofs.lemmas.Nat.{mod_below}
+use Rattle.rs_model.specs.Sorts.{HasSort}
+use Rattle.rs_model.specs.declared.graph.Arm.{Arm}
+use Rattle.rs_model.specs.declared.values.Sort.{Sort}
+use Rattle.rs_model.specs.declared.values.Sort.TheVariants as sort
+use Rattle.rs_core.specs.Actors.{ChoosesWell}
+use Rattle.rs_core.specs.Draws.{after, draw, draw_value, value_for, by_draws}
+
+draw-low : (x : ℕ) → draw x < 32768
+draw-low x =
+    let low = mod_below (x * 1103515245 + 12345) (2 ^ 31) (omega arith) in
+    omega arith
+
+has-sort : (s : Sort) (x : ℕ) → HasSort (draw_value s x) s
+has-sort sort.Unit x = refl
+has-sort sort.Flag x = refl
+has-sort sort.Natural x = let low = draw-low x in lt-ltb (draw x) (2 ^ 63) (omega arith)
+has-sort sort.Whole x = refl
+has-sort sort.Octets x = refl
+has-sort sort.Numbers x = refl
+
+arm-at : (arms : List Arm) (p : ℕ) → p < length arms → (a : Arm) × (slice_get arms p ≡ Some a)
+arm-at [] p h = absurd (omega arith)
+arm-at (a ∷ arms) zero h = (a, refl)
+arm-at (a ∷ arms) (suc p) h = arm-at arms p (omega arith)
+
+pub some-length : (arms : List Arm) → (arms ≡ [] → ⊥) → 0 < length arms
+some-length [] some = absurd (some refl)
+some-length (a ∷ arms) some = omega arith
+
+pub draws-well : ChoosesWell by_draws
+draws-well x arms some =
+    let low = mod_below (draw x) (length arms) (some-length arms some) in
+    let arm = arm-at arms (draw x % length arms) low in
+    let P : Option Arm → Type 0 = λ z. HasSort (value_for z (after x)) arm.0.sort in
+    (arm.0, arm.1, subst P (sym arm.1) (has-sort arm.0.sort (after x)))

@@ -1,0 +1,157 @@
+-- Steps: what a session and its players say of a moment of the plain run, and what a run shows of its outcome.
+use Rattle.std.specs.Prelude.{◌≡◌, ℕ, ◌+◌, ◌<◌, ◌≤◌, Bool, true, false, List, [], ◌∷◌, Option, Some, slice_get, length, if◌then◌else◌, ◌==◌, suc}
+use Rattle.rs_model.specs.Data.{Machine_data}
+use Rattle.rs_model.specs.declared.graph.Role.{Role}
+use Rattle.rs_model.specs.declared.machines.State.TheVariants.{Puts}
+use Rattle.rs_model.specs.declared.graph.Arm.{Arm}
+use Rattle.rs_core.specs.Actors.{Choice, Behaviour}
+use Rattle.rs_core.specs.Configurations.{state_at}
+use Rattle.rs_core.specs.Core.{Core_data, configuration_of}
+use Rattle.rs_core.specs.Histories.{History, transcript_of}
+use Rattle.rs_core.specs.Plain as plain
+use Rattle.rs_core.specs.Plain.{Moment, IsAtLimit, LimitedTurn, Turns, FirstFull}
+use Rattle.rs_core.specs.Turns.{KeepsWell}
+use Rattle.rs_core.specs.declared.players.Player.{Player}
+use Rattle.rs_core.specs.declared.playing.End.{End}
+use Rattle.rs_core.specs.declared.playing.End.TheVariants as end
+use Rattle.rs_core.specs.declared.playing.Rounded.{Rounded}
+use Rattle.rs_core.specs.declared.playing.Rounded.TheVariants as rounded
+use Rattle.rs_core.specs.declared.runs.Outcome.{Outcome}
+use Rattle.rs_core.specs.declared.runs.Outcome.TheVariants as outcome
+use Rattle.rs_core.specs.declared.runs.RunFault.{RunFault}
+use Rattle.rs_core.specs.declared.runs.RunFault.TheVariants as fault
+use Rattle.rs_core.specs.declared.transcripts.Entry.{Entry}
+use Rattle.rs_core.specs.declared.transcripts.Entry.TheVariants as entry
+
+-- the list has each role's player: its actor, what it keeps, and what the role has done
+pub record ArePlayers {A : Type 0} (roles : ℕ) (h : ℕ → History) (f : ℕ → A) (o : ℕ → Option Choice) (xs : List (Player A)) : Type 0 where
+  pub many : length xs ≡ roles
+  pub actor : (p : ℕ) (x : Player A) → slice_get xs p ≡ Some x → f p ≡ x.actor
+  pub kept : (p : ℕ) (x : Player A) → slice_get xs p ≡ Some x → o p ≡ x.kept
+  pub transcript : (p : ℕ) (x : Player A) → slice_get xs p ≡ Some x → transcript_of (h p) ≡ x.transcript
+
+-- the moment is this one
+pub record Matches {A : Type 0} (ms : List Machine_data) (l : Moment A) (c : Core_data) (xs : List (Player A)) : Type 0 where
+  pub at : configuration_of c ≡ l.at
+  pub machines : c.machines ≡ ms
+  pub players : ArePlayers (length ms) l.history l.actor l.kept xs
+
+-- how many acts the players have made
+abbrev pub acts_of : {A : Type 0} → List (Player A) → ℕ
+acts_of [] = 0
+acts_of {A} (x ∷ xs) = length x.transcript + acts_of xs
+
+-- between turns: a player for each role, what each keeps it can choose now, and none has made more acts than the limit
+pub record AreReady {A : Type 0} (limit : ℕ) (c : Core_data) (xs : List (Player A)) : Type 0 where
+  pub many : length xs ≡ length c.machines
+  pub keeps : (p : ℕ) (x : Player A) → slice_get xs p ≡ Some x → KeepsWell c p x
+  pub few : (p : ℕ) (x : Player A) → slice_get xs p ≡ Some x → length x.transcript ≤ limit
+
+-- what a round from moment l tells
+abbrev pub RoundTells : {A : Type 0} → List Machine_data → Behaviour A → ℕ → Option ℕ → Moment A → Core_data → List (Player A) → Rounded → Type 0
+RoundTells {A} machines b limit capacity l c xs rounded.Moved =
+    (k : Moment A) × Matches machines k c xs × Turns (LimitedTurn machines b limit capacity) (length machines) 0 l k true
+RoundTells {A} machines b limit capacity l c xs rounded.Idle =
+    (k : Moment A) × Matches machines k c xs × Turns (LimitedTurn machines b limit capacity) (length machines) 0 l k false
+RoundTells {A} machines b limit capacity l c xs (rounded.Stopped role) =
+    (k : Moment A) × (moved : Bool) × Matches machines k c xs × Turns (LimitedTurn machines b limit capacity) role.0 0 l k moved
+    × IsAtLimit machines limit role.0 k × (role.0 < length machines)
+
+-- the first i turns of a round have been made, from the session c0 with its players to c with its players
+pub record SoFar {A : Type 0} (b : Behaviour A) (limit : ℕ) (capacity : Option ℕ) (c0 : Core_data) (xs0 : List (Player A)) (c : Core_data) (xs : List (Player A)) (i : ℕ) (moved : Bool) : Type 0 where
+  pub machines : c.machines ≡ c0.machines
+  pub ready : AreReady limit c xs
+  pub acts : acts_of xs0 ≤ acts_of xs
+  pub more : moved ≡ true → acts_of xs0 < acts_of xs
+  pub runs : (l : Moment A) → Matches c0.machines l c0 xs0
+      → (k : Moment A) × Matches c0.machines k c xs × Turns (LimitedTurn c0.machines b limit capacity) i 0 l k moved
+
+-- a round from the session c0 with its players to c with its players
+pub record HasRound {A : Type 0} (b : Behaviour A) (limit : ℕ) (capacity : Option ℕ) (c0 : Core_data) (xs0 : List (Player A)) (c : Core_data) (xs : List (Player A)) (r : Rounded) : Type 0 where
+  pub machines : c.machines ≡ c0.machines
+  pub ready : AreReady limit c xs
+  pub more : r ≡ rounded.Moved → acts_of xs0 < acts_of xs
+  pub tells : (l : Moment A) → Matches c0.machines l c0 xs0 → RoundTells c0.machines b limit capacity l c xs r
+
+-- none of the first n roles stands in a state that sends
+abbrev pub NoneSends : Core_data → ℕ → Type 0
+NoneSends c n = (r : ℕ) (peer : Role) (arms : List Arm) → r < n → state_at c.machines (configuration_of c) r ≡ Some (Puts peer arms) → ⊥
+
+-- the first role in order that stands in a state that sends, and to whom
+pub record IsFirstSender (c : Core_data) (sender : ℕ) (receiver : Role) : Type 0 where
+  pub arms : List Arm
+  pub there : sender < length c.machines
+  pub puts : state_at c.machines (configuration_of c) sender ≡ Some (Puts receiver arms)
+  pub first : NoneSends c sender
+
+-- how rounds end where no role moved in the last one
+abbrev pub EndTells : Core_data → End → Type 0
+EndTells c end.Ended = NoneSends c (length c.machines)
+EndTells c (end.Full sender receiver) = IsFirstSender c sender.0 receiver
+EndTells c (end.Stopped role) = ⊥
+
+-- the list has the actor that is given to each role
+abbrev pub IsGiven : {A : Type 0} → (ℕ → A) → List A → Type 0
+IsGiven {A} given xs = (p : ℕ) (x : A) → slice_get xs p ≡ Some x → given p ≡ x
+
+-- the rounds so far have come to the session c with its players
+pub record RunSoFar {A : Type 0} (b : Behaviour A) (ms : List Machine_data) (limit : ℕ) (capacity : Option ℕ) (xs0 : List A) (c : Core_data) (xs : List (Player A)) : Type 0 where
+  pub machines : c.machines ≡ ms
+  pub ready : AreReady limit c xs
+  pub runs : (given : ℕ → A) → IsGiven given xs0
+      → (k : Moment A) × Matches ms k c xs × ((o : plain.Ending A) → plain.PlainFrom ms b limit capacity k o → plain.IsPlain ms b given limit capacity o)
+
+-- the players are those of the outcome, and the end is its end
+abbrev pub Shows : {A : Type 0} → List Machine_data → Option ℕ → plain.Ending A → End → List (Player A) → Type 0
+Shows machines capacity (plain.Ended k) end.Ended xs = ArePlayers (length machines) k.history k.actor k.kept xs
+Shows machines capacity (plain.Stopped p k) (end.Stopped role) xs = (p ≡ role.0) × ArePlayers (length machines) k.history k.actor k.kept xs
+Shows machines capacity (plain.Stuck k) (end.Full sender receiver) xs =
+    FirstFull machines capacity k sender.0 receiver × ArePlayers (length machines) k.history k.actor k.kept xs
+Shows machines capacity _ _ xs = ⊥
+
+-- the sender and the receiver of a full queue are among so many roles
+abbrev pub IsAmong : ℕ → End → Type 0
+IsAmong roles (end.Full sender receiver) = (sender.0 < roles) × (receiver.0 < roles)
+IsAmong roles _ = Unit {0}
+
+-- the list has each role's actor
+pub record HasActors {A : Type 0} (roles : ℕ) (actor : ℕ → A) (xs : List A) : Type 0 where
+  pub many : length xs ≡ roles
+  pub each : (p : ℕ) → p < roles → slice_get xs p ≡ Some (actor p)
+
+-- the list has each role's transcript
+pub record HasTranscripts (roles : ℕ) (history : ℕ → History) (xs : List (List Entry)) : Type 0 where
+  pub many : length xs ≡ roles
+  pub each : (p : ℕ) → p < roles → slice_get xs p ≡ Some (transcript_of (history p))
+
+-- a run with this outcome and these actors: all have ended, with these transcripts; or this role is at its limit
+abbrev pub IsShown : {A : Type 0} → ℕ → plain.Ending A → Outcome → List A → Type 0
+IsShown roles (plain.Ended k) (outcome.Ended transcripts) actors = HasTranscripts roles k.history transcripts × HasActors roles k.actor actors
+IsShown roles (plain.Stopped p k) (outcome.Stopped role) actors = (p ≡ role.0) × HasActors roles k.actor actors
+IsShown roles _ _ actors = ⊥
+
+-- how many messages a transcript sends to q, and how many it takes from q
+abbrev pub sent_to : ℕ → List Entry → ℕ
+sent_to q [] = 0
+sent_to q (entry.Sent peer label ∷ xs) = if peer.0 == q then suc (sent_to q xs) else sent_to q xs
+sent_to q (entry.Got peer label value ∷ xs) = sent_to q xs
+
+abbrev pub got_from : ℕ → List Entry → ℕ
+got_from q [] = 0
+got_from q (entry.Sent peer label ∷ xs) = got_from q xs
+got_from q (entry.Got peer label value ∷ xs) = if peer.0 == q then suc (got_from q xs) else got_from q xs
+
+-- the plain run with queues of this capacity is stuck: the first sender in order finds its queue full, into which it has
+-- sent so many and from which the receiver has taken so many, which is the capacity less
+pub record IsFullAt {A : Type 0} (machines : List Machine_data) (b : Behaviour A) (actors : ℕ → A) (limit capacity : ℕ) (sender receiver : Role) (sent taken : ℕ) : Type 0 where
+  pub end : Moment A
+  pub plain : plain.IsPlain machines b actors limit (Some capacity) (plain.Stuck end)
+  pub full : FirstFull machines (Some capacity) end sender.0 receiver
+  pub is_sent : sent ≡ sent_to receiver.0 (transcript_of (end.history sender.0))
+  pub is_taken : taken ≡ got_from sender.0 (transcript_of (end.history receiver.0))
+  pub apart : sent ≡ taken + capacity
+
+-- what a fault of a run says
+abbrev pub FaultTells : {A : Type 0} → List Machine_data → Behaviour A → (ℕ → A) → ℕ → ℕ → RunFault → Type 0
+FaultTells machines b actors limit capacity (fault.Full sender receiver sent taken) = IsFullAt machines b actors limit capacity sender receiver sent taken
+FaultTells machines b actors limit capacity fault.NoMemory = Unit {0}

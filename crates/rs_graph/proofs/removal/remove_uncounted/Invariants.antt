@@ -1,0 +1,4 @@
+use Rattle.rs_graph.proofs.removal.remove_uncounted.Given as goal
+
+abbrev pub ghosts-remove_by : goal.ghosts-remove_by
+ghosts-remove_by a = record { name = a.blank.name; parts = a.blank.parts }

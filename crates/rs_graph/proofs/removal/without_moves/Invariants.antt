@@ -1,0 +1,6 @@
+use Rattle.std.proofs.Common.{◌≡◌, ◌++◌, ℕ, drop}
+use Rattle.rs_graph.specs.Removal.{moveless}
+use Rattle.rs_graph.proofs.removal.without_moves.Given as goal
+
+abbrev pub invariant-loop-node : goal.invariant-loop-node
+invariant-loop-node l = l.order.items ++ moveless l.node (drop l.node l.graph.outs) ≡ moveless 0 l.graph.outs

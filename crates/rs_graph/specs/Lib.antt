@@ -1,0 +1,9 @@
+pub mod Built
+pub mod Discovery
+pub mod Graphs
+pub mod Lists
+pub mod Places
+pub mod Ranks
+pub mod Removal
+pub mod Unranked
+pub mod Walks

@@ -1,0 +1,99 @@
+-- Steps: the removal of nodes that have no move left: a graph whose nodes have moves, and of each move the results.
+use Rattle.std.specs.Prelude.{◌≡◌, ◌≢◌, ◌⊎◌, ℕ, suc, ◌+◌, ◌<◌, ◌≤◌, Bool, true, false, List, [], ◌∷◌, length, map, replicate, ◌==◌, if◌then◌else◌, Some, slice_get, slice_index_or}
+use Rattle.std.specs.List.{sum_by}
+use Rattle.rs_graph.specs.Lists.{Among, Once}
+use Rattle.rs_graph.specs.declared.graph.Move.{Move}
+
+-- how many moves the node has
+abbrev pub moves_at : List (List (List ℕ)) → ℕ → ℕ
+moves_at outs n = length (slice_index_or outs n [])
+
+-- the move at that place of node n has the result r
+abbrev pub Leads : List (List (List ℕ)) → ℕ → ℕ → ℕ → Type 0
+Leads outs n place r = Among (slice_index_or (slice_index_or outs n []) place []) r
+
+-- how many results all the moves have together
+abbrev pub edges_in : List (List (List ℕ)) → ℕ
+edges_in outs = sum_by (λ (moves : List (List ℕ)). sum_by (λ (results : List ℕ). length results) moves) outs
+
+-- for each node the moves that have it as a result, each as often as it has it
+pub record IsInto (outs : List (List (List ℕ))) (intos : List (List Move)) : Type 0 where
+  pub size : length intos ≡ length outs
+  pub to : (m : Move) (r : ℕ) → Leads outs m.node m.place r → Among (slice_index_or intos r []) m
+  pub from : (m : Move) (r : ℕ) → Among (slice_index_or intos r []) m → Leads outs m.node m.place r
+  pub count : sum_by (λ (row : List Move). length row) intos ≡ edges_in outs
+
+-- where the node stands: at the place of its first move that isn't lost, or behind its last
+abbrev pub at : List ℕ → ℕ → ℕ
+at current n = slice_index_or current n 0
+
+-- a result of the move stands in the list before that place
+pub record Behind (outs : List (List (List ℕ))) (order : List ℕ) (n place before : ℕ) : Type 0 where
+  pub result : ℕ
+  pub leads : Leads outs n place result
+  pub index : ℕ
+  pub is : slice_get order index ≡ Some result
+  pub early : index < before
+
+-- the nodes that are removed, in an order in which each move of a removed node has a result that was removed before; and for each other node its first move whose results all stay
+pub record IsRemoval (outs : List (List (List ℕ))) (current order : List ℕ) : Type 0 where
+  pub size : length current ≡ length outs
+  pub within : (n : ℕ) → at current n ≤ moves_at outs n
+  pub stays : (n r : ℕ) → at current n < moves_at outs n → Leads outs n (at current n) r → at current r < moves_at outs r
+  pub passed : (n place : ℕ) → place < at current n → Behind outs order n place (length order)
+  pub gone : (i n : ℕ) → slice_get order i ≡ Some n → (n < length outs) × (at current n ≡ moves_at outs n)
+  pub ordered : (i n place : ℕ) → slice_get order i ≡ Some n → place < moves_at outs n → Behind outs order n place i
+  pub listed : (n : ℕ) → n < length outs → at current n ≡ moves_at outs n → Among order n
+  pub once : Once order
+
+-- the flag of the move
+abbrev pub is_lost : List (List Bool) → ℕ → ℕ → Bool
+is_lost lost n place = slice_index_or (slice_index_or lost n []) place false
+
+-- what holds in between; a removed node stands in the order, and its news is still to be told to the moves that are left
+pub record Going (outs : List (List (List ℕ))) (lost : List (List Bool)) (current order : List ℕ) (Left : ℕ → Move → Type 0) : Type 0 where
+  pub rows : length lost ≡ length outs
+  pub nodes : length current ≡ length outs
+  pub flags : (n : ℕ) → length (slice_index_or lost n []) ≡ moves_at outs n
+  pub within : (n : ℕ) → at current n ≤ moves_at outs n
+  pub unlost : (n : ℕ) → at current n < moves_at outs n → is_lost lost n (at current n) ≡ false
+  pub past : (n place : ℕ) → place < at current n → is_lost lost n place ≡ true
+  pub gone : (n place : ℕ) → is_lost lost n place ≡ true → Behind outs order n place (length order)
+  pub removed : (i n : ℕ) → slice_get order i ≡ Some n → (n < length outs) × (at current n ≡ moves_at outs n)
+  pub ordered : (i n place : ℕ) → slice_get order i ≡ Some n → place < moves_at outs n → Behind outs order n place i
+  pub listed : (n : ℕ) → n < length outs → at current n ≡ moves_at outs n → Among order n
+  pub once : Once order
+  pub told : (m : Move) (x : ℕ) → is_lost lost m.node m.place ≡ false → Leads outs m.node m.place x → x < length outs → at current x ≡ moves_at outs x
+      → (j : ℕ) × (slice_get order j ≡ Some x) × Left j m
+
+-- the news of the nodes from that place of the order on
+abbrev pub From : ℕ → ℕ → Move → Type 0
+From k j m = k ≤ j
+
+-- the news of the node at that place to these moves, and of those behind it
+abbrev pub Rest : ℕ → List Move → ℕ → Move → Type 0
+Rest k rest j m = (k < j) ⊎ ((j ≡ k) × Among rest m)
+
+-- what telling the news of a node costs
+abbrev pub cost_of : List (List Move) → ℕ → ℕ
+cost_of intos n = suc (length (slice_index_or intos n []))
+
+-- the edges and the nodes, counted together
+abbrev pub whole : List (List Move) → ℕ
+whole intos = sum_by (λ (row : List Move). suc (length row)) intos
+
+-- the next move of a node from a place on that isn't lost, or the number of its moves
+pub record Next (flags : List Bool) (start next : ℕ) : Type 0 where
+  pub most : next ≤ length flags
+  pub unlost : next < length flags → slice_index_or flags next false ≡ false
+  pub past : (place : ℕ) → start ≤ place → place < next → slice_index_or flags place false ≡ true
+  pub on : start ≤ next
+
+-- no flag is raised
+abbrev pub unflagged : List (List (List ℕ)) → List (List Bool)
+unflagged outs = map (λ (row : List (List ℕ)). replicate (length row) false) outs
+
+-- the nodes that have no move, the first of which has the number n
+abbrev pub moveless : ℕ → List (List (List ℕ)) → List ℕ
+moveless n [] = []
+moveless n (row ∷ outs) = if length row == 0 then n ∷ moveless (n + 1) outs else moveless (n + 1) outs

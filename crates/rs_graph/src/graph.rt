@@ -1,0 +1,320 @@
+//! Graphs whose nodes have moves.
+ghost use Rattle.std.specs.Prelude.{◌≡◌, ◌<◌, ◌+◌, ◌^◌, [], ◌∷◌, ◌++◌, List, ℕ, OnOk, OnErr, OnSome, IfOk, length, slice_get, slice_index_or, slice_set};
+ghost use Rattle.rs_graph.specs.Graphs.{pair_of, with_end, with_move, with_result};
+ghost use Rattle.rs_graph.specs.declared.graph.Move.{Move};
+
+use crate::steps::Steps;
+use rs_model::NoMemory;
+use std::alloc::Global;
+use std::marker::Model;
+use std::sync::ledger::Ledger;
+
+/// A move, by its node and its place among the node's moves.
+#[derive(Clone, Copy, Debug, PartialEq, Eq)]
+pub struct Move {
+    pub node: u32,
+    pub place: u32,
+}
+
+/// Numbers.
+#[derive(Drop, Debug)]
+pub struct Row {
+    numbers: Vec<u32>,
+}
+
+impl Model for Row {
+    ghost use Rattle.std.specs.Prelude.{List, ℕ};
+
+    ghost Value = { List ℕ };
+
+    ghost view = { λ a. a.numbers.items };
+}
+
+impl Row {
+    pub fn new(alloc: Global) -> Row
+        ensures { result ≡ [] }
+    {
+        Row {
+            numbers: Vec::new(alloc),
+        }
+    }
+
+    pub fn as_slice(&self) -> &[u32]
+        ensures { result.now ≡ self.now }
+    {
+        self.numbers.as_slice()
+    }
+
+    /// The same numbers in memory of their own.
+    pub fn copy(&self, alloc: Global) -> Result<Row, NoMemory>
+        ensures { IfOk result (λ r. r ≡ self.now) }
+    {
+        Ok(Row {
+            numbers: Vec::from_slice(alloc, self.numbers.as_slice())?,
+        })
+    }
+
+    pub fn push(&mut self, n: u32) -> Result<(), NoMemory>
+        ensures ok { OnOk result (self.new ≡ self.old ++ n ∷ []) }
+        ensures err { OnErr result (self.new ≡ self.old) }
+    {
+        self.numbers.push(n)?;
+        Ok(())
+    }
+}
+
+/// The moves of a node, each with its results.
+#[derive(Drop, Debug)]
+pub struct Rows {
+    rows: Vec<Row>,
+}
+
+impl Model for Rows {
+    ghost use Rattle.std.specs.Prelude.{List, ℕ};
+
+    ghost Value = { List (List ℕ) };
+
+    ghost view = { λ a. a.rows.items };
+
+    ghost use Rattle.std.specs.Prelude.{◌<◌, ◌^◌, length};
+
+    ghost invariant = { λ a. length a.rows.items < 2 ^ 32 };
+}
+
+impl Rows {
+    pub fn new(alloc: Global) -> Rows
+        ensures { result ≡ [] }
+    {
+        Rows {
+            rows: Vec::new(alloc),
+        }
+    }
+
+    pub fn as_slice(&self) -> &[Row]
+        ensures { result.now ≡ self.now }
+    {
+        self.rows.as_slice()
+    }
+
+    pub fn count(&self) -> u32
+        ensures { result ≡ length self.now }
+    {
+        self.rows.len() as u32
+    }
+
+    pub fn push(&mut self, row: Row) -> Result<(), NoMemory>
+        requires { length self.old + 1 < 2 ^ 32 }
+        ensures ok { OnOk result (self.new ≡ self.old ++ row ∷ []) }
+        ensures err { OnErr result (self.new ≡ self.old) }
+    {
+        self.rows.push(row)?;
+        Ok(())
+    }
+
+    pub fn push_at(&mut self, place: u32, n: u32) -> Result<(), NoMemory>
+        requires { place < length self.old }
+        ensures ok { OnOk result (self.new ≡ slice_set self.old place (slice_index_or self.old place [] ++ n ∷ [])) }
+        ensures err { OnErr result (self.new ≡ self.old) }
+    {
+        self.rows[place as usize].push(n)
+    }
+}
+
+/// The moves that lead to a node.
+#[derive(Drop, Debug)]
+pub struct Ends {
+    moves: Vec<Move>,
+}
+
+impl Model for Ends {
+    ghost use Rattle.std.specs.Prelude.{List};
+    ghost use Rattle.rs_graph.specs.declared.graph.Move.{Move};
+
+    ghost Value = { List Move };
+
+    ghost view = { λ a. a.moves.items };
+}
+
+impl Ends {
+    pub fn new(alloc: Global) -> Ends
+        ensures { result ≡ [] }
+    {
+        Ends {
+            moves: Vec::new(alloc),
+        }
+    }
+
+    pub fn as_slice(&self) -> &[Move]
+        ensures { result.now ≡ self.now }
+    {
+        self.moves.as_slice()
+    }
+
+    pub fn push(&mut self, m: Move) -> Result<(), NoMemory>
+        ensures ok { OnOk result (self.new ≡ self.old ++ m ∷ []) }
+        ensures err { OnErr result (self.new ≡ self.old) }
+    {
+        self.moves.push(m)?;
+        Ok(())
+    }
+
+    pub fn pop(&mut self)
+        ensures { (m : Move) (ms : List Move) → self.old ≡ ms ++ m ∷ [] → self.new ≡ ms }
+    {
+        self.moves.pop();
+    }
+}
+
+/// Nodes, the moves of each, and the results of each move, which only counted calls read.
+#[derive(Drop, Debug)]
+pub struct Graph {
+    outs: Vec<Rows>,
+    intos: Vec<Ends>,
+}
+
+impl Model for Graph {
+    ghost use Rattle.rs_graph.specs.Graphs.{Graph_data};
+
+    ghost Value = { Graph_data };
+
+    ghost view = { λ g. record { outs = g.outs.items; intos = g.intos.items } };
+
+    ghost use Rattle.std.specs.Prelude.{◌≡◌, length};
+
+    ghost invariant = { λ g. length g.outs.items ≡ length g.intos.items };
+}
+
+impl Graph {
+    /// No nodes.
+    pub fn new(alloc: Global) -> Graph
+        ensures outs { result.outs ≡ [] }
+        ensures intos { result.intos ≡ [] }
+    {
+        Graph {
+            outs: Vec::new(alloc),
+            intos: Vec::new(alloc),
+        }
+    }
+
+    pub fn nodes(&self) -> usize
+        ensures nodes { result ≡ length self.now.outs }
+        ensures same { length self.now.outs ≡ length self.now.intos }
+    {
+        self.outs.len()
+    }
+
+    /// One more node, which has no moves; its number.
+    pub fn add_node(&mut self) -> Result<u32, NoMemory>
+        requires { length self.old.outs + 1 < 2 ^ 32 }
+        ensures number { IfOk result (λ n. n ≡ length self.old.outs) }
+        ensures outs { OnOk result (self.new.outs ≡ self.old.outs ++ [] ∷ []) }
+        ensures intos { OnOk result (self.new.intos ≡ self.old.intos ++ [] ∷ []) }
+        ensures err { OnErr result (self.new ≡ self.old) }
+    {
+        let alloc = *self.outs.allocator();
+        let number = self.outs.len() as u32;
+        self.outs.push(Rows::new(alloc))?;
+        if self.intos.push(Ends::new(alloc)).is_err() {
+            self.outs.pop();
+            return Err(NoMemory);
+        }
+        Ok(number)
+    }
+
+    /// One more move of the node, which has no results; its place.
+    pub fn add_move(&mut self, node: u32) -> Result<u32, NoMemory>
+        requires there { node < length self.old.outs }
+        requires few { length (slice_index_or self.old.outs node []) + 1 < 2 ^ 32 }
+        ensures place { IfOk result (λ p. p ≡ length (slice_index_or self.old.outs node [])) }
+        ensures outs { OnOk result (self.new.outs ≡ with_move self.old.outs node) }
+        ensures intos { OnOk result (self.new.intos ≡ self.old.intos) }
+        ensures err { OnErr result (self.new ≡ self.old) }
+    {
+        let alloc = *self.outs.allocator();
+        let place = self.outs[node as usize].as_slice().len() as u32;
+        self.outs[node as usize].push(Row::new(alloc))?;
+        Ok(place)
+    }
+
+    /// One more result of the move.
+    pub fn add_edge(&mut self, node: u32, place: u32, target: u32) -> Result<(), NoMemory>
+        requires there { node < length self.old.outs }
+        requires place { place < length (slice_index_or self.old.outs node []) }
+        requires target { target < length self.old.outs }
+        ensures outs { OnOk result (self.new.outs ≡ with_result self.old.outs node place target) }
+        ensures intos { OnOk result (self.new.intos ≡ with_end self.old.intos target (record { node = node; place = place })) }
+        ensures err { OnErr result (self.new ≡ self.old) }
+    {
+        self.intos[target as usize].push(Move { node, place })?;
+        if self.outs[node as usize].push_at(place, target).is_err() {
+            self.intos[target as usize].pop();
+            return Err(NoMemory);
+        }
+        Ok(())
+    }
+
+    /// How many moves the node has.
+    pub fn moves(&self, node: u32) -> u32
+        requires { node < length self.now.outs }
+        ensures { result ≡ length (slice_index_or self.now.outs node []) }
+    {
+        self.outs[node as usize].count()
+    }
+
+    /// The nth result of the move, or none where it has fewer. One step.
+    pub fn out<L: Ledger>(
+        &self,
+        node: u32,
+        place: u32,
+        nth: u32,
+        steps: &mut Steps<L>,
+    ) -> Option<u32>
+        requires there { node < length self.now.outs }
+        requires place { place < length (slice_index_or self.now.outs node []) }
+        ensures value { result ≡ slice_get (slice_index_or (slice_index_or self.now.outs node []) place []) nth }
+        ensures step { steps.new ≡ steps.old + 1 }
+    {
+        steps.tick();
+        let row = self.outs[node as usize].as_slice()[place as usize].as_slice();
+        let nth = nth as usize;
+        if nth < row.len() {
+            Some(row[nth])
+        } else {
+            None
+        }
+    }
+
+    /// The nth edge that ends at the node, by the node and the place of its move, in order of addition; none where
+    /// there are fewer. One step.
+    pub fn into<L: Ledger>(&self, node: u32, nth: u64, steps: &mut Steps<L>) -> Option<(u32, u32)>
+        requires { node < length self.now.outs }
+        ensures value { result ≡ pair_of (slice_get (slice_index_or self.now.intos node []) nth) }
+        ensures step { steps.new ≡ steps.old + 1 }
+    {
+        match self.move_into(node, nth as usize, steps) {
+            Some(m) => Some((m.node, m.place)),
+            None => None,
+        }
+    }
+
+    // The same as a move.
+    pub(crate) fn move_into<L: Ledger>(
+        &self,
+        node: u32,
+        nth: usize,
+        steps: &mut Steps<L>,
+    ) -> Option<Move>
+        requires { node < length self.now.outs }
+        ensures value { result ≡ slice_get (slice_index_or self.now.intos node []) nth }
+        ensures fits { OnSome result (nth + 1 < 2 ^ 64) }
+        ensures step { steps.new ≡ steps.old + 1 }
+    {
+        steps.tick();
+        let row = self.intos[node as usize].as_slice();
+        if nth < row.len() {
+            Some(row[nth])
+        } else {
+            None
+        }
+    }
+}

@@ -1,0 +1,206 @@
+-- What a session that may be accepted gives to the test of its derivations.
+use Rattle.std.proofs.Common.{◌≡◌, inl, inr, ℕ, suc, ◌+◌, ◌*◌, ◌^◌, ◌<◌, ◌≤◌, List, [], ◌∷◌, All, Some, slice_get, drop, map, max, length, refl, sym, ap, ◌∙◌, subst, subst₂, ap₂, arith, get_or}
+use Rattle.std.proofs.lemmas.Bool.Decides.{eqb_tells}
+use Rattle.std.proofs.lemmas.Option.{slice_get-get_or, slice_get-map, slice_get_within, same_Some}
+use Rattle.std.proofs.lemmas.Bool.{cases_order}
+use Rattle.std.proofs.lemmas.List.{get_or_default, length-map}
+use Rattle.std.proofs.Math.Nat.{max-eq_left, max-eq_right, mul-le-mul_right}
+use Rattle.rs_derive.proofs.Loops.{drop_here}
+use Rattle.rs_model.specs.Data.{Machine_data, Protocol_data}
+use Rattle.rs_derive.specs.Data.{DNode_data, Derivation_data}
+use Rattle.rs_derive.specs.Derivations.{IsDerivation, IsProper, Remembers}
+use Rattle.rs_derive.specs.Faults.{first_fault}
+use Rattle.rs_derive.specs.declared.faults.DeriveFault.{DeriveFault}
+use Rattle.rs_core.specs.Safety.{IsSafe}
+use Rattle.rs_project.specs.Data.{Projection_data}
+use Rattle.rs_project.specs.Projection.{AreProjections}
+use Rattle.rs_project.specs.Numbered.{AreNumberedProjections}
+use Rattle.rs_project.proofs.Machines.{projection-machine}
+use Rattle.rs_safety.specs.Accepting.{Accepted_data, FirstRefused, IsAcceptedSession}
+use Rattle.rs_safety.specs.Room.{longest, top_rank, lag}
+use Rattle.rs_derive.specs.Figures.{IsGreatest, greatest}
+use Rattle.rs_safety.proofs.Limits.{is-greatest}
+use Rattle.rs_safety.proofs.Sessions.{no-machine, no-projection}
+use Rattle.rs_safety.specs.Sessions.{AreDerivations, AreOneEach, IsSession}
+use Rattle.rs_safety.proofs.Walks.{numbered}
+use Rattle.rs_safety.proofs.Reordered.{safe}
+
+-- before the place each derivation is one, and remembers
+abbrev pub AreDerivedBefore : List Machine_data → List Projection_data → List Derivation_data → ℕ → Type 0
+AreDerivedBefore machines projections derivations place =
+    (p : ℕ) (m : Machine_data) (j : Projection_data) (d : Derivation_data) → p < place → slice_get machines p ≡ Some m
+    → slice_get projections p ≡ Some j → slice_get derivations p ≡ Some d → IsDerivation d m j.machine × Remembers d m j.machine
+
+-- projections with fixed numbers are projections
+pub are-projections : (pr : Protocol_data) (pjs : List Projection_data) → AreNumberedProjections pr pjs → AreProjections pr pjs
+are-projections pr pjs are = record { many = are.many; each = λ p j h. (are.each p j h).is }
+
+pub machine-proper : (pr : Protocol_data) (pjs : List Projection_data) (ms : List Machine_data) → IsSession pr pjs ms
+    → (p : ℕ) (m : Machine_data) → slice_get ms p ≡ Some m → IsProper m
+machine-proper pr pjs ms s p m h = (length ms, s.machines_fit.fits p m h)
+
+pub projection-proper : (pr : Protocol_data) (pjs : List Projection_data) (ms : List Machine_data) → IsSession pr pjs ms
+    → (p : ℕ) (j : Projection_data) → slice_get pjs p ≡ Some j → IsProper j.machine
+projection-proper pr pjs ms s p j h =
+    let w = slice_get_within pjs p j h in
+    let many = s.projected.many in
+    (pr.roles, projection-machine pr (numbered p) j s.well_formed (omega arith) (s.projected.each p j h).is)
+
+-- what stands at a place of a list is got there
+pub gets : {A : Type 0} (xs : List A) (n : ℕ) (x : A) → n < length xs → x ≡ get_or xs n x → slice_get xs n ≡ Some x
+gets xs n x h e = slice_get-get_or xs n x h ∙ ap (λ z. Some z) (sym e)
+
+-- all three are there at a place of a machine
+pub record Places (ms : List Machine_data) (pjs : List Projection_data) (ds : List Derivation_data) (place : ℕ) (m : Machine_data) (j : Projection_data) (d : Derivation_data) : Type 0 where
+  pub runs : slice_get ms place ≡ Some m
+  pub projects : slice_get pjs place ≡ Some j
+  pub derives : slice_get ds place ≡ Some d
+
+pub places : (pr : Protocol_data) (pjs : List Projection_data) (ms : List Machine_data) (ds : List Derivation_data) → IsSession pr pjs ms → AreOneEach (length ms) ds
+    → (place : ℕ) (m : Machine_data) (j : Projection_data) (d : Derivation_data) → place < length ms → m ≡ get_or ms place m → j ≡ get_or pjs place j → d ≡ get_or ds place d
+    → Places ms pjs ds place m j d
+places pr pjs ms ds s o place m j d h em ej ed = record {
+  runs = gets ms place m h em;
+  projects = gets pjs place j (omega (arith, s.projected.many, s.a_machine_each)) ej;
+  derives = gets ds place d (omega (arith, o.many)) ed;
+}
+
+-- one more place
+pub derived-on : (ms : List Machine_data) (pjs : List Projection_data) (ds : List Derivation_data) (place : ℕ) (m : Machine_data) (j : Projection_data) (d : Derivation_data)
+    → AreDerivedBefore ms pjs ds place → Places ms pjs ds place m j d
+    → IsDerivation d m j.machine × Remembers d m j.machine → AreDerivedBefore ms pjs ds (place + 1)
+derived-on ms pjs ds place m j d before at is p m' j' d' h gm gj gd = elim (eqb_tells p place) [
+  | inl t ↦ (
+      let e : p ≡ place = t.1 in
+      let em : m ≡ m' = same_Some m m' (sym at.runs ∙ ap (λ z. slice_get ms z) (sym e) ∙ gm) in
+      let ej : j ≡ j' = same_Some j j' (sym at.projects ∙ ap (λ z. slice_get pjs z) (sym e) ∙ gj) in
+      let ed : d ≡ d' = same_Some d d' (sym at.derives ∙ ap (λ z. slice_get ds z) (sym e) ∙ gd) in
+      let P : Machine_data → Type 0 = λ z. IsDerivation d z j.machine × Remembers d z j.machine in
+      let Q : Projection_data → Derivation_data → Type 0 = λ y z. IsDerivation z m' y.machine × Remembers z m' y.machine in
+      subst₂ Q ej ed (subst P em is))
+  | inr t ↦ (let ne = t.1 in before p m' j' d' (below ne h) gm gj gd)
+]
+  where
+    below : {p place : ℕ} → (p ≡ place → ⊥) → p < place + 1 → p < place
+    below ne h = omega (arith, ne)
+
+-- the first that is refused
+pub first : (ms : List Machine_data) (pjs : List Projection_data) (ds : List Derivation_data) (place : ℕ) (m : Machine_data) (j : Projection_data) (d : Derivation_data) (cause : DeriveFault)
+    → AreDerivedBefore ms pjs ds place → Places ms pjs ds place m j d → first_fault d m j.machine ≡ Some cause → FirstRefused ms pjs ds place cause
+first ms pjs ds place m j d cause before at fault = record {
+  machine = m;
+  projection = j;
+  derivation = d;
+  runs = at.runs;
+  projects = at.projects;
+  derives = at.derives;
+  fault = fault;
+  earlier = before;
+}
+
+-- all places
+pub all-derived : (ms : List Machine_data) (pjs : List Projection_data) (ds : List Derivation_data) (place : ℕ)
+    → AreDerivedBefore ms pjs ds place → length ms ≤ place → length ds ≡ length ms → AreDerivations ms pjs ds
+all-derived ms pjs ds place before all many = record {
+  many = many;
+  is = λ p m j d hm hj hd. (let w = slice_get_within ms p m hm in before p m j d (omega arith) hm hj hd);
+}
+
+-- a session with derivations is safe
+pub accepted-safe : (pr : Protocol_data) (pjs : List Projection_data) (ms : List Machine_data) (ds : List Derivation_data) → IsSession pr pjs ms
+    → AreDerivations ms pjs ds → IsSafe ms
+accepted-safe pr pjs ms ds s of =
+    safe pr pjs ms ds record { fits = s.well_formed; projected = are-projections pr pjs s.projected; many = s.a_machine_each; order = s.machines_fit; derived' = of }
+
+-- P holds of each item
+all-of : {A : Type 0} (P : A → Type 0) (xs : List A) → ((i : ℕ) (x : A) → slice_get xs i ≡ Some x → P x) → All P xs
+all-of P xs h k d hk = h k (get_or xs k d) (slice_get-get_or xs k d hk)
+
+no-node : DNode_data
+no-node = record { state = 0; pending = []; above = 0; rank = 0; next = [] }
+
+-- no node of a derivation owes more than 64 acts
+pub owes-few : (session : Accepted_data) → IsAcceptedSession session → (place : ℕ) (d : Derivation_data) → place < length session.derivations
+    → d ≡ get_or session.derivations place d → (i : ℕ) (n : DNode_data) → slice_get d.nodes i ≡ Some n → length n.pending ≤ 64
+owes-few session a place d h e i n at =
+    let hd = gets session.derivations place d h e in
+    let hm = slice_get-get_or session.machines place no-machine (omega (arith, a.is.a_machine_each, a.one_each.many)) in
+    let hj = slice_get-get_or session.projections place no-projection (omega (arith, a.is.projected.many, a.one_each.many)) in
+    let is = (a.derived.is place (get_or session.machines place no-machine) (get_or session.projections place no-projection) d hm hj hd).0 in
+    let short = (is.each i n at).short in
+    let bound = (a.one_each.bound place d hd).1 in
+    omega (arith, short, bound)
+
+owes-at-most : (session : Accepted_data) → IsAcceptedSession session → (place : ℕ) (d : Derivation_data) → place < length session.derivations
+    → d ≡ get_or session.derivations place d → (i x : ℕ) → slice_get (map (λ (n : DNode_data). length n.pending) d.nodes) i ≡ Some x → x ≤ 64
+owes-at-most session a place d h e i x at =
+    let w = slice_get_within (map (λ (n : DNode_data). length n.pending) d.nodes) i x at in
+    let n : DNode_data = get_or d.nodes i no-node in
+    let hn : slice_get d.nodes i ≡ Some n = slice_get-get_or d.nodes i no-node (let l : length (map (λ (n : DNode_data). length n.pending) d.nodes) ≡ length d.nodes = length-map d.nodes (λ (n : DNode_data). length n.pending) in omega (arith, w, l)) in
+    let g : slice_get (map (λ (n : DNode_data). length n.pending) d.nodes) i ≡ Some (length n.pending) = rw (slice_get-map (λ (n : DNode_data). length n.pending) d.nodes i, hn) refl in
+    let k : length n.pending ≡ x = same_Some (length n.pending) x (sym g ∙ at) in
+    let few = owes-few session a place d h e i n hn in
+    omega (arith, k, few)
+
+greatest-few : (xs : List ℕ) (m k : ℕ) → IsGreatest xs m → ((i x : ℕ) → slice_get xs i ≡ Some x → x ≤ k) → m ≤ k
+greatest-few xs m k g h = elim g.is [
+  | inl e ↦ (let z = e.1 in omega (arith, z))
+  | inr at ↦ h at.0 m at.1
+]
+
+pub owes-below : (session : Accepted_data) → IsAcceptedSession session → (place : ℕ) (d : Derivation_data) → place < length session.derivations
+    → d ≡ get_or session.derivations place d → All (λ (n : DNode_data). length n.pending < 2 ^ 32) d.nodes
+owes-below session a place d h e = all-of (λ (n : DNode_data). length n.pending < 2 ^ 32) d.nodes (λ i n at. (let k = owes-few session a place d h e i n at in omega (arith, k)))
+
+-- the room as far as it is computed: the first so many derivations are counted
+pub record CountsTo (ds : List Derivation_data) (count owed late : ℕ) : Type 0 where
+  pub owes : greatest (map longest (drop count ds)) owed ≡ greatest (map longest ds) 0
+  pub lags : greatest (map lag (drop count ds)) late ≡ greatest (map lag ds) 0
+  pub few : owed ≤ 64
+  pub soon : late ≤ 64 * 2 ^ 32
+
+greatest-on : (f : Derivation_data → ℕ) (ds : List Derivation_data) (count m : ℕ) (d : Derivation_data) → slice_get ds count ≡ Some d
+    → greatest (map f (drop (count + 1) ds)) (max m (f d)) ≡ greatest (map f (drop count ds)) m
+greatest-on f ds count m d hd = ap (λ (z : List Derivation_data). greatest (map f z) m) (sym (drop_here ds count d hd))
+
+at-most-both : (m x k : ℕ) → m ≤ k → x ≤ k → max m x ≤ k
+at-most-both m x k hm hx = elim (cases_order m x) [
+  | inl e ↦ (let r : max m x ≡ m = max-eq_left (omega (arith, e)) in omega (arith, r))
+  | inr h ↦ elim h [
+    | inl e ↦ (let r : max m x ≡ x = max-eq_right (omega (arith, e)) in omega (arith, r))
+    | inr e ↦ (let r : max m x ≡ m = max-eq_left (omega (arith, e)) in omega (arith, r))
+  ]
+]
+
+product : (most rank : ℕ) → most ≤ 64 → rank < 2 ^ 32 → most * (rank + 1) ≤ 64 * 2 ^ 32
+product most rank h k =
+    let x : most * (rank + 1) ≤ 64 * (rank + 1) = mul-le-mul_right (rank + 1) h in
+    omega (arith, x, k)
+
+-- one more derivation
+pub counts-on : (session : Accepted_data) → IsAcceptedSession session → (count owed late : ℕ) (d : Derivation_data) (most rank : ℕ) → count < length session.derivations
+    → d ≡ get_or session.derivations count d → IsGreatest (map (λ (n : DNode_data). length n.pending) d.nodes) most → IsGreatest (map (λ (n : DNode_data). n.rank) d.nodes) rank → rank < 2 ^ 32
+    → CountsTo session.derivations count owed late
+    → CountsTo session.derivations (count + 1) (max owed most) (max late (most * (rank + 1)))
+counts-on session a count owed late d most rank h e long top low to =
+    let hd = gets session.derivations count d h e in
+    let em : most ≡ longest d = is-greatest (map (λ (n : DNode_data). length n.pending) d.nodes) most long in
+    let er : rank ≡ top_rank d = is-greatest (map (λ (n : DNode_data). n.rank) d.nodes) rank top in
+    let one : rank + 1 ≡ suc (top_rank d) = omega (arith, er) in
+    let el : most * (rank + 1) ≡ lag d = ap₂ (λ x y. x * y) em one in
+    let few : most ≤ 64 = greatest-few (map (λ (n : DNode_data). length n.pending) d.nodes) most 64 long (owes-at-most session a count d h e) in
+    record {
+      owes = ap (λ (z : ℕ). greatest (map longest (drop (count + 1) session.derivations)) (max owed z)) em ∙ greatest-on longest session.derivations count owed d hd ∙ to.owes;
+      lags = ap (λ (z : ℕ). greatest (map lag (drop (count + 1) session.derivations)) (max late z)) el ∙ greatest-on lag session.derivations count late d hd ∙ to.lags;
+      few = at-most-both owed most 64 to.few few;
+      soon = at-most-both late (most * (rank + 1)) (64 * 2 ^ 32) to.soon (product most rank few low);
+    }
+
+-- .. and accepted
+pub accepted-session : (pr : Protocol_data) (pjs : List Projection_data) (ms : List Machine_data) (ds : List Derivation_data) → IsSession pr pjs ms → AreOneEach pr.roles ds
+    → AreDerivations ms pjs ds → IsAcceptedSession (record { protocol = pr; projections = pjs; derivations = ds; machines = ms })
+accepted-session pr pjs ms ds s each of = record { is = s; one_each = each; derived = of; safe = accepted-safe pr pjs ms ds s of }
+
+-- .. of no derivation
+pub all-owe-below : (session : Accepted_data) → IsAcceptedSession session → All (λ (d : Derivation_data). All (λ (n : DNode_data). length n.pending < 2 ^ 32) d.nodes) session.derivations
+all-owe-below session a k d h = owes-below session a k (get_or session.derivations k d) h (get_or_default session.derivations k d (get_or session.derivations k d) h)

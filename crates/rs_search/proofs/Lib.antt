@@ -1,0 +1,12 @@
+pub mod Accepted
+pub mod Assembled
+pub mod Choices
+pub mod Chosen
+pub mod Costing
+pub mod Determined
+pub mod Noding
+pub mod Same
+pub mod Small
+pub mod Staying
+pub mod Turning
+pub mod Verdicts

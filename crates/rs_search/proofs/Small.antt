@@ -1,0 +1,39 @@
+-- Two small machines: where the start survives, and where it doesn't.
+use Rattle.std.proofs.Common.{◌≡◌, inl, inr, ℕ, ◌≤◌, List, [], ◌∷◌, length, refl, sym, subst, Some, None, Option, slice_get}
+use Rattle.std.proofs.lemmas.Option.{same_Some}
+use Rattle.rs_model.specs.declared.machines.State.{State}
+use Rattle.rs_model.specs.declared.machines.State.TheVariants.{Done, Puts, Takes}
+use Rattle.rs_derive.specs.Moves.{HasMove, Stops, PaysSend, SendsBoth, Guesses, SendsAhead, PaysReceive, ReceivesAhead, Spot}
+use Rattle.rs_graph.specs.Lists.{Among}
+use Rattle.rs_search.specs.Candidates.{IsCandidate, Start, begin}
+use Rattle.rs_search.specs.Examples.{ended, waiting}
+use Rattle.rs_search.specs.Survives.{Survives, IsSupported}
+
+pub ends_survive : (bound : ℕ) → Survives ended ended bound (begin ended ended)
+ends_survive bound = record {
+  set = begin ended ended ∷ [];
+  stand = record {
+    candidates = λ p m. elim m [ inl e ↦ subst (λ (z : Spot). IsCandidate ended ended bound z) e Start | inr h ↦ absurd h ];
+    each = λ p m. elim m [
+      | inl e ↦ subst (λ (z : Spot). IsSupported ended ended bound (begin ended ended ∷ []) z) e record {
+        results = [];
+        move = record { makes = None; move = Stops refl refl refl refl refl; short = λ r h. absurd h };
+        all = λ r h. absurd h;
+      }
+      | inr h ↦ absurd h
+    ];
+  };
+  among = inl refl;
+}
+
+no-move : (makes : Option ℕ) (rs : List Spot) → HasMove ended waiting (begin ended waiting) makes rs → ⊥
+no-move makes rs (Stops st pe gt mk re) = cc
+no-move makes rs (PaysSend q arm place so st found g sv mk re) = cc
+no-move makes rs (SendsBoth q arms theirs st none gt mk both) = cc
+no-move makes rs (Guesses q r arms theirs place b st none gt ne g mk re) = cc
+no-move makes rs (SendsAhead q r arms theirs st none gt mk re) = cc
+no-move makes rs (PaysReceive q arms place label so arm st found g ch sv mk re) = cc
+no-move makes rs (ReceivesAhead q r arms theirs st none gt mk re) = cc
+
+pub stuck_dies : (bound : ℕ) → Survives ended waiting bound (begin ended waiting) → ⊥
+stuck_dies bound s = let k = s.stand.each (begin ended waiting) s.among in no-move k.move.makes k.results k.move.move

@@ -1,0 +1,12 @@
+-- Believed: two small machines.
+use Rattle.std.specs.Prelude.{List, [], ◌∷◌}
+use Rattle.rs_model.specs.Data.{Machine_data}
+use Rattle.rs_model.specs.declared.machines.State.TheVariants.{Done, Takes}
+
+-- one that has ended
+abbrev pub ended : Machine_data
+ended = record { role = record { 0 = 0 }; states = Done ∷ []; start = 0 }
+
+-- one that waits for role 1
+abbrev pub waiting : Machine_data
+waiting = record { role = record { 0 = 0 }; states = Takes (record { 0 = 1 }) [] ∷ []; start = 0 }

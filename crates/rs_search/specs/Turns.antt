@@ -1,0 +1,63 @@
+-- Steps: what a spot can do within the bound, as it is computed: choose one of some spots, or go on to all of them.
+use Rattle.std.specs.Prelude.{◌≡◌, ℕ, List, [], ◌∷◌, length, map, Bool, true, false, ◌==◌, ◌&&◌, nat_lt, nat_le, if◌then◌else◌, Option, None, Some}
+use Rattle.std.specs.List.{list_any}
+use Rattle.rs_model.specs.Data.{Machine_data}
+use Rattle.rs_derive.specs.Due.{Due, due}
+use Rattle.rs_derive.specs.Moves.{Spot}
+use Rattle.rs_derive.specs.Rules.{pushes}
+use Rattle.rs_derive.specs.declared.rules.Rule.{Rule}
+use Rattle.rs_derive.specs.declared.rules.Rule.TheVariants.{Stops, Pays, SendsBoth, Guesses, Follows}
+use Rattle.rs_model.specs.declared.graph.Arm.{Arm}
+use Rattle.rs_model.specs.declared.machines.Act.{Act}
+use Rattle.rs_graph.specs.Lists.{concat}
+
+-- any: each of the spots is a move of its own; else all together are the one move. keeps: its edges keep the oldest act that is owed. cut: the bound takes the moves away
+pub record Turn_data : Type 0 where
+  pub cut : Bool
+  pub any : Bool
+  pub keeps : Bool
+  pub spots : List Spot
+
+abbrev pub no_turn : Bool → Turn_data
+no_turn cut = record { cut = cut; any = true; keeps = false; spots = [] }
+
+-- where one next is due, it may be any of its spots; else there is one spot for each next
+abbrev pub turn_of : Option Due → Turn_data
+turn_of None = no_turn false
+turn_of (Some d) = record { cut = false; any = length d.nexts == 1; keeps = d.keeps; spots = concat d.nexts }
+
+-- some of the spots owes more than so many acts
+abbrev pub owes_more : ℕ → List Spot → Bool
+owes_more bound spots = list_any (λ (r : Spot). nat_lt bound (length r.pending)) spots
+
+abbrev pub cut_at : ℕ → Turn_data → Turn_data
+cut_at bound t = if owes_more bound t.spots then no_turn true else t
+
+-- the turn of a spot within the bound
+abbrev pub turn_within : Machine_data → Machine_data → ℕ → Spot → Turn_data
+turn_within sub above bound p = cut_at bound (turn_of (due sub above p))
+
+-- what the moves of a spot lead to
+abbrev pub nexts_within : Machine_data → Machine_data → ℕ → Spot → List Spot
+nexts_within sub above bound p = (turn_within sub above bound p).spots
+
+-- what is asked of each spot: whether it may choose, whether its edges keep the oldest act that is owed, and whether it meets a cut
+abbrev pub is_any : Machine_data → Machine_data → ℕ → Spot → Bool
+is_any sub above bound p = (turn_within sub above bound p).any
+
+abbrev pub is_keeping : Machine_data → Machine_data → ℕ → Spot → Bool
+is_keeping sub above bound p = (turn_within sub above bound p).keeps
+
+abbrev pub is_cut : Machine_data → Machine_data → ℕ → Spot → Bool
+is_cut sub above bound p = (turn_within sub above bound p).cut
+
+-- by the rule: whether one next is due, which may be any of its spots; and whether the bound takes the move away
+abbrev pub may_choose : List Arm → List Arm → Rule → Bool
+may_choose arms theirs Stops = false
+may_choose arms theirs (Pays place a) = true
+may_choose arms theirs SendsBoth = length arms == 1
+may_choose arms theirs (Guesses r) = true
+may_choose arms theirs (Follows r) = length theirs == 1
+
+abbrev pub cuts : ℕ → List Act → List Arm → Rule → Bool
+cuts bound pending theirs rule = pushes rule && (nat_le bound (length pending) && nat_lt 0 (length theirs))

@@ -1,0 +1,277 @@
+//! The candidates: the spots that are reached within the bound, numbered in order of first sight.
+ghost use Rattle.std.specs.Prelude.{◌≡◌, ◌≢◌, ◌<◌, ◌≤◌, ◌+◌, ◌^◌, [], ◌∷◌, ◌++◌, List, ℕ, OnOk, OnErr, IfOk, IfErr, MatchOption, MatchResult, length, map, slice_get, slice_index_or, Some, true, replicate, false, ◌||◌};
+ghost use Rattle.std.specs.List.{list_any};
+ghost use Rattle.rs_derive.specs.Derivations.{IsProper};
+ghost use Rattle.rs_derive.specs.Moves.{Spot};
+ghost use Rattle.rs_search.specs.Buckets.{act_code, acts_code, bucket_of};
+ghost use Rattle.rs_search.specs.Candidates.{begin};
+ghost use Rattle.rs_graph.specs.Discovery.{Adds, Filed, Grown, IsDiscovery, MoreThan, Numbered};
+ghost use Rattle.rs_graph.specs.Lists.{Among, Names};
+ghost use Rattle.rs_search.specs.Turns.{nexts_within, turn_within};
+ghost use Rattle.rs_search.specs.Turns.{is_any, is_cut, is_keeping};
+ghost use Rattle.rs_search.specs.declared.found.Fault.TheVariants.{TooLarge, Memory};
+
+use crate::turns::{Point, turn_within};
+use rs_graph::Row;
+use rs_model::{Act, Machine, NoMemory};
+use rs_prefix::Pending;
+use std::alloc::{AllocError, AllocFailed, Global};
+
+#[derive(Drop, Debug)]
+pub enum Fault {
+    TooLarge,
+    Memory,
+}
+
+impl From<AllocError> for Fault {
+    ghost use Rattle.rs_search.specs.declared.found.Fault.TheVariants.{Memory};
+
+    ghost from_gives = { λ _ e. e ≡ Memory };
+
+    fn from(_e: AllocError) -> Fault {
+        Fault::Memory
+    }
+}
+
+impl<T: Drop> From<AllocFailed<T>> for Fault {
+    ghost use Rattle.rs_search.specs.declared.found.Fault.TheVariants.{Memory};
+
+    ghost from_gives = { λ _ e. e ≡ Memory };
+
+    fn from(_e: AllocFailed<T>) -> Fault {
+        Fault::Memory
+    }
+}
+
+impl From<NoMemory> for Fault {
+    ghost use Rattle.rs_search.specs.declared.found.Fault.TheVariants.{Memory};
+
+    ghost from_gives = { λ _ e. e ≡ Memory };
+
+    fn from(_e: NoMemory) -> Fault {
+        Fault::Memory
+    }
+}
+
+/// The candidates, and of each the numbers of what it leads to, whether it may choose among them, and whether some
+/// candidate meets a cut.
+#[derive(Drop, Debug)]
+pub struct Candidates {
+    pub points: Vec<Point>,
+    pub rows: Vec<Row>,
+    pub anys: Vec<bool>,
+    pub keeps: Vec<bool>,
+    pub cut: bool,
+}
+
+fn act_code(act: Act) -> u64
+    ensures code { result ≡ act_code act }
+    ensures small { result < 2 ^ 26 }
+{
+    match act {
+        Act::Puts { peer, label, .. } => u64::from(label.0) * 512 + u64::from(peer.0) * 2,
+        Act::Takes { peer, label, .. } => u64::from(label.0) * 512 + u64::from(peer.0) * 2 + 1,
+    }
+}
+
+fn bucket_of(size: usize, p: &Point) -> usize
+    requires some { 0 < size }
+    requires few { size < 2 ^ 32 }
+    ensures within { result < size }
+    ensures is { result ≡ bucket_of size p.now }
+{
+    let size = size as u64;
+    let mut code = (u64::from(p.state) % size * 1031 + u64::from(p.above) % size) % size;
+    for act in p.pending.as_slice() {
+        code = (code * 31 + act_code(*act)) % size;
+    }
+    code as usize
+}
+
+// The number of a spot, by its bucket.
+fn seek(found: &[Point], buckets: &[Row], p: &Point) -> Option<u32>
+    requires some { 0 < length buckets.now }
+    requires few { length buckets.now < 2 ^ 32 }
+    requires filed { Filed (bucket_of (length buckets.now)) found.now buckets.now }
+    ensures { MatchOption result (Among found.now p.now → ⊥) (λ n. slice_get found.now n ≡ Some p.now) }
+{
+    let row = buckets[bucket_of(buckets.len(), p)].as_slice();
+    for i in 0..row.len() {
+        let n = row[i];
+        if found[n as usize].same(p) {
+            return Some(n);
+        }
+    }
+    None
+}
+
+// Files the number of a new spot.
+fn file(buckets: &mut Vec<Row>, p: &Point, n: u32) -> Result<(), Fault>
+    requires some { 0 < length buckets.old.items }
+    requires few { length buckets.old.items < 2 ^ 32 }
+    ensures filed { OnOk result ((found : List Spot) → n ≡ length found → Filed (bucket_of (length buckets.old.items)) found buckets.old.items → Filed (bucket_of (length buckets.old.items)) (found ++ p.now ∷ []) buckets.new.items) }
+    ensures size { OnOk result (length buckets.new.items ≡ length buckets.old.items) }
+    ensures err { IfErr result (λ e. e ≡ Memory) }
+{
+    let bucket = bucket_of(buckets.len(), p);
+    buckets[bucket].push(n)?;
+    Ok(())
+}
+
+// The number of a spot, which is added where it is new.
+fn number_of(
+    alloc: Global,
+    found: &mut Vec<Point>,
+    buckets: &mut Vec<Row>,
+    p: &Point,
+    limit: usize,
+) -> Result<u32, Fault>
+    requires limit { limit + 1 < 2 ^ 32 }
+    requires few { length found.old.items ≤ limit }
+    requires some { 0 < length buckets.old.items }
+    requires buckets { length buckets.old.items < 2 ^ 32 }
+    requires filed { Filed (bucket_of (length buckets.old.items)) found.old.items buckets.old.items }
+    ensures adds { Adds found.old.items p.now found.new.items }
+    ensures longer { length found.old.items ≤ length found.new.items }
+    ensures at { IfOk result (λ n. slice_get found.new.items n ≡ Some p.now) }
+    ensures old { IfOk result (λ n. found.new.items ≡ found.old.items → n < length found.old.items) }
+    ensures fresh { IfOk result (λ n. (found.new.items ≡ found.old.items → ⊥) → n ≡ length found.old.items) }
+    ensures few { OnOk result (length found.new.items ≤ limit) }
+    ensures large { IfErr result (λ e. e ≡ TooLarge → limit < length found.new.items) }
+    ensures filed { OnOk result (Filed (bucket_of (length buckets.old.items)) found.new.items buckets.new.items) }
+    ensures size { OnOk result (length buckets.new.items ≡ length buckets.old.items) }
+{
+    match seek(found.as_slice(), buckets.as_slice(), p) {
+        Some(n) => Ok(n),
+        None => {
+            let n = found.len();
+            found.push(p.copy(alloc)?)?;
+            if n == limit {
+                return Err(Fault::TooLarge);
+            }
+            file(buckets, p, n as u32)?;
+            Ok(n as u32)
+        }
+    }
+}
+
+// The numbers of spots, of which the new ones are added.
+fn name_all(
+    alloc: Global,
+    found: &mut Vec<Point>,
+    buckets: &mut Vec<Row>,
+    ps: &[Point],
+    limit: usize,
+) -> Result<Row, Fault>
+    requires limit { limit + 1 < 2 ^ 32 }
+    requires few { length found.old.items ≤ limit }
+    requires some { 0 < length buckets.old.items }
+    requires buckets { length buckets.old.items < 2 ^ 32 }
+    requires filed { Filed (bucket_of (length buckets.old.items)) found.old.items buckets.old.items }
+    ensures grown { Grown found.old.items ps.now found.new.items }
+    ensures longer { length found.old.items ≤ length found.new.items }
+    ensures names { IfOk result (λ row. Names found.new.items row ps.now) }
+    ensures numbered { IfOk result (λ row. Numbered (length found.old.items) row (length found.new.items)) }
+    ensures few { OnOk result (length found.new.items ≤ limit) }
+    ensures large { IfErr result (λ e. e ≡ TooLarge → limit < length found.new.items) }
+    ensures filed { OnOk result (Filed (bucket_of (length buckets.old.items)) found.new.items buckets.new.items) }
+    ensures size { OnOk result (length buckets.new.items ≡ length buckets.old.items) }
+{
+    let mut numbers = Row::new(alloc);
+    for i in 0..ps.len() {
+        let n = number_of(alloc, found, buckets, &ps[i], limit)?;
+        numbers.push(n)?;
+    }
+    Ok(numbers)
+}
+
+fn start_of(alloc: Global, sub: &Machine, above: &Machine) -> Point
+    ensures { result ≡ begin sub.now above.now }
+{
+    Point {
+        state: sub.start,
+        pending: Pending::new(alloc),
+        above: above.start,
+    }
+}
+
+fn either(a: bool, b: bool) -> bool
+    ensures { result ≡ (a || b) }
+{
+    a || b
+}
+
+// How many buckets there are: some for each state of either machine.
+fn bucket_count(sub: &Machine, above: &Machine) -> usize
+    ensures some { 0 < result }
+    ensures few { result < 2 ^ 32 }
+{
+    (sub.states.len().min(2_000) + above.states.len().min(2_000)) * 16 + 1
+}
+
+// Empty buckets.
+fn empty_buckets(alloc: Global, size: usize) -> Result<Vec<Row>, Fault>
+    ensures ok { IfOk result (λ v. v.items ≡ replicate size []) }
+    ensures err { IfErr result (λ e. e ≡ Memory) }
+{
+    let mut buckets = Vec::new(alloc);
+    for _i in 0..size {
+        buckets.push(Row::new(alloc))?;
+    }
+    Ok(buckets)
+}
+
+/// The candidates within the bound, if they number no more than the limit.
+pub fn find_all(
+    alloc: Global,
+    sub: &Machine,
+    above: &Machine,
+    bound: u8,
+    limit: usize,
+) -> Result<Candidates, Fault>
+    requires some { 0 < limit }
+    requires limit { limit + 1 < 2 ^ 32 }
+    requires ours { IsProper sub.now }
+    requires theirs { IsProper above.now }
+    ensures found { IfOk result (λ d. IsDiscovery (nexts_within sub.now above.now bound) (begin sub.now above.now) d.points.items d.rows.items) }
+    ensures few { IfOk result (λ d. length d.points.items ≤ limit) }
+    ensures short { IfOk result (λ d. (n : ℕ) → length (slice_index_or d.rows.items n []) ≤ 2 ^ 16) }
+    ensures anys { IfOk result (λ d. d.anys.items ≡ map (is_any sub.now above.now bound) d.points.items) }
+    ensures keeps { IfOk result (λ d. d.keeps.items ≡ map (is_keeping sub.now above.now bound) d.points.items) }
+    ensures cut { IfOk result (λ d. d.cut ≡ list_any (is_cut sub.now above.now bound) d.points.items) }
+    ensures large { IfErr result (λ e. e ≡ TooLarge → MoreThan limit (nexts_within sub.now above.now bound) (begin sub.now above.now)) }
+{
+    let start = start_of(alloc, sub, above);
+    let mut buckets = empty_buckets(alloc, bucket_count(sub, above))?;
+    file(&mut buckets, &start, 0)?;
+    let mut points = Vec::new(alloc);
+    points.push(start)?;
+    let mut rows: Vec<Row> = Vec::new(alloc);
+    let mut anys = Vec::new(alloc);
+    let mut keeps = Vec::new(alloc);
+    let mut cut = false;
+    while rows.len() < points.len() {
+        let turn = turn_within(alloc, sub, above, bound, &points[rows.len()])?;
+        let row = match name_all(
+            alloc,
+            &mut points,
+            &mut buckets,
+            turn.spots.as_slice(),
+            limit,
+        ) {
+            Ok(row) => row,
+            Err(fault) => return Err(fault),
+        };
+        anys.push(turn.any)?;
+        keeps.push(turn.keeps)?;
+        cut = either(cut, turn.cut);
+        rows.push(row)?;
+    }
+    Ok(Candidates {
+        points,
+        rows,
+        anys,
+        keeps,
+        cut,
+    })
+}

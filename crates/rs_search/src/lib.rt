@@ -1,0 +1,15 @@
+//! The bounded search for a derivation.
+#![tactic(auto)]
+
+mod faults;
+mod found;
+pub mod laws;
+mod nodes;
+mod searches;
+mod survey;
+#[cfg(test)]
+mod tests;
+mod turns;
+
+pub use faults::SearchFault;
+pub use searches::{search, search_counted};

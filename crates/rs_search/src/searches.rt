@@ -1,0 +1,97 @@
+//! The search.
+ghost use Rattle.std.specs.Prelude.{◌≡◌, ◌<◌, ◌≤◌, ◌+◌, ◌^◌, [], List, ℕ, IfOk, IfErr, OnOk, length};
+ghost use Rattle.rs_derive.specs.Derivations.{IsProper};
+ghost use Rattle.rs_search.specs.Canonical.{IsFound, Refuses};
+ghost use Rattle.rs_search.specs.Costs.{Costs, IsWithinCost};
+
+use crate::SearchFault;
+use crate::nodes::{kept_of, nodes_of};
+use crate::survey::explore;
+use rs_derive::Derivation;
+use rs_graph::{RankFault, Steps, number_all, rank_rows};
+use rs_model::Machine;
+use std::alloc::Global;
+use std::marker::Brand;
+use std::sync::ledger::{Blank, Ledger};
+
+/// Looks for the canonical derivation of the machine `sub` from its projection `above`, in which no node owes more acts
+/// than the bound.
+pub fn search(
+    alloc: Global,
+    sub: &Machine,
+    above: &Machine,
+    bound: u8,
+) -> Result<Derivation, SearchFault>
+    requires ours { IsProper sub.now }
+    requires theirs { IsProper above.now }
+    ensures ok { IfOk result (λ d. IsFound sub.now above.now bound d) }
+    ensures err { IfErr result (λ e. Refuses sub.now above.now bound e) }
+{
+    search_by::<Brand>(alloc, sub, above, bound, Blank::new(1))
+}
+
+fn search_by<L: Ledger>(
+    alloc: Global,
+    sub: &Machine,
+    above: &Machine,
+    bound: u8,
+    blank: Blank,
+) -> Result<Derivation, SearchFault>
+    requires name { blank.name ≡ L.name }
+    requires parts { blank.parts ≡ L.parts }
+    requires some { 0 < L.parts }
+    requires ours { IsProper sub.now }
+    requires theirs { IsProper above.now }
+    ensures ok { IfOk result (λ d. IsFound sub.now above.now bound d) }
+    ensures err { IfErr result (λ e. Refuses sub.now above.now bound e) }
+{
+    let mut steps: Steps<L> = Steps::new(blank);
+    search_counted(alloc, sub, above, bound, &mut steps)
+}
+
+/// The same search, which counts its reads of the candidates' graph: at most two for each result of a move of a candidate
+/// and one for each candidate, and none where there are too many candidates.
+pub fn search_counted<L: Ledger>(
+    alloc: Global,
+    sub: &Machine,
+    above: &Machine,
+    bound: u8,
+    steps: &mut Steps<L>,
+) -> Result<Derivation, SearchFault>
+    requires ours { IsProper sub.now }
+    requires theirs { IsProper above.now }
+    ensures ok { IfOk result (λ d. IsFound sub.now above.now bound d) }
+    ensures err { IfErr result (λ e. Refuses sub.now above.now bound e) }
+    ensures steps { OnOk result (IsWithinCost sub.now above.now bound steps.old steps.new) }
+    ensures cost { IfErr result (λ e. Costs sub.now above.now bound e steps.old steps.new) }
+{
+    let survey = match explore(alloc, sub, above, bound, steps) {
+        Ok(survey) => survey,
+        Err(fault) => return Err(fault),
+    };
+    let current = survey.left.current.as_slice();
+    let numbers = match number_all(alloc, &survey.graph, current, steps) {
+        Ok(numbers) => numbers,
+        Err(_) => return Err(SearchFault::NoMemory),
+    };
+    let items = numbers.items.as_slice();
+    let nexts = numbers.nexts.as_slice();
+    let kept = match kept_of(alloc, survey.found.keeps.as_slice(), items, nexts) {
+        Ok(kept) => kept,
+        Err(_) => return Err(SearchFault::NoMemory),
+    };
+    let ranks = match rank_rows(alloc, kept.as_slice()) {
+        Ok(ranks) => ranks,
+        Err(RankFault::OnCycle { node }) => return Err(SearchFault::Forgets { node }),
+        Err(RankFault::Memory) => return Err(SearchFault::NoMemory),
+    };
+    let points = survey.found.points.as_slice();
+    match nodes_of(alloc, points, items, nexts, ranks.as_slice()) {
+        Ok(nodes) => Ok(Derivation {
+            role: sub.role,
+            bound,
+            nodes,
+        }),
+        Err(_) => Err(SearchFault::NoMemory),
+    }
+}

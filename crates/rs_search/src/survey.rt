@@ -1,0 +1,68 @@
+//! The candidates, their graph and what is left of it.
+ghost use Rattle.std.specs.Prelude.{◌≡◌, ◌<◌, ◌≤◌, ◌+◌, ◌^◌, [], List, ℕ, IfOk, IfErr, length, map, slice_index_or};
+ghost use Rattle.std.specs.List.{sum_by};
+ghost use Rattle.rs_derive.specs.Derivations.{IsProper};
+ghost use Rattle.rs_graph.specs.Built.{IsBuilt};
+ghost use Rattle.rs_search.specs.Candidates.{begin};
+ghost use Rattle.rs_search.specs.Canonical.{Refuses};
+ghost use Rattle.rs_search.specs.Costs.{Costs};
+ghost use Rattle.rs_graph.specs.Discovery.{IsDiscovery};
+ghost use Rattle.rs_search.specs.Turns.{is_any, is_keeping};
+ghost use Rattle.rs_graph.specs.Removal.{IsRemoval, at, cost_of, moves_at};
+ghost use Rattle.rs_search.specs.Turns.{nexts_within};
+
+use crate::SearchFault;
+use crate::found::{Candidates, Fault, find_all};
+use rs_graph::{Graph, Removal, Steps, graph_of, remove};
+use rs_model::{MOST_CANDIDATES, Machine};
+use std::alloc::Global;
+use std::sync::ledger::Ledger;
+
+/// The candidates, their graph, and what is left of it, among which is the start.
+#[derive(Drop, Debug)]
+pub struct Survey {
+    pub found: Candidates,
+    pub graph: Graph,
+    pub left: Removal,
+}
+
+/// The candidates and the survivors, where the start survives.
+pub fn explore<L: Ledger>(
+    alloc: Global,
+    sub: &Machine,
+    above: &Machine,
+    bound: u8,
+    steps: &mut Steps<L>,
+) -> Result<Survey, SearchFault>
+    requires ours { IsProper sub.now }
+    requires theirs { IsProper above.now }
+    ensures found { IfOk result (λ s. IsDiscovery (nexts_within sub.now above.now bound) (begin sub.now above.now) s.found.points.items s.found.rows.items) }
+    ensures short { IfOk result (λ s. (n : ℕ) → length (slice_index_or s.found.rows.items n []) ≤ 2 ^ 16) }
+    ensures keeps { IfOk result (λ s. s.found.keeps.items ≡ map (is_keeping sub.now above.now bound) s.found.points.items) }
+    ensures small { IfOk result (λ s. length s.found.points.items ≤ MOST_CANDIDATES) }
+    ensures anys { IfOk result (λ s. s.found.anys.items ≡ map (is_any sub.now above.now bound) s.found.points.items) }
+    ensures built { IfOk result (λ s. IsBuilt s.found.anys.items s.found.rows.items (length s.found.rows.items) s.graph) }
+    ensures left { IfOk result (λ s. IsRemoval s.graph.outs s.left.current.items s.left.order.items) }
+    ensures start { IfOk result (λ s. at s.left.current.items 0 < moves_at s.graph.outs 0) }
+    ensures err { IfErr result (λ e. Refuses sub.now above.now bound e) }
+    ensures steps { IfOk result (λ s. steps.new ≡ steps.old + sum_by (λ n. cost_of s.graph.intos n) s.left.order.items) }
+    ensures cost { IfErr result (λ e. Costs sub.now above.now bound e steps.old steps.new) }
+{
+    let found = match find_all(alloc, sub, above, bound, MOST_CANDIDATES) {
+        Ok(found) => found,
+        Err(Fault::TooLarge) => return Err(SearchFault::TooLarge),
+        Err(Fault::Memory) => return Err(SearchFault::NoMemory),
+    };
+    let graph = match graph_of(alloc, found.anys.as_slice(), found.rows.as_slice()) {
+        Ok(graph) => graph,
+        Err(_) => return Err(SearchFault::NoMemory),
+    };
+    let left = match remove(alloc, &graph, steps) {
+        Ok(left) => left,
+        Err(_) => return Err(SearchFault::NoMemory),
+    };
+    if left.current[0] == graph.moves(0) {
+        return Err(SearchFault::NotFound { cut: found.cut });
+    }
+    Ok(Survey { found, graph, left })
+}

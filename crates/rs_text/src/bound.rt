@@ -1,0 +1,41 @@
+ghost use Rattle.std.specs.Prelude.{◌≡◌, ◌-◌, length, drop, reverse};
+ghost use Rattle.rs_text.specs.Names.{bound_to};
+
+use std::marker::Model;
+
+/// A recursion name, and the number of what its body begins with.
+#[derive(Drop, Debug)]
+pub struct Binding<'a> {
+    pub name: &'a [u8],
+    pub number: u32,
+}
+
+impl<'a> Model for Binding<'a> {
+    ghost use Rattle.std.specs.Prelude.{ℕ, List};
+
+    ghost Value = { List ℕ × ℕ };
+
+    ghost view = { λ b. (b.name.now, b.number) };
+}
+
+/// The number that the name is bound to by the nearest of the bindings, which is the last one.
+#[tactic(auto, using(crate::proofs::Bindings::nearest))]
+pub fn bound_number(bindings: &[Binding], name: &[u8]) -> Option<u32>
+    ensures { result ≡ bound_to name.now (reverse bindings.now) }
+{
+    let mut number = None;
+    for binding in bindings {
+        if binding.name == name {
+            number = Some(binding.number);
+        }
+    }
+    number
+}
+
+/// Lets go of all bindings but the first ones, as many as `left` says.
+#[tactic(auto, using(crate::proofs::Bindings::cut_short))]
+pub fn unbind<'a>(bindings: &mut Vec<Binding<'a>>, left: usize)
+    ensures { reverse bindings.new.items ≡ drop (length (reverse bindings.old.items) - left) (reverse bindings.old.items) }
+{
+    bindings.truncate(left);
+}

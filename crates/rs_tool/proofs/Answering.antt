@@ -1,0 +1,182 @@
+-- What an answer that was made says of its document, and a call that wrote it of its source and sink.
+use Rattle.std.proofs.Common.{◌≡◌, ℕ, ◌≤◌, ◌<◌, ◌⊎◌, List, [], ◌∷◌, length, true, false, Option, Some, None, Result, Ok, Err, refl, sym, ap, subst, ◌∙◌, inl, inr}
+use Rattle.std.specs.Prelude.{IfOk, IfSome, codes}
+use Rattle.std.specs.Io.KnownBytes.{Appends, Keeps, IsAtEnd}
+use Rattle.rs_io.specs.Prefix.{AppendsPrefix}
+use Rattle.rs_model.specs.Data.{Machine_data}
+use Rattle.rs_model.specs.declared.checks.MachineFault.{MachineFault}
+use Rattle.rs_model.specs.declared.graph.Role.{Role}
+use Rattle.rs_model.specs.declared.limits.TheConstants.{MOST_BYTES}
+use Rattle.rs_model.specs.declared.memory.NoMemory.{NoMemory}
+use Rattle.rs_project.specs.Data.{Projection_data}
+use Rattle.rs_project.specs.Numbered.{AreNumberedProjections}
+use Rattle.rs_project.specs.declared.projecting.ProjFault.{ProjFault}
+use Rattle.rs_project.specs.declared.projecting.ProjFault.TheVariants as proj
+use Rattle.rs_derive.specs.Data.{Derivation_data}
+use Rattle.rs_search.specs.declared.faults.SearchFault.{SearchFault}
+use Rattle.rs_search.specs.declared.faults.SearchFault.TheVariants as search
+use Rattle.rs_tool.specs.Derivations.{AreCanonical, IsUnderivable}
+use Rattle.rs_text.specs.declared.faults.TextFault.{TextFault}
+use Rattle.rs_wellformed.specs.Faults.{first_fault}
+use Rattle.rs_wellformed.specs.declared.checks.WfFault.{WfFault}
+use Rattle.rs_tool.specs.declared.documents.Content.TheVariants as content
+use Rattle.rs_tool.specs.declared.statuses.Status.{Status}
+use Rattle.rs_tool.specs.declared.statuses.Status.TheVariants as status
+use Rattle.rs_tool.specs.declared.statuses.Verdict.{Verdict}
+use Rattle.rs_tool.specs.declared.statuses.Verdict.TheVariants as verdict
+use Rattle.rs_tool.specs.declared.words.Task.{Task}
+use Rattle.rs_tool.specs.Answers.{Answers, CarriesOut, AnswersText, IsTooLong, IsFaulty, IsDocument, AnswersDocument}
+use Rattle.rs_tool.specs.Calls.{Ends, IsStopped, Tells, TellsAll, TellsPart}
+use Rattle.rs_tool.specs.Checks as checks
+use Rattle.rs_tool.specs.Checks.{Checks, HasMachines}
+use Rattle.rs_tool.specs.Data.{Answer_data, Document_data}
+use Rattle.rs_tool.specs.Reading.{IsContent}
+use Rattle.rs_tool.specs.RefusalTexts.{too_large, fault_answer, wf_answer, proj_answer, machine_answer, search_answer}
+use Rattle.rs_tool.specs.Report.{report}
+use Rattle.rs_tool.specs.Sessions.{Refuses, first_refusal, machines_of}
+use Rattle.rs_tool.specs.Statuses.{status_of}
+use Rattle.rs_tool.specs.Tables as tables
+use Rattle.rs_tool.specs.Tables.{Projects}
+use Rattle.rs_tool.specs.Texts.{joined}
+use Rattle.rs_tool.specs.Words.{reads, task_of}
+
+-- an answer that was made is the one that is meant
+meant : (P : Answer_data → Type 0) (r : Result Answer_data NoMemory) (a : Answer_data) → IfOk r (λ m. m ≡ a) → ((m : Answer_data) → m ≡ a → P m) → IfOk r P
+meant P (Ok m) a is h = h m is
+meant P (Err e) a is h = tt
+
+-- what holds of each answer holds of the one that was made
+made : (P Q : Answer_data → Type 0) (r : Result Answer_data NoMemory) → IfOk r P → ((m : Answer_data) → P m → Q m) → IfOk r Q
+made P Q (Ok m) p h = h m p
+made P Q (Err e) p h = tt
+
+pub ill_formed : (d : Document_data) (f : WfFault) (r : Result Answer_data NoMemory) → first_fault d.protocol ≡ Some f → IfOk r (λ a. a ≡ wf_answer d.names f) → IfOk r (Checks d)
+ill_formed d f r e is = meant (Checks d) r (wf_answer d.names f) is (λ m x. checks.IsIllFormed f e x)
+
+pub no_projection : (d : Document_data) (f : ProjFault) (r : Result Answer_data NoMemory) → first_fault d.protocol ≡ None → (f ≡ proj.NoMemory) ⊎ Refuses d.protocol f
+    → IfOk r (λ a. a ≡ proj_answer d.names f) → IfOk r (λ a. f ≡ proj.NoMemory → ⊥) → IfOk r (Checks d)
+no_projection d f (Err e) none why is never = tt
+no_projection d f (Ok m) none (inl memory) is never = absurd (never memory)
+no_projection d f (Ok m) none (inr refused) is never = checks.HasNoProjection none refused.0 f refused.1 is
+
+pub ill_machine : (d : Document_data) (ps : List Projection_data) (ms : List Machine_data) (role : Role) (f : MachineFault) (r : Result Answer_data NoMemory) → first_fault d.protocol ≡ None → AreNumberedProjections d.protocol ps
+    → ms ≡ machines_of d.machines ps → first_refusal d.protocol.roles ms ≡ Some (record { role = role; fault = f }) → IfOk r (λ a. a ≡ machine_answer d.names role f) → IfOk r (Checks d)
+ill_machine d ps ms role f r none h e s is =
+    meant (Checks d) r (machine_answer d.names role f) is
+    (λ m x. checks.HasIllMachine ps (record { well_formed = none; projected = h }) (record { role = role; fault = f }) (subst (λ z. first_refusal d.protocol.roles z ≡ Some (record { role = role; fault = f })) e s) x)
+
+pub has_machines : (d : Document_data) (ps : List Projection_data) (ms : List Machine_data) → first_fault d.protocol ≡ None → AreNumberedProjections d.protocol ps → ms ≡ machines_of d.machines ps → first_refusal d.protocol.roles ms ≡ None → HasMachines d ps ms
+has_machines d ps ms none h e s = record { projections_are = record { well_formed = none; projected = h }; machines_are = e; well_formed = s }
+
+pub no_derivation : (d : Document_data) (ps : List Projection_data) (ms : List Machine_data) (role : Role) (f : SearchFault) (r : Result Answer_data NoMemory) → HasMachines d ps ms
+    → (f ≡ search.NoMemory) ⊎ IsUnderivable ms ps role f → IfOk r (λ a. a ≡ search_answer d.names role f) → IfOk r (λ a. f ≡ search.NoMemory → ⊥) → IfOk r (Checks d)
+no_derivation d ps ms role f (Err e) h why is never = tt
+no_derivation d ps ms role f (Ok m) h (inl memory) is never = absurd (never memory)
+no_derivation d ps ms role f (Ok m) h (inr u) is never = checks.HasNoDerivation ps ms h role f u is
+
+pub accepted : (d : Document_data) (ps : List Projection_data) (ms : List Machine_data) (ds : List Derivation_data) (r : Result Answer_data NoMemory) → HasMachines d ps ms → AreCanonical ms ps ds
+    → IfOk r (λ a. a ≡ report d.names.roles ds) → IfOk r (Checks d)
+accepted d ps ms ds r h found is = meant (Checks d) r (report d.names.roles ds) is (λ m x. checks.IsAccepted ps ms ds h found x)
+
+pub ill_formed_tables : (d : Document_data) (f : WfFault) (r : Result Answer_data NoMemory) → first_fault d.protocol ≡ Some f → IfOk r (λ a. a ≡ wf_answer d.names f) → IfOk r (Projects d)
+ill_formed_tables d f r e is = meant (Projects d) r (wf_answer d.names f) is (λ m x. tables.IsIllFormed f e x)
+
+pub no_tables : (d : Document_data) (f : ProjFault) (r : Result Answer_data NoMemory) → first_fault d.protocol ≡ None → (f ≡ proj.NoMemory) ⊎ Refuses d.protocol f
+    → IfOk r (λ a. a ≡ proj_answer d.names f) → IfOk r (λ a. f ≡ proj.NoMemory → ⊥) → IfOk r (Projects d)
+no_tables d f (Err e) none why is never = tt
+no_tables d f (Ok m) none (inl memory) is never = absurd (never memory)
+no_tables d f (Ok m) none (inr refused) is never = tables.HasNoProjection none refused.0 f refused.1 is
+
+-- the answer to a document is the answer to the text that spells it
+pub of_document : (t : Task) (bytes : List ℕ) (d : Document_data) (r : Result Answer_data NoMemory) → length bytes ≤ MOST_BYTES → IsContent bytes (content.Document d) → IfOk r (AnswersDocument t d) → IfOk r (AnswersText t bytes)
+of_document t bytes d r short h a = made (AnswersDocument t d) (AnswersText t bytes) r a (λ m x. IsDocument short d h x)
+
+pub of_fault : (t : Task) (bytes : List ℕ) (f : TextFault) (r : Result Answer_data NoMemory) → length bytes ≤ MOST_BYTES → IsContent bytes (content.Fault f) → IfOk r (λ m. m ≡ fault_answer bytes f.kind f.at) → IfOk r (AnswersText t bytes)
+of_fault t bytes f r short h is = meant (AnswersText t bytes) r (fault_answer bytes f.kind f.at) is (λ m x. IsFaulty short f.kind f.at h x)
+
+-- what holds of the bytes that were read holds of those that were told
+pub of_told : (o : Option (List ℕ)) (bytes : List ℕ) (P : List ℕ → Type 0) → IfSome o (λ left. bytes ≡ left) → P bytes → IfSome o P
+of_told (Some left) bytes P e h = subst P e h
+of_told None bytes P e h = tt
+
+-- a fact of the bytes, where they are told
+pub where_told : (o : Option (List ℕ)) (P : List ℕ → Type 0) → ((bytes : List ℕ) → P bytes) → IfSome o P
+where_told (Some bytes) P h = h bytes
+where_told None P h = tt
+
+pub of_long : (words : List (List ℕ)) (t : Task) (o : Option (List ℕ)) (a : Answer_data) → task_of words ≡ Some t → IfSome o (λ bytes. MOST_BYTES < length bytes) → a ≡ too_large (codes "text") → IfSome o (λ bytes. Answers words bytes a)
+of_long words t (Some bytes) a e long is = CarriesOut t e (IsTooLong long is)
+of_long words t None a e long is = tt
+
+pub keeps_same : (o : Option (List ℕ)) → Keeps o o
+keeps_same (Some bytes) = refl
+keeps_same None = tt
+
+no_stop : (v : Verdict) → IsStopped (status_of v) → ⊥
+no_stop verdict.Fine (inl e) = cc
+no_stop verdict.Fine (inr e) = cc
+no_stop verdict.Refused (inl e) = cc
+no_stop verdict.Refused (inr e) = cc
+no_stop verdict.Usage (inl e) = cc
+no_stop verdict.Usage (inr e) = cc
+no_stop verdict.Malformed (inl e) = cc
+no_stop verdict.Malformed (inr e) = cc
+no_stop verdict.Unprojectable (inl e) = cc
+no_stop verdict.Unprojectable (inr e) = cc
+no_stop verdict.TooLarge (inl e) = cc
+no_stop verdict.TooLarge (inr e) = cc
+no_stop verdict.NotBuilt (inl e) = cc
+no_stop verdict.NotBuilt (inr e) = cc
+
+no_write_fault : (v : Verdict) → status_of v ≡ status.WriteFault → ⊥
+no_write_fault verdict.Fine e = cc
+no_write_fault verdict.Refused e = cc
+no_write_fault verdict.Usage e = cc
+no_write_fault verdict.Malformed e = cc
+no_write_fault verdict.Unprojectable e = cc
+no_write_fault verdict.TooLarge e = cc
+no_write_fault verdict.NotBuilt e = cc
+
+tells_all : (words : List (List ℕ)) (left written new : Option (List ℕ)) (a : Answer_data) (s : Status) → s ≡ status_of a.verdict → IfSome left (λ bytes. Answers words bytes a) → Appends written new a.text
+    → IfSome left (λ bytes. Tells words bytes written new s)
+tells_all words (Some bytes) written new a s is h text = TellsAll a h text is
+tells_all words None written new a s is h text = tt
+
+tells_part : (words : List (List ℕ)) (left written new : Option (List ℕ)) (a : Answer_data) → IfSome left (λ bytes. Answers words bytes a) → AppendsPrefix written new a.text
+    → IfSome left (λ bytes. Tells words bytes written new status.WriteFault)
+tells_part words (Some bytes) written new a h text = TellsPart a h text refl
+tells_part words None written new a h text = tt
+
+at_end : (left later : Option (List ℕ)) (s : Status) → IfSome left (λ bytes. length bytes ≤ MOST_BYTES → IsAtEnd later) → IfSome left (λ bytes. length bytes ≤ MOST_BYTES → (IsStopped s → ⊥) → IsAtEnd later)
+at_end (Some bytes) later s h = λ short went. h short
+at_end None later s h = tt
+
+-- the answer was written whole
+pub ends_whole : {S : Type 0} (words : List (List ℕ)) (left later written new : Option (List ℕ)) (read_rose write_rose : Type 0) (source behind : S) (a : Answer_data) (s : Status) → s ≡ status_of a.verdict
+    → IfSome left (λ bytes. Answers words bytes a) → Appends written new a.text → (reads words ≡ false → behind ≡ source) → (reads words ≡ true → IfSome left (λ bytes. length bytes ≤ MOST_BYTES → IsAtEnd later))
+    → Ends words left later written new read_rose write_rose source behind s
+ends_whole {S} words left later written new read_rose write_rose source behind a s is h text unread end = record {
+  answer = tells_all words left written new a s is h text;
+  stopped = λ stop. absurd (no_stop a.verdict (subst IsStopped is stop));
+  read_fault = λ e. absurd (no_stop a.verdict (inl (sym is ∙ e)));
+  write_fault = λ e. absurd (no_write_fault a.verdict (sym is ∙ e));
+  unread = unread;
+  end = λ r. at_end left later s (end r);
+}
+
+-- a first part of it was written
+pub ends_early : {S : Type 0} (words : List (List ℕ)) (left later written new : Option (List ℕ)) (read_rose write_rose : Type 0) (source behind : S) (a : Answer_data)
+    → IfSome left (λ bytes. Answers words bytes a) → AppendsPrefix written new a.text → write_rose → (reads words ≡ false → behind ≡ source) → (reads words ≡ true → IfSome left (λ bytes. length bytes ≤ MOST_BYTES → IsAtEnd later))
+    → Ends words left later written new read_rose write_rose source behind status.WriteFault
+ends_early {S} words left later written new read_rose write_rose source behind a h text rose unread end = record {
+  answer = tells_part words left written new a h text;
+  stopped = λ stop. elim stop [ inl e ↦ cc | inr e ↦ cc ];
+  read_fault = λ e. cc;
+  write_fault = λ e. rose;
+  unread = unread;
+  end = λ r. at_end left later status.WriteFault (end r);
+}
+
+pub some_tables : (d : Document_data) (ps : List Projection_data) (text : List ℕ) → first_fault d.protocol ≡ None → AreNumberedProjections d.protocol ps → text ≡ tables.tables_text d.names ps
+    → Projects d (record { text = text; verdict = verdict.Fine })
+some_tables d ps text none h is = tables.HasTables ps (record { well_formed = none; projected = h }) (ap (λ z. record { text = z; verdict = verdict.Fine }) is)

@@ -1,0 +1,128 @@
+//! How calls end.
+
+ghost use Rattle.std.specs.Prelude.{◌≡◌};
+ghost use Rattle.rs_tool.specs.Statuses.{code_of};
+
+use rs_model::NoMemory;
+
+/// How a call ended.
+#[derive(Clone, Copy, Debug, PartialEq, Eq)]
+pub enum Status {
+    /// The words were carried out.
+    Fine,
+    /// Some role's machine is refused.
+    Refused,
+    /// The words are none of the program's.
+    Usage,
+    /// The text is at fault.
+    Malformed,
+    /// The protocol has no projection onto some role.
+    Unprojectable,
+    /// A quantity passes its limit.
+    TooLarge,
+    /// The input couldn't be read.
+    ReadFault,
+    /// The output couldn't be written.
+    WriteFault,
+    /// Memory was refused.
+    NoMemory,
+    /// The words or the text ask for what isn't built yet.
+    NotBuilt,
+}
+
+impl Status {
+    /// The exit status of the program.
+    pub fn code(self) -> u8
+        ensures { result ≡ code_of self }
+    {
+        match self {
+            Status::Fine => 0,
+            Status::Refused => 1,
+            Status::Usage => 2,
+            Status::Malformed => 3,
+            Status::Unprojectable => 4,
+            Status::TooLarge => 5,
+            Status::ReadFault => 6,
+            Status::WriteFault => 7,
+            Status::NoMemory => 8,
+            Status::NotBuilt => 12,
+        }
+    }
+}
+
+/// What an answer says: the statuses of calls that read their input and wrote all of their text.
+#[derive(Clone, Copy, Debug, PartialEq, Eq)]
+pub enum Verdict {
+    Fine,
+    Refused,
+    Usage,
+    Malformed,
+    Unprojectable,
+    TooLarge,
+    NotBuilt,
+}
+
+impl From<Verdict> for Status {
+    ghost use Rattle.std.specs.Prelude.{◌≡◌};
+    ghost use Rattle.rs_tool.specs.Statuses.{status_of};
+
+    ghost from_gives = { λ verdict status. status ≡ status_of verdict };
+
+    fn from(verdict: Verdict) -> Self {
+        match verdict {
+            Verdict::Fine => Status::Fine,
+            Verdict::Refused => Status::Refused,
+            Verdict::Usage => Status::Usage,
+            Verdict::Malformed => Status::Malformed,
+            Verdict::Unprojectable => Status::Unprojectable,
+            Verdict::TooLarge => Status::TooLarge,
+            Verdict::NotBuilt => Status::NotBuilt,
+        }
+    }
+}
+
+/// Why no answer was made.
+#[derive(Clone, Copy, Debug, PartialEq, Eq)]
+pub enum Stop {
+    ReadFault,
+    NoMemory,
+}
+
+impl From<NoMemory> for Stop {
+    ghost use Rattle.std.specs.Prelude.{◌≡◌};
+    ghost use Rattle.rs_tool.specs.declared.statuses.Stop.TheVariants.{NoMemory};
+
+    ghost from_gives = { λ _ e. e ≡ NoMemory };
+
+    fn from(_error: NoMemory) -> Self {
+        Stop::NoMemory
+    }
+}
+
+impl From<Stop> for Status {
+    ghost use Rattle.std.specs.Prelude.{◌≡◌};
+    ghost use Rattle.rs_tool.specs.Statuses.{status_after};
+
+    ghost from_gives = { λ stop status. status ≡ status_after stop };
+
+    fn from(stop: Stop) -> Self {
+        match stop {
+            Stop::ReadFault => Status::ReadFault,
+            Stop::NoMemory => Status::NoMemory,
+        }
+    }
+}
+
+/// What a call answers beside its text.
+#[derive(Clone, Copy, Debug, PartialEq, Eq)]
+pub struct Reply {
+    pub status: Status,
+}
+
+/// What a call without workers answers.
+#[derive(Clone, Copy, Debug, PartialEq, Eq)]
+pub enum Serial {
+    Answered(Reply),
+    /// The words ask for several workers; nothing was read or written.
+    NeedsWorkers,
+}
