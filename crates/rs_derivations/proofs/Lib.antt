@@ -9,3 +9,5 @@ pub mod Placing
 pub mod Sounding
 pub mod Writable
 pub mod Spelt
+pub mod Printed
+pub mod Again

@@ -7,5 +7,6 @@ pub mod Faults
 pub mod Texts
 pub mod Canonical
 pub mod Printable
+pub mod Numbers
 pub mod Data
 pub mod Feeding

@@ -1,10 +1,15 @@
 // What the definitions of derivation texts say together. The functions do nothing: each states a law.
-ghost use Rattle.std.specs.Prelude.{◌≡◌, ◌≤◌, ◌⊎◌, ℕ, List, length};
+ghost use Rattle.std.specs.Prelude.{◌≡◌, ◌≤◌, ◌⊎◌, ◌+◌, ◌++◌, ℕ, List, drop, length};
 ghost use Rattle.rs_model.specs.Data.{Names_data};
 ghost use Rattle.rs_model.specs.declared.limits.TheConstants.{MOST_LABELS};
 ghost use Rattle.rs_derive.specs.Data.{Derivation_data};
 ghost use Rattle.rs_text.specs.declared.faults.TextKind.{TextKind};
+ghost use Rattle.rs_text.specs.Lexemes.{next_lexeme};
+ghost use Rattle.rs_text.specs.Sound.{IsSound};
+ghost use Rattle.rs_derivations.specs.Canonical.{canonical_text, tree_of};
+ghost use Rattle.rs_derivations.specs.Derivations.{names_of};
 ghost use Rattle.rs_derivations.specs.Faults.{FirstFault};
+ghost use Rattle.rs_derivations.specs.Numbers.{AreSmall};
 ghost use Rattle.rs_derivations.specs.Printable.{IsPrintable};
 ghost use Rattle.rs_derivations.specs.Spells.{SpellsDerivation};
 
@@ -31,4 +36,20 @@ pub fn spelt_text_has_no_fault()
 /// What a text spells can be printed: its roles and labels have names, and it is within all limits.
 pub fn spelt_derivations_are_printable()
     ensures { (old new : Names_data) (bytes : List ℕ) (at until : ℕ) (d : Derivation_data) → SpellsDerivation bytes at old new d until → IsPrintable new d }
+{}
+
+/// The canonical text of a derivation, wherever it stands, spells the derivation, where its labels bring the names that
+/// were there to those that it is printed with ..
+pub fn canonical_text_is_read_again()
+    ensures { (old names : Names_data) (d : Derivation_data) (bytes : List ℕ) (at : ℕ) (rest : List ℕ) → IsSound names → IsPrintable names d → AreSmall d → length names.labels ≤ MOST_LABELS → names_of old (tree_of names d) ≡ names → drop at bytes ≡ canonical_text names d ++ rest → SpellsDerivation bytes at old names d (next_lexeme bytes (at + length (canonical_text names d))).from }
+{}
+
+/// .. as these do themselves.
+pub fn canonical_text_has_no_new_labels()
+    ensures { (names : Names_data) (d : Derivation_data) → IsSound names → IsPrintable names d → names_of names (tree_of names d) ≡ names }
+{}
+
+/// What is read from a canonical text is printed as it.
+pub fn canonical_text_is_printed_again()
+    ensures { (names new : Names_data) (d e : Derivation_data) (until : ℕ) → IsSound names → IsPrintable names d → AreSmall d → length names.labels ≤ MOST_LABELS → SpellsDerivation (canonical_text names d) 0 names new e until → canonical_text new e ≡ canonical_text names d }
 {}
