@@ -1,4 +1,4 @@
--- Believed: what contracts see of the reader.
+-- Steps: what contracts see of the reader.
 use Rattle.std.specs.Prelude.{ℕ, List}
 use Rattle.rs_model.specs.declared.graph.Role.{Role}
 use Rattle.rs_derive.specs.Data.{DNode_data}

@@ -1,4 +1,4 @@
--- Believed: how the reader goes on, token by token.
+-- Steps: how the reader goes on, token by token.
 use Rattle.std.specs.Prelude.{◌≡◌, ℕ, ◌≤◌, List, [], ◌∷◌, ◌++◌, codes, length, Option, Some, None, Bool, true, false, ◌&&◌, nat_le, ◌==◌, if◌then◌else◌, Result, Ok, Err}
 use Rattle.rs_model.specs.Data.{Names_data}
 use Rattle.rs_model.specs.declared.graph.Label.{Label}
