@@ -65,6 +65,7 @@ in_place d ps placed h p m e = go (chosen d.machines ps p m e)
     by : (o : Option Machine_data) (j : Projection_data) → slice_get d.machines p ≡ Some o → slice_get ps p ≡ Some j → m ≡ machine_or o j → m.role.0 ≡ p
     by None j has projects is = ap (λ (z : Machine_data). z.role.0) is ∙ ap (λ (z : Role). z.0) (h.each p j projects).is.onto
     by (Some x) j has projects is = ap (λ (z : Machine_data). z.role.0) is ∙ placed p x has
+
     go : IsChosen d.machines ps p m → m.role.0 ≡ p
     go c = by c.own' c.projection c.has c.projects c.is
 
@@ -194,4 +195,3 @@ ours_proper pr ps ms s place m h e = machine-proper pr ps ms s place m (gets ms 
 -- a projection stands at each place of a machine
 pub projects_at : (pr : Protocol_data) (ps : List Projection_data) (ms : List Machine_data) → IsSession pr ps ms → (place : ℕ) (j : Projection_data) → place < length ms → j ≡ get_or ps place j → slice_get ps place ≡ Some j
 projects_at pr ps ms s place j h e = gets ps place j (omega (arith, h, s.a_machine_each, s.projected.many)) e
-

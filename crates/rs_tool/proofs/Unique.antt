@@ -190,11 +190,11 @@ one_underivable ms ps r s f g u v = elim (leb_tells (suc r.0) s.0) [
 one_derived : (ms : List Machine_data) (ps : List Projection_data) (ds es : List Derivation_data) → length ms ≤ length ps → AreCanonical ms ps ds → AreCanonical ms ps es → ds ≡ es
 one_derived ms ps ds es few h k =
     same_list ds es (h.many ∙ sym k.many) (λ p d e hd he.
-      let within = slice_get_within ds p d hd in
-      let many = h.many in
-      let m = get_some ms p (omega (arith, within, many)) in
-      let j = get_some ps p (omega (arith, within, many, few)) in
-      searched.one_answer m.0 j.0.machine DEFAULT_BOUND d e (h.each p m.0 j.0 d m.1 j.1 hd) (k.each p m.0 j.0 e m.1 j.1 he))
+    let within = slice_get_within ds p d hd in
+    let many = h.many in
+    let m = get_some ms p (omega (arith, within, many)) in
+    let j = get_some ps p (omega (arith, within, many, few)) in
+    searched.one_answer m.0 j.0.machine DEFAULT_BOUND d e (h.each p m.0 j.0 d m.1 j.1 hd) (k.each p m.0 j.0 e m.1 j.1 he))
 
 one_judgement : (d : Document_data) (ps : List Projection_data) (ms : List Machine_data) (a b : Answer_data) → length ms ≤ length ps → Judged d ps ms a → Judged d ps ms b → a ≡ b
 one_judgement d ps ms a b few (Ill r e x) (Ill s f y) =

@@ -38,7 +38,12 @@ pub fn check(alloc: Global, document: &Document) -> Result<Answer, NoMemory>
         Ok(derivations) => derivations,
         Err(found) => return search_answer(alloc, names, found.role, found.fault),
     };
-    match accept(protocol, projections.as_slice(), machines, derivations.as_slice()) {
+    match accept(
+        protocol,
+        projections.as_slice(),
+        machines,
+        derivations.as_slice(),
+    ) {
         Ok(accepted) => report(alloc, names.roles.as_slice(), &accepted),
         Err(_) => unreachable!(),
     }
