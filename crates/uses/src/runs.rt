@@ -1,6 +1,9 @@
 //! What a text is accepted as, and how it runs.
 
-ghost use Rattle.std.specs.Prelude.{◌≡◌, ◌≤◌, length, IfOk};
+ghost use Rattle.std.specs.Prelude.{◌≡◌, ◌≤◌, length, IfOk, IfSome};
+ghost use Rattle.rs_safety.specs.Room.{room_of};
+ghost use Rattle.rs_tool.specs.Data.{Document_data};
+ghost use Rattle.rs_tool.specs.Documents.{SpellsDocument};
 
 use crate::session::{Session, session_of};
 use rs_core::{Outcome, Run, SeededActor};
@@ -32,6 +35,8 @@ fn actors_for(alloc: Global, machines: &[Machine]) -> Result<Vec<SeededActor>, N
 /// Runs an accepted session: none where memory for its actors was refused.
 fn told_of(alloc: Global, accepted: &Accepted, capacity: u16, limit: u32) -> Option<Told>
     requires { (1 ≤ capacity) × (capacity ≤ 1024) }
+    ensures machines { IfSome result (λ t. t.machines ≡ length accepted.now.machines) }
+    ensures room { IfSome result (λ t. t.room ≡ room_of accepted.now.derivations) }
 {
     let Ok(actors) = actors_for(alloc, accepted.machines()) else {
         return None;
@@ -53,6 +58,7 @@ fn told_of(alloc: Global, accepted: &Accepted, capacity: u16, limit: u32) -> Opt
 /// Reads the text, has its session accepted, and runs it: none where the text is refused, or memory was.
 pub fn run_of(alloc: Global, text: &[u8], capacity: u16, limit: u32) -> Option<Told>
     requires { (1 ≤ capacity) × (capacity ≤ 1024) }
+    ensures { IfSome result (λ t. (document : Document_data) × SpellsDocument text.now document × (t.machines ≡ document.protocol.roles)) }
 {
     let Ok(Content::Document(document)) = read_document(alloc, text) else {
         return None;

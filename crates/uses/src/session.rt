@@ -2,6 +2,7 @@
 
 ghost use Rattle.std.specs.Prelude.{◌≡◌, length, IfSome};
 ghost use Rattle.rs_safety.specs.Sessions.{AreOneEach, IsSession};
+ghost use Rattle.rs_tool.specs.Machines.{machines_of};
 ghost use Rattle.rs_tool.specs.Reading.{IsReady};
 
 use rs_derive::Derivation;
@@ -24,6 +25,7 @@ pub fn session_of(alloc: Global, document: &Document) -> Option<Session>
     requires ready { IsReady document.now }
     requires roles { length document.now.names.roles ≡ document.now.protocol.roles }
     ensures session { IfSome result (λ s. IsSession document.now.protocol s.projections.items s.machines.items) }
+    ensures machines { IfSome result (λ s. s.machines.items ≡ machines_of document.now.machines s.projections.items) }
     ensures derivations { IfSome result (λ s. AreOneEach document.now.protocol.roles s.derivations.items) }
 {
     let protocol = &document.protocol;
