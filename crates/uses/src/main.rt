@@ -1,0 +1,37 @@
+//! A user of the library: it reads a document, has its session accepted, runs it on one thread, and tells of both.
+#![tactic(auto)]
+
+mod runs;
+mod session;
+#[cfg(test)]
+mod tests;
+
+use rs_core::Outcome;
+use runs::{Told, run_of};
+use std::alloc::Alloc;
+use std::process::ExitCode;
+
+/// Double buffering, one ready ahead.
+const BUFFERING: &[u8] =
+    b"roles K, S, T\nprotocol rec X. K->S:ready(). T->K:ready(). S->K{copy(bytes). K->T:copy(bytes). X, stop(). K->S:ready(). K->T:stop(). end}\nmachine K: S!ready(). rec X. S!ready(). T?ready(). S?{copy(bytes). T!copy(bytes). X, stop(). T!stop(). end}\n";
+
+fn main(rt: HostRuntime) -> ExitCode {
+    let printed = match run_of(rt.alloc(), BUFFERING, 16, 100) {
+        Some(
+            Told {
+                machines,
+                room,
+                run,
+            },
+        ) => {
+            let end = match run {
+                Ok(Outcome::Ended(_)) => "each role has ended",
+                Ok(Outcome::Stopped(_)) => "the limit was met",
+                Err(_) => "no role could move, or memory was refused",
+            };
+            println!(rt; "{machines} machines are safe, with room for {room}: {end}")
+        }
+        None => println!(rt; "nothing is accepted"),
+    };
+    ExitCode::from(if printed.is_ok() { 0 } else { 1 })
+}
