@@ -16,7 +16,7 @@ const BUFFERING: &[u8] =
     b"roles K, S, T\nprotocol rec X. K->S:ready(). T->K:ready(). S->K{copy(bytes). K->T:copy(bytes). X, stop(). K->S:ready(). K->T:stop(). end}\nmachine K: S!ready(). rec X. S!ready(). T?ready(). S?{copy(bytes). T!copy(bytes). X, stop(). T!stop(). end}\n";
 
 fn main(rt: HostRuntime) -> ExitCode {
-    let printed = match run_of(rt.alloc(), BUFFERING, 16, 100) {
+    let printed = match run_of(rt.alloc(), BUFFERING, Some(16), 100) {
         Some(
             Told {
                 machines,

@@ -6,7 +6,7 @@ ghost use Rattle.rs_tool.specs.Data.{Document_data};
 ghost use Rattle.rs_tool.specs.Documents.{SpellsDocument};
 
 use crate::session::{Session, session_of};
-use rs_core::{Outcome, Run, SeededActor};
+use rs_core::{Outcome, Run, SeededActor, run_plain};
 use rs_exec::{ExecFault, run_inline};
 use rs_model::{Machine, NoMemory};
 use rs_safety::{Accepted, accept};
@@ -32,32 +32,56 @@ fn actors_for(alloc: Global, machines: &[Machine]) -> Result<Vec<SeededActor>, N
     Ok(actors)
 }
 
-/// Runs an accepted session: none where memory for its actors was refused.
-fn told_of(alloc: Global, accepted: &Accepted, capacity: u16, limit: u32) -> Option<Told>
-    requires { (1 ≤ capacity) × (capacity ≤ 1024) }
-    ensures machines { IfSome result (λ t. t.machines ≡ length accepted.now.machines) }
-    ensures room { IfSome result (λ t. t.room ≡ room_of accepted.now.derivations) }
+fn copies_of(alloc: Global, machines: &[Machine]) -> Result<Vec<Machine>, NoMemory>
+    ensures { IfOk result (λ copies. copies.items ≡ machines.now) }
 {
-    let Ok(actors) = actors_for(alloc, accepted.machines()) else {
-        return None;
-    };
-    let run = match run_inline(alloc, accepted, actors, capacity, limit) {
-        Ok(ran) => {
-            let Run { outcome, .. } = ran;
-            Ok(outcome)
-        }
-        Err(fault) => Err(fault),
-    };
-    Some(Told {
-        machines: accepted.machines().len(),
-        room: accepted.room(),
-        run,
-    })
+    let mut copies = Vec::with_capacity(alloc, machines.len())?;
+    for machine in machines {
+        copies.push(machine.copy(alloc)?)?;
+    }
+    Ok(copies)
 }
 
-/// Reads the text, has its session accepted, and runs it: none where the text is refused, or memory was.
-pub fn run_of(alloc: Global, text: &[u8], capacity: u16, limit: u32) -> Option<Told>
-    requires { (1 ≤ capacity) × (capacity ≤ 1024) }
+/// How an accepted session runs, over queues of a capacity or over unbounded ones.
+fn outcome_of(
+    alloc: Global,
+    accepted: &Accepted,
+    capacity: Option<u16>,
+    limit: u32,
+) -> Result<Outcome, ExecFault>
+    requires { IfSome capacity (λ c. (1 ≤ c) × (c ≤ 1024)) }
+{
+    let actors = actors_for(alloc, accepted.machines())?;
+    match capacity {
+        Some(capacity) => {
+            let Run { outcome, .. } = run_inline(alloc, accepted, actors, capacity, limit)?;
+            Ok(outcome)
+        }
+        None => {
+            let machines = copies_of(alloc, accepted.machines())?;
+            let Run { outcome, .. } = run_plain(alloc, machines, actors, limit)?;
+            Ok(outcome)
+        }
+    }
+}
+
+/// What is told of an accepted session.
+fn told_of(alloc: Global, accepted: &Accepted, capacity: Option<u16>, limit: u32) -> Told
+    requires { IfSome capacity (λ c. (1 ≤ c) × (c ≤ 1024)) }
+    ensures machines { result.machines ≡ length accepted.now.machines }
+    ensures room { result.room ≡ room_of accepted.now.derivations }
+{
+    Told {
+        machines: accepted.machines().len(),
+        room: accepted.room(),
+        run: outcome_of(alloc, accepted, capacity, limit),
+    }
+}
+
+/// Reads the text, has its session accepted, and runs it, over queues of a capacity or over unbounded ones: none where
+/// the text is refused, or memory was.
+pub fn run_of(alloc: Global, text: &[u8], capacity: Option<u16>, limit: u32) -> Option<Told>
+    requires { IfSome capacity (λ c. (1 ≤ c) × (c ≤ 1024)) }
     ensures { IfSome result (λ t. (document : Document_data) × SpellsDocument text.now document × (t.machines ≡ document.protocol.roles)) }
 {
     let Ok(Content::Document(document)) = read_document(alloc, text) else {
@@ -77,7 +101,7 @@ pub fn run_of(alloc: Global, text: &[u8], capacity: u16, limit: u32) -> Option<T
         machines,
         derivations.as_slice(),
     ) {
-        Ok(accepted) => told_of(alloc, &accepted, capacity, limit),
+        Ok(accepted) => Some(told_of(alloc, &accepted, capacity, limit)),
         Err(_refused) => None,
     }
 }

@@ -39,6 +39,8 @@ const SWAPPED: &[u8] =
 const TWICE: &[u8] =
     b"roles A, B\nprotocol A->B:x(). A->B:x(). B->A:y(). B->A:y(). end\nmachine B: A!y(). A!y(). A?x(). A?x(). end\n";
 
+const LISTS: &[u8] = b"roles A, B\nprotocol A->B:x(list). end\n";
+
 const ENDLESS: &[u8] =
     b"roles K, S, T\nprotocol rec X. K->S:ready(). T->K:ready(). S->K:copy(bytes). K->T:copy(bytes). X\nmachine K: S!ready(). rec X. S!ready(). T?ready(). S?copy(bytes). T!copy(bytes). X\n";
 
@@ -46,8 +48,11 @@ const ENDLESS: &[u8] =
 fn sessions_end(rt: HostRuntime) -> Result<(), Fail> {
     let alloc = rt.alloc();
     let rows = [
-        (SWAPPED, 11, ["B!x.B?y.", "A!y.A?x."]),
-        (TWICE, 11, ["B!x.B!x.B?y.B?y.", "A!y.A!y.A?x.A?x."]),
+        (SWAPPED, Some(11), ["B!x.B?y.", "A!y.A?x."]),
+        (SWAPPED, None, ["B!x.B?y.", "A!y.A?x."]),
+        (TWICE, Some(11), ["B!x.B!x.B?y.B?y.", "A!y.A!y.A?x.A?x."]),
+        (TWICE, None, ["B!x.B!x.B?y.B?y.", "A!y.A!y.A?x.A?x."]),
+        (LISTS, None, ["B!x.", "A?x."]),
     ];
     for (text, capacity, wanted) in rows {
         match run_of(alloc, text, capacity, 1_000_000) {
@@ -71,7 +76,7 @@ fn sessions_end(rt: HostRuntime) -> Result<(), Fail> {
 
 #[test]
 fn full_queues_are_told(rt: HostRuntime) -> Result<(), Fail> {
-    match run_of(rt.alloc(), TWICE, 1, 1_000_000) {
+    match run_of(rt.alloc(), TWICE, Some(1), 1_000_000) {
         Some(
             Told {
                 run: Err(fault),
@@ -93,14 +98,16 @@ fn full_queues_are_told(rt: HostRuntime) -> Result<(), Fail> {
 
 #[test]
 fn endless_sessions_stop(rt: HostRuntime) -> Result<(), Fail> {
-    match run_of(rt.alloc(), ENDLESS, 16, 3) {
-        Some(
-            Told {
-                run: Ok(Outcome::Stopped(role)),
-                ..
-            },
-        ) => assert_eq!(rt; role, Role(0)),
-        _ => assert!(rt; false, "not stopped"),
+    for capacity in [Some(16), None] {
+        match run_of(rt.alloc(), ENDLESS, capacity, 3) {
+            Some(
+                Told {
+                    run: Ok(Outcome::Stopped(role)),
+                    ..
+                },
+            ) => assert_eq!(rt; role, Role(0)),
+            _ => assert!(rt; false, "not stopped"),
+        }
     }
     Ok(())
 }
