@@ -1,4 +1,4 @@
--- Steps: a session as `Core` keeps it, and the configuration that it shows.
+-- Believed: a session as `Core` keeps it, and the configuration that it shows.
 use Rattle.std.specs.Prelude.{◌≡◌, ℕ, ◌<◌, List, [], ◌∷◌, ◌++◌, Option, Some, None, Result, Ok, Err, slice_get, slice_index_or, slice_set, length, if◌then◌else◌, ◌==◌, map, replicate}
 use Rattle.rs_model.specs.Data.{Machine_data}
 use Rattle.rs_model.specs.Sorts.{fits}

@@ -1,4 +1,4 @@
--- Steps: what a session and its players say of a moment of the plain run, and what a run shows of its outcome.
+-- Believed: what a session and its players say of a moment of the plain run, and what a run shows of its outcome.
 use Rattle.std.specs.Prelude.{◌≡◌, ℕ, ◌+◌, ◌<◌, ◌≤◌, Bool, true, false, List, [], ◌∷◌, Option, Some, slice_get, length, if◌then◌else◌, ◌==◌, suc}
 use Rattle.rs_model.specs.Data.{Machine_data}
 use Rattle.rs_model.specs.declared.graph.Role.{Role}

@@ -1,4 +1,4 @@
--- Steps: the graph of numbered items: of each the moves, and the numbers of their results.
+-- Believed: the graph of numbered items: of each the moves, and the numbers of their results.
 use Rattle.std.specs.Prelude.{◌≡◌, ◌≢◌, ℕ, ◌<◌, ◌≤◌, Bool, false, List, [], length, slice_index_or}
 use Rattle.rs_graph.specs.Graphs.{Graph_data}
 use Rattle.rs_graph.specs.Removal.{IsInto}

@@ -1,4 +1,4 @@
--- Steps: numbers of nodes by first discovery.
+-- Believed: numbers of nodes by first discovery.
 use Rattle.std.specs.Prelude.{◌≡◌, ◌<◌, ◌≤◌, ℕ, List, [], length, slice_get, slice_index_or, Option, Some}
 use Rattle.rs_graph.specs.Removal.{at}
 

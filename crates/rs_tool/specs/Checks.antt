@@ -31,7 +31,7 @@ pub data Checks (d : Document_data) (answer : Answer_data) : Type 0 where
   HasIllMachine : (projections : List Projection_data) → HasProjections d projections
       → (refusal : MachineRefusal) → first_refusal d.protocol.roles (machines_of d.machines projections) ≡ Some refusal
       → answer ≡ machine_answer d.names refusal.role refusal.fault → Checks d answer
-  -- there is no derivation of some role's machine
+  -- there is no canonical derivation of some role's machine
   HasNoDerivation : (projections : List Projection_data) (machines : List Machine_data) → HasMachines d projections machines
       → (role : Role) (fault : SearchFault) → IsUnderivable machines projections role fault → answer ≡ search_answer d.names role fault → Checks d answer
   -- the session is accepted
