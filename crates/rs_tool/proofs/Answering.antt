@@ -19,7 +19,7 @@ use Rattle.rs_tool.specs.Derivations.{AreCanonical, IsUnderivable}
 use Rattle.rs_text.specs.declared.faults.TextFault.{TextFault}
 use Rattle.rs_wellformed.specs.Faults.{first_fault}
 use Rattle.rs_wellformed.specs.declared.checks.WfFault.{WfFault}
-use Rattle.rs_tool.specs.declared.documents.Content.TheVariants as content
+use Rattle.rs_documents.specs.declared.documents.Content.TheVariants as content
 use Rattle.rs_tool.specs.declared.statuses.Status.{Status}
 use Rattle.rs_tool.specs.declared.statuses.Status.TheVariants as status
 use Rattle.rs_tool.specs.declared.statuses.Verdict.{Verdict}
@@ -29,8 +29,9 @@ use Rattle.rs_tool.specs.Answers.{Answers, CarriesOut, AnswersText, IsTooLong, I
 use Rattle.rs_tool.specs.Calls.{Ends, IsStopped, Tells, TellsAll, TellsPart}
 use Rattle.rs_tool.specs.Checks as checks
 use Rattle.rs_tool.specs.Checks.{Checks, HasMachines}
-use Rattle.rs_tool.specs.Data.{Answer_data, Document_data}
-use Rattle.rs_tool.specs.Reading.{IsContent}
+use Rattle.rs_documents.specs.Data.{Document_data}
+use Rattle.rs_tool.specs.Data.{Answer_data}
+use Rattle.rs_documents.specs.Reading.{IsContent}
 use Rattle.rs_tool.specs.RefusalTexts.{too_large, fault_answer, wf_answer, proj_answer, machine_answer, search_answer}
 use Rattle.rs_tool.specs.Report.{report}
 use Rattle.rs_tool.specs.Sessions.{Refuses, first_refusal, machines_of}

@@ -24,13 +24,13 @@ use Rattle.rs_search.specs.declared.faults.SearchFault.{SearchFault}
 use Rattle.rs_search.specs.declared.faults.SearchFault.TheVariants as search
 use Rattle.rs_wellformed.specs.Faults as of_protocols
 use Rattle.rs_wellformed.proofs.Faults as well_formed_protocols
-use Rattle.rs_tool.specs.Data.{Document_data}
+use Rattle.rs_documents.specs.Data.{Document_data}
 use Rattle.rs_tool.specs.Derivations.{AreCanonical, AreFirstCanonical, IsUnderivable}
-use Rattle.rs_tool.specs.Reading.{AreInPlace, IsReady}
+use Rattle.rs_documents.specs.Reading.{AreInPlace, IsReady}
 use Rattle.rs_tool.specs.Sessions.{MachineRefusal, first_refusal, refusal_or}
 use Rattle.rs_tool.specs.Machines.{machine_or, machines_of}
 use Rattle.rs_tool.specs.declared.derivations.TheConstants.{DEFAULT_BOUND}
-use Rattle.rs_tool.proofs.SpeltSessions.{IsSpeltSession}
+use Rattle.rs_documents.proofs.SpeltSessions.{IsSpeltSession}
 
 -- where no machine is refused each is well formed
 later_fit : (o : Option MachineFault) (role : Role) (later : Option MachineRefusal) → refusal_or o role later ≡ None → (o ≡ None) × (later ≡ None)

@@ -8,8 +8,8 @@ use Rattle.rs_project.specs.Projection.{AreProjections}
 use Rattle.rs_project.specs.Refusals.{FirstRefusal}
 use Rattle.rs_project.specs.declared.projecting.ProjFault.{ProjFault}
 use Rattle.rs_project.specs.declared.projecting.ProjFault.TheVariants as proj
-use Rattle.rs_tool.specs.Data.{Document_data}
-use Rattle.rs_tool.specs.Reading.{AreShort, IsReady}
+use Rattle.rs_documents.specs.Data.{Document_data}
+use Rattle.rs_documents.specs.Reading.{AreShort, IsReady}
 use Rattle.rs_tool.specs.Sessions.{Refuses, machine_or, machines_of}
 
 last_or_before : (xs : List Projection_data) (y : Projection_data) (q : ℕ) (x : Projection_data) → slice_get (xs ++ y ∷ []) q ≡ Some x → (slice_get xs q ≡ Some x) ⊎ ((q ≡ length xs) × (y ≡ x))

@@ -9,8 +9,8 @@ use Rattle.rs_model.specs.declared.graph.Role.{Role}
 use Rattle.rs_search.specs.declared.faults.SearchFault.{SearchFault}
 use Rattle.rs_search.specs.declared.faults.SearchFault.TheVariants as search
 use Rattle.rs_tool.proofs.Derivings.{canonical_safe, session_of}
-use Rattle.rs_tool.proofs.SpeltSessions.{spelt_session}
-use Rattle.rs_tool.proofs.Spelt.{one_place_each}
+use Rattle.rs_documents.proofs.SpeltSessions.{spelt_session}
+use Rattle.rs_documents.proofs.Spelt.{one_place_each}
 use Rattle.rs_text.specs.declared.faults.TextKind.{TextKind}
 use Rattle.rs_text.specs.declared.faults.TextKind.TheVariants as kind
 use Rattle.rs_wellformed.specs.declared.checks.WfFault.{WfFault}
@@ -24,9 +24,10 @@ use Rattle.rs_tool.specs.declared.statuses.Verdict.TheVariants.{Fine}
 use Rattle.rs_tool.specs.Answers.{Answers, NoCommand, NoSuchCommand, CarriesOut, AnswersText, IsTooLong, IsFaulty, IsDerived, IsDocument}
 use Rattle.rs_tool.specs.Calls.{Tells, TellsAll, TellsPart, TellsReadFault, TellsNoMemory}
 use Rattle.rs_tool.specs.Checks.{Checks, IsIllFormed, HasNoProjection, HasIllMachine, HasNoDerivation, IsAccepted}
-use Rattle.rs_tool.specs.Data.{Document_data, Answer_data}
+use Rattle.rs_documents.specs.Data.{Document_data}
+use Rattle.rs_tool.specs.Data.{Answer_data}
 use Rattle.rs_tool.specs.RefusalTexts.{fault_answer, wf_answer, proj_answer, search_answer}
-use Rattle.rs_tool.specs.Documents.{SpellsDocument}
+use Rattle.rs_documents.specs.Documents.{SpellsDocument}
 use Rattle.rs_tool.specs.Headline.{SpellsSafeMachines}
 use Rattle.rs_tool.specs.Words.{is_check, is_show, is_project, task_of}
 use Rattle.rs_tool.specs.declared.words.Task.{Task}

@@ -1,14 +1,8 @@
-pub mod Parts
-pub mod Spelt
-pub mod OneContent
-pub mod CanShow
 pub mod EachRole
-pub mod SpeltSessions
 pub mod Derivings
 pub mod Answering
 pub mod Headline
 pub mod Unique
 pub mod Complete
 pub mod SomeAnswer
-pub mod Lines
 pub mod OneSession

@@ -1,12 +1,12 @@
 -- The headline means one session.
 use Rattle.std.proofs.Common.{◌≡◌, ℕ, List, length, subst, sym, ap, ◌∙◌}
 use Rattle.rs_project.specs.Numbered.{AreNumberedProjections}
-use Rattle.rs_tool.specs.Data.{Document_data}
+use Rattle.rs_documents.specs.Data.{Document_data}
 use Rattle.rs_tool.specs.Headline.{SpellsSafeMachines}
 use Rattle.rs_tool.specs.Machines.{machines_of}
-use Rattle.rs_tool.specs.declared.documents.Content.TheVariants as content
+use Rattle.rs_documents.specs.declared.documents.Content.TheVariants as content
 use Rattle.rs_tool.proofs.EachRole.{chosen_size}
-use Rattle.rs_tool.proofs.OneContent.{one_found}
+use Rattle.rs_documents.proofs.OneContent.{one_found}
 use Rattle.rs_tool.proofs.Unique.{one_list}
 
 pub one-session : (bytes : List ℕ) (one other : SpellsSafeMachines bytes) → machines_of one.document.machines one.projections ≡ machines_of other.document.machines other.projections

@@ -23,33 +23,34 @@ use Rattle.rs_search.specs.declared.faults.SearchFault.TheVariants as search
 use Rattle.rs_tool.specs.Derivations.{AreFirstCanonical, AreSearchable, IsUnderivable}
 use Rattle.rs_tool.specs.declared.derivations.TheConstants.{DEFAULT_BOUND}
 use Rattle.rs_tool.proofs.Derivings.{next_canonical, none_canonical, session_of}
-use Rattle.rs_tool.proofs.SpeltSessions.{spelt_session}
+use Rattle.rs_documents.proofs.SpeltSessions.{spelt_session}
 use Rattle.rs_wellformed.specs.Faults.{first_fault}
 use Rattle.rs_wellformed.specs.WellFormed.{IsWellFormed}
 use Rattle.rs_wellformed.specs.declared.checks.WfFault.{WfFault}
 use Rattle.rs_wellformed.proofs.Faults.{no_fault}
-use Rattle.rs_tool.specs.declared.documents.Content.{Content}
-use Rattle.rs_tool.specs.declared.documents.Content.TheVariants as content
+use Rattle.rs_documents.specs.declared.documents.Content.{Content}
+use Rattle.rs_documents.specs.declared.documents.Content.TheVariants as content
 use Rattle.rs_tool.specs.declared.statuses.Verdict.TheVariants.{Fine}
 use Rattle.rs_tool.specs.declared.words.Task.{Task}
 use Rattle.rs_tool.specs.declared.words.Task.TheVariants as task
 use Rattle.rs_tool.specs.Answers.{Answers, NoCommand, NoSuchCommand, CarriesOut, AnswersText, IsTooLong, IsFaulty, IsDerived, IsDocument, AnswersDocument}
 use Rattle.rs_tool.specs.Checks as checks
 use Rattle.rs_tool.specs.Checks.{Checks, HasMachines}
-use Rattle.rs_tool.specs.Data.{Document_data, Answer_data}
-use Rattle.rs_tool.specs.Documents.{SpellsDocument}
-use Rattle.rs_tool.specs.Reading.{IsContent}
+use Rattle.rs_documents.specs.Data.{Document_data}
+use Rattle.rs_tool.specs.Data.{Answer_data}
+use Rattle.rs_documents.specs.Documents.{SpellsDocument}
+use Rattle.rs_documents.specs.Reading.{IsContent}
 use Rattle.rs_tool.specs.RefusalTexts.{usage, not_built, too_large, fault_answer, wf_answer, proj_answer, machine_answer, search_answer}
 use Rattle.rs_tool.specs.Report.{report}
 use Rattle.rs_tool.specs.Sessions.{HasProjections, IsUnprojectable, MachineRefusal, first_refusal, machines_of}
-use Rattle.rs_tool.specs.Shown.{AreShown, AreCanonicalMachines}
+use Rattle.rs_documents.specs.Canonical.{AreShown, AreCanonicalMachines}
 use Rattle.rs_tool.specs.Tables as tables
 use Rattle.rs_tool.specs.Tables.{Projects, tables_text}
 use Rattle.rs_tool.specs.Words.{names_command, task_of}
-use Rattle.rs_tool.proofs.CanShow.{role_names}
+use Rattle.rs_documents.proofs.CanShow.{role_names}
 use Rattle.rs_tool.proofs.EachRole.{next_projection, no_projections}
 use Rattle.rs_machines.proofs.Existence as of_machines
-use Rattle.rs_tool.proofs.OneContent.{some_found}
+use Rattle.rs_documents.proofs.OneContent.{some_found}
 
 record Some_for (t : Task) (d : Document_data) : Type 0 where
   answer : Answer_data

@@ -25,27 +25,29 @@ use Rattle.rs_wellformed.proofs.Faults.{no_fault}
 use Rattle.rs_text.specs.declared.faults.TextKind.{TextKind}
 use Rattle.rs_text.specs.declared.faults.TextKind.TheVariants as kind
 use Rattle.rs_tool.specs.declared.statuses.Verdict.TheVariants.{Fine}
-use Rattle.rs_tool.specs.declared.documents.Content.{Content}
-use Rattle.rs_tool.specs.declared.documents.Content.TheVariants as content
+use Rattle.rs_documents.specs.declared.documents.Content.{Content}
+use Rattle.rs_documents.specs.declared.documents.Content.TheVariants as content
 use Rattle.rs_tool.specs.declared.words.Task.{Task}
 use Rattle.rs_tool.specs.declared.words.Task.TheVariants as task
 use Rattle.rs_tool.specs.Answers.{Answers, NoCommand, NoSuchCommand, CarriesOut, AnswersText, IsTooLong, IsFaulty, IsDerived, IsDocument, AnswersDocument}
 use Rattle.rs_tool.specs.Checks as checks
 use Rattle.rs_tool.specs.Checks.{Checks}
-use Rattle.rs_tool.specs.Data.{Document_data, Answer_data}
-use Rattle.rs_tool.specs.Documents.{SpellsDocument}
+use Rattle.rs_documents.specs.Data.{Document_data}
+use Rattle.rs_tool.specs.Data.{Answer_data}
+use Rattle.rs_documents.specs.Documents.{SpellsDocument}
 use Rattle.rs_tool.specs.RefusalTexts.{fault_answer, wf_answer, proj_answer, machine_answer, search_answer}
 use Rattle.rs_tool.specs.Report.{report}
 use Rattle.rs_tool.specs.Sessions.{HasProjections, IsUnprojectable, MachineRefusal, first_refusal, machines_of}
-use Rattle.rs_tool.specs.Shown.{AreCanonicalMachines, AreShown, Shows}
+use Rattle.rs_documents.specs.Canonical.{AreCanonicalMachines, AreShown}
+use Rattle.rs_tool.specs.Shown.{Shows}
 use Rattle.rs_tool.specs.Tables as tables
 use Rattle.rs_tool.specs.Tables.{Projects, tables_text}
 use Rattle.rs_tool.specs.Words.{names_command, task_of}
-use Rattle.rs_tool.proofs.CanShow.{role_names}
+use Rattle.rs_documents.proofs.CanShow.{role_names}
 use Rattle.rs_project.proofs.OneProjection.{not-both, one-projection}
 use Rattle.rs_project.proofs.OneAnswer.{one-refusal}
 use Rattle.rs_machines.proofs.CanonOne as of_machines
-use Rattle.rs_tool.proofs.OneContent.{one_found}
+use Rattle.rs_documents.proofs.OneContent.{one_found}
 
 short-and-long : (bytes : List ℕ) → length bytes ≤ MOST_BYTES → MOST_BYTES < length bytes → ⊥
 short-and-long bytes s l = absurd (omega arith)

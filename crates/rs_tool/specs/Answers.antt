@@ -3,8 +3,9 @@ use Rattle.std.specs.Prelude.{◌≡◌, ℕ, ◌<◌, ◌≤◌, codes, length,
 use Rattle.rs_model.specs.declared.limits.TheConstants.{MOST_BYTES}
 use Rattle.rs_text.specs.declared.faults.TextKind.{TextKind}
 use Rattle.rs_tool.specs.Checks.{Checks}
-use Rattle.rs_tool.specs.Data.{Document_data, Answer_data}
-use Rattle.rs_tool.specs.Documents.{SpellsDocument, HasDerivations, HasFault}
+use Rattle.rs_documents.specs.Data.{Document_data}
+use Rattle.rs_tool.specs.Data.{Answer_data}
+use Rattle.rs_documents.specs.Documents.{SpellsDocument, HasDerivations, HasFault}
 use Rattle.rs_tool.specs.RefusalTexts.{usage, not_built, too_large, fault_answer}
 use Rattle.rs_tool.specs.Shown.{Shows}
 use Rattle.rs_tool.specs.Tables.{Projects}

@@ -8,7 +8,8 @@ use Rattle.rs_derive.specs.Data.{Derivation_data}
 use Rattle.rs_search.specs.declared.faults.SearchFault.{SearchFault}
 use Rattle.rs_wellformed.specs.Faults.{first_fault}
 use Rattle.rs_wellformed.specs.declared.checks.WfFault.{WfFault}
-use Rattle.rs_tool.specs.Data.{Document_data, Answer_data}
+use Rattle.rs_documents.specs.Data.{Document_data}
+use Rattle.rs_tool.specs.Data.{Answer_data}
 use Rattle.rs_tool.specs.Derivations.{AreCanonical, IsUnderivable}
 use Rattle.rs_tool.specs.RefusalTexts.{wf_answer, proj_answer, machine_answer, search_answer}
 use Rattle.rs_tool.specs.Report.{report}

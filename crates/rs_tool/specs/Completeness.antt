@@ -5,9 +5,9 @@ use Rattle.rs_model.specs.Data.{Machine_data}
 use Rattle.rs_model.specs.declared.limits.TheConstants.{MOST_BYTES}
 use Rattle.rs_project.specs.Data.{Projection_data}
 use Rattle.rs_tool.specs.Checks.{HasMachines}
-use Rattle.rs_tool.specs.Data.{Document_data}
+use Rattle.rs_documents.specs.Data.{Document_data}
 use Rattle.rs_tool.specs.Derivations.{AreCanonical}
-use Rattle.rs_tool.specs.Documents.{SpellsDocument}
+use Rattle.rs_documents.specs.Documents.{SpellsDocument}
 use Rattle.rs_tool.specs.Words.{is_check}
 use Rattle.rs_tool.specs.declared.statuses.Status.{Status}
 use Rattle.rs_tool.specs.declared.statuses.Status.TheVariants.{Fine, NoMemory}

@@ -4,15 +4,12 @@ pub mod Checks
 pub mod Completeness
 pub mod Data
 pub mod Derivations
-pub mod Documents
 pub mod Headline
 pub mod Machines
-pub mod Reading
 pub mod RefusalTexts
 pub mod Report
 pub mod Sessions
 pub mod Shown
-pub mod Spells
 pub mod Statuses
 pub mod Tables
 pub mod Texts

@@ -9,7 +9,7 @@ use Rattle.rs_project.specs.Numbered.{AreFirstProjections, AreNumberedProjection
 use Rattle.rs_project.specs.Refusals.{FirstRefusal}
 use Rattle.rs_project.specs.declared.projecting.ProjFault.{ProjFault}
 use Rattle.rs_wellformed.specs.Faults as of_protocols
-use Rattle.rs_tool.specs.Data.{Document_data}
+use Rattle.rs_documents.specs.Data.{Document_data}
 pub use Rattle.rs_tool.specs.Machines.{machine_or, machines_of}
 
 -- the first role onto which the protocol has no projection, and the first reason

@@ -8,7 +8,8 @@ use Rattle.rs_project.specs.Data.{Projection_data}
 use Rattle.rs_project.specs.declared.projecting.ProjFault.{ProjFault}
 use Rattle.rs_wellformed.specs.Faults.{first_fault}
 use Rattle.rs_wellformed.specs.declared.checks.WfFault.{WfFault}
-use Rattle.rs_tool.specs.Data.{Document_data, Answer_data}
+use Rattle.rs_documents.specs.Data.{Document_data}
+use Rattle.rs_tool.specs.Data.{Answer_data}
 use Rattle.rs_tool.specs.RefusalTexts.{wf_answer, proj_answer}
 use Rattle.rs_tool.specs.Sessions.{HasProjections, IsUnprojectable}
 use Rattle.rs_tool.specs.declared.statuses.Verdict.TheVariants.{Fine}

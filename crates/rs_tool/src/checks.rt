@@ -2,14 +2,14 @@
 
 ghost use Rattle.std.specs.Prelude.{◌≡◌, length, IfOk};
 ghost use Rattle.rs_tool.specs.Checks.{Checks};
-ghost use Rattle.rs_tool.specs.Reading.{IsReady};
+ghost use Rattle.rs_documents.specs.Reading.{IsReady};
 
 use crate::answers::Answer;
 use crate::derivations::derivations_of;
-use crate::documents::Document;
 use crate::refusal_texts::{machine_answer, proj_answer, search_answer, wf_answer};
 use crate::report::report;
 use crate::sessions::{first_refusal, machines_of, projections_of};
+use rs_documents::Document;
 use rs_model::NoMemory;
 use rs_safety::accept;
 use rs_wellformed::well_formed;

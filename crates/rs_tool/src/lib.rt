@@ -5,7 +5,6 @@ mod answers;
 mod calls;
 mod checks;
 mod derivations;
-mod documents;
 pub mod laws;
 mod refusal_texts;
 mod report;
@@ -18,9 +17,8 @@ mod words;
 
 pub use calls::{command, command_serial};
 pub use derivations::{DEFAULT_BOUND, Underivable, derivations_of};
-pub use documents::{Content, Document, read_document};
+pub use rs_documents::{Content, Document, print_document, read_document};
 pub use sessions::{first_refusal, machines_of, projections_of};
-pub use shown::print_document;
 pub use statuses::{Reply, Serial, Status};
 
 #[cfg(test)]

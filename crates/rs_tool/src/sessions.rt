@@ -2,7 +2,7 @@
 
 ghost use Rattle.std.specs.Prelude.{◌≡◌, ◌≤◌, ◌<◌, ◌⊎◌, ◌^◌, length, IfOk, IfErr, IfSome, IfNone, Some, None};
 ghost use Rattle.std.specs.List.{All};
-ghost use Rattle.rs_tool.specs.Reading.{AreShort};
+ghost use Rattle.rs_documents.specs.Reading.{AreShort};
 ghost use Rattle.rs_project.specs.Numbered.{AreNumberedProjections};
 ghost use Rattle.rs_tool.specs.Sessions.{Refuses, first_refusal, machine_or, machines_of};
 ghost use Rattle.rs_wellformed.specs.WellFormed.{IsWellFormed};

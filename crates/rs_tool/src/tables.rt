@@ -1,14 +1,14 @@
 //! What `project` answers to a document.
 
 ghost use Rattle.std.specs.Prelude.{◌≡◌, ◌++◌, IfOk, OnOk};
-ghost use Rattle.rs_tool.specs.Reading.{IsReady};
+ghost use Rattle.rs_documents.specs.Reading.{IsReady};
 ghost use Rattle.rs_tool.specs.Tables.{Projects, tables_text};
 
 use crate::answers::Answer;
-use crate::documents::Document;
 use crate::refusal_texts::{proj_answer, wf_answer};
 use crate::sessions::projections_of;
 use crate::statuses::Verdict;
+use rs_documents::Document;
 use rs_machines::print_table;
 use rs_model::{Names, NoMemory};
 use rs_project::Projection;

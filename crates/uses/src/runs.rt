@@ -2,8 +2,8 @@
 
 ghost use Rattle.std.specs.Prelude.{◌≡◌, ◌≤◌, length, IfOk, IfSome};
 ghost use Rattle.rs_safety.specs.Room.{room_of};
-ghost use Rattle.rs_tool.specs.Data.{Document_data};
-ghost use Rattle.rs_tool.specs.Documents.{SpellsDocument};
+ghost use Rattle.rs_documents.specs.Data.{Document_data};
+ghost use Rattle.rs_documents.specs.Documents.{SpellsDocument};
 
 use crate::session::{Session, session_of};
 use rs_core::{Outcome, Run, SeededActor, run_plain};

@@ -3,7 +3,7 @@
 ghost use Rattle.std.specs.Prelude.{◌≡◌, length, IfSome};
 ghost use Rattle.rs_safety.specs.Sessions.{AreOneEach, IsSession};
 ghost use Rattle.rs_tool.specs.Machines.{machines_of};
-ghost use Rattle.rs_tool.specs.Reading.{IsReady};
+ghost use Rattle.rs_documents.specs.Reading.{IsReady};
 
 use rs_derive::Derivation;
 use rs_model::Machine;

@@ -1,6 +1,6 @@
-use Rattle.rs_tool.specs.Reading.{IsReady}
+use Rattle.rs_documents.specs.Reading.{IsReady}
 use Rattle.rs_tool.proofs.Answering.{of_document, of_fault}
-use Rattle.rs_tool.proofs.CanShow.{can_show, role_names}
+use Rattle.rs_documents.proofs.CanShow.{can_show, role_names}
 use Rattle.rs_tool.specs.declared.words.Task.TheVariants as task
 use Rattle.rs_tool.proofs.answers.answer_to_text.Goals as goal
 

@@ -10,7 +10,7 @@ use Rattle.rs_tool.specs.Report.{report}
 use Rattle.rs_tool.specs.Derivations.{AreCanonical, IsUnderivable}
 use Rattle.rs_project.specs.Numbered.{AreNumberedProjections}
 use Rattle.rs_tool.specs.Checks.{Checks}
-use Rattle.rs_tool.specs.Data.{Document_data}
+use Rattle.rs_documents.specs.Data.{Document_data}
 use Rattle.rs_tool.proofs.Answering.{ill_formed, no_projection, ill_machine, has_machines, no_derivation, accepted}
 use Rattle.rs_tool.proofs.Derivings.{never_refused, one_each, session_by}
 use Rattle.rs_tool.proofs.EachRole.{chosen_small_by}

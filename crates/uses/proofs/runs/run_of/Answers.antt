@@ -1,4 +1,4 @@
-use Rattle.rs_tool.proofs.CanShow.{role_names}
+use Rattle.rs_documents.proofs.CanShow.{role_names}
 use Rattle.uses.proofs.runs.run_of.Goals as goal
 
 pub session_of-requires-clause-roles : goal.session_of-requires-clause-roles

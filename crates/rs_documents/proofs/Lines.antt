@@ -1,0 +1,48 @@
+-- Machines are printed one behind the other.
+use Rattle.std.proofs.Common.{◌≡◌, ℕ, zero, suc, ◌+◌, ◌<◌, List, [], ◌∷◌, ◌++◌, length, take, Option, Some, None, refl, sym, ap, subst, ◌∙◌, arith, slice_index_or, append_assoc, append-nil}
+use Rattle.rs_model.specs.Data.{Names_data, Machine_data}
+use Rattle.rs_machines.specs.Canonical.{IsCanonicalMachineText}
+use Rattle.rs_documents.specs.Canonical.{AreCanonicalMachines, AreShown, IsShown, IsShownBehind, IsLineBehind}
+
+abbrev IsLine : Names_data → Option Machine_data → List ℕ → Type 0
+IsLine names None line = line ≡ []
+IsLine names (Some machine) line = IsCanonicalMachineText names machine line
+
+one_line : (names : Names_data) (own : Option Machine_data) (later line : List ℕ) → later ≡ [] → IsLine names own line → AreCanonicalMachines names (own ∷ []) (later ++ line)
+one_line names None later line e h = ap (λ z. z ++ line) e ∙ h
+one_line names (Some m) later line e h = (line, [], h, refl, ap (λ z. z ++ line) e ∙ sym (append-nil line))
+
+more_lines : (names : Names_data) (machines : List (Option Machine_data)) (own : Option Machine_data) (later line : List ℕ) → AreCanonicalMachines names machines later → IsLine names own line
+    → AreCanonicalMachines names (machines ++ own ∷ []) (later ++ line)
+more_lines names [] own later line h l = one_line names own later line h l
+more_lines names (None ∷ ms) own later line h l = more_lines names ms own later line h l
+more_lines names (Some m ∷ ms) own later line h l = (h.0, h.1 ++ line, h.2, more_lines names ms own h.1 line h.3 l, ap (λ z. z ++ line) h.4 ∙ append_assoc h.0 h.1 line)
+
+-- one machine more
+one_behind : (names : Names_data) (machines : List (Option Machine_data)) (own : Option Machine_data) (old mid new : List ℕ) → IsShownBehind names machines old mid → IsLineBehind names own mid new → IsShownBehind names (machines ++ own ∷ []) old new
+one_behind names machines None old mid new h l = (h.0 ++ [], more_lines names machines None h.0 [] h.1 refl, l ∙ h.2 ∙ ap (λ z. old ++ z) (sym (append-nil h.0)))
+one_behind names machines (Some m) old mid new h l = (h.0 ++ l.0, more_lines names machines (Some m) h.0 l.0 h.1 l.1, l.2 ∙ ap (λ z. z ++ l.0) h.2 ∙ append_assoc old h.0 l.0)
+
+-- nothing was written for no machines
+pub none_behind : (names : Names_data) (old : List ℕ) → IsShownBehind names [] old old
+none_behind names old = ([], refl, sym (append-nil old))
+
+take_next : (machines : List (Option Machine_data)) (k : ℕ) (d : Option Machine_data) → k < length machines → take (suc k) machines ≡ take k machines ++ slice_index_or machines k d ∷ []
+take_next [] k d lt = absurd (omega arith)
+take_next (x ∷ xs) zero d lt = refl
+take_next (x ∷ xs) (suc k) d lt = ap (λ z. x ∷ z) (take_next xs k d (omega arith))
+
+pub next_behind : (names : Names_data) (machines : List (Option Machine_data)) (k : ℕ) (own : Option Machine_data) (old mid new : List ℕ) → k < length machines → own ≡ slice_index_or machines k own
+    → IsShownBehind names (take k machines) old mid → IsLineBehind names own mid new → IsShownBehind names (take (k + 1) machines) old new
+next_behind names machines k own old mid new lt e h l =
+    let one : k + 1 ≡ suc k = omega arith in
+    let all : take k machines ++ own ∷ [] ≡ take (k + 1) machines = ap (λ z. take k machines ++ z ∷ []) e ∙ sym (take_next machines k own lt) ∙ ap (λ z. take z machines) (sym one) in
+    subst (λ (z : List (Option Machine_data)). IsShownBehind names z old new) all (one_behind names (take k machines) own old mid new h l)
+
+shown_at : (names : Names_data) (machines : List (Option Machine_data)) (k : ℕ) (d : Option Machine_data) → k < length machines → AreShown names machines → IsShown names (slice_index_or machines k d)
+shown_at names [] k d lt h = absurd (omega arith)
+shown_at names (x ∷ xs) zero d lt h = h.0
+shown_at names (x ∷ xs) (suc k) d lt h = shown_at names xs k d (omega arith) h.1
+
+pub own_shown : (names : Names_data) (machines : List (Option Machine_data)) (k : ℕ) (own : Option Machine_data) → k < length machines → own ≡ slice_index_or machines k own → AreShown names machines → IsShown names own
+own_shown names machines k own lt e h = subst (IsShown names) (sym e) (shown_at names machines k own lt h)

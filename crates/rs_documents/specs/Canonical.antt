@@ -1,0 +1,53 @@
+-- Believed: the canonical text of a document.
+use Rattle.std.specs.Prelude.{◌≡◌, ℕ, List, [], ◌∷◌, ◌++◌, Option, Some, None}
+use Rattle.rs_model.specs.Data.{Names_data, Machine_data}
+use Rattle.rs_global.specs.Canonical.{IsCanonicalText, IsTextShaped}
+use Rattle.rs_global.specs.Enough.{AreEnough}
+use Rattle.rs_machines.specs.Canonical.{IsCanonicalMachineText, IsMachineTextShaped}
+use Rattle.rs_machines.specs.Enough.{AreEnoughFor}
+use Rattle.rs_text.specs.Sound.{IsSound}
+use Rattle.rs_documents.specs.Data.{Document_data}
+
+-- a line for each machine that is there, in role order
+abbrev pub AreCanonicalMachines : Names_data → List (Option Machine_data) → List ℕ → Type 0
+AreCanonicalMachines names [] text = text ≡ []
+AreCanonicalMachines names (None ∷ machines) text = AreCanonicalMachines names machines text
+AreCanonicalMachines names (Some machine ∷ machines) text =
+    (line : List ℕ) × (later : List ℕ) × IsCanonicalMachineText names machine line × AreCanonicalMachines names machines later × (text ≡ line ++ later)
+
+-- the roles line and the protocol, and then the machines
+pub record IsCanonicalDocument (d : Document_data) (text : List ℕ) : Type 0 where
+  pub front : List ℕ
+  pub back : List ℕ
+  pub protocol : IsCanonicalText d.names d.protocol front
+  pub machines : AreCanonicalMachines d.names d.machines back
+  pub is : text ≡ front ++ back
+
+-- the machine, where it is there, can be printed by these names
+abbrev pub IsShown : Names_data → Option Machine_data → Type 0
+IsShown names None = Unit {0}
+IsShown names (Some machine) = IsMachineTextShaped machine × AreEnoughFor names machine
+
+-- .. so can all of them
+abbrev pub AreShown : Names_data → List (Option Machine_data) → Type 0
+AreShown names [] = Unit {0}
+AreShown names (own ∷ machines) = IsShown names own × AreShown names machines
+
+-- .. and the protocol too
+pub record CanBeShown (d : Document_data) : Type 0 where
+  pub sound : IsSound d.names
+  pub shaped : IsTextShaped d.protocol
+  pub enough : AreEnough d.names d.protocol
+  pub machines : AreShown d.names d.machines
+
+-- the machine's line was written behind what was there
+abbrev pub IsMachineBehind : Names_data → Machine_data → List ℕ → List ℕ → Type 0
+IsMachineBehind names machine old new = (line : List ℕ) × IsCanonicalMachineText names machine line × (new ≡ old ++ line)
+
+abbrev pub IsLineBehind : Names_data → Option Machine_data → List ℕ → List ℕ → Type 0
+IsLineBehind names None old new = new ≡ old
+IsLineBehind names (Some machine) old new = IsMachineBehind names machine old new
+
+-- the machines were written behind what was there
+abbrev pub IsShownBehind : Names_data → List (Option Machine_data) → List ℕ → List ℕ → Type 0
+IsShownBehind names machines old new = (later : List ℕ) × AreCanonicalMachines names machines later × (new ≡ old ++ later)

@@ -1,0 +1,5 @@
+pub mod Canonical
+pub mod Data
+pub mod Documents
+pub mod Reading
+pub mod Spells

@@ -1,0 +1,12 @@
+//! Documents: a protocol, and machines for some of its roles.
+#![tactic(auto)]
+
+mod documents;
+pub mod laws;
+mod printing;
+
+pub use documents::{Content, Document, read_document};
+pub use printing::print_document;
+
+#[cfg(test)]
+mod tests;

@@ -1,0 +1,80 @@
+//! The canonical text of a document.
+
+ghost use Rattle.std.specs.Prelude.{◌≡◌, IfOk, OnOk};
+ghost use Rattle.rs_documents.specs.Canonical.{AreShown, CanBeShown, IsCanonicalDocument, IsLineBehind, IsMachineBehind, IsShown, IsShownBehind};
+ghost use Rattle.rs_global.specs.Canonical.{IsTextShaped};
+ghost use Rattle.rs_global.specs.Enough.{AreEnough};
+ghost use Rattle.rs_machines.specs.Canonical.{IsMachineTextShaped};
+ghost use Rattle.rs_machines.specs.Enough.{AreEnoughFor};
+ghost use Rattle.rs_text.specs.Sound.{IsSound};
+
+use crate::documents::Document;
+use rs_global::print_protocol;
+use rs_machines::print_machine;
+use rs_model::{Machine, Names, NoMemory};
+use rs_text::Text;
+use std::alloc::Global;
+
+/// Appends the canonical text of the machine, where it is there.
+fn push_own(
+    alloc: Global,
+    text: &mut Text,
+    names: &Names,
+    own: &Option<Machine>,
+) -> Result<(), NoMemory>
+    requires sound { IsSound names.now }
+    requires shown { IsShown names.now own.now }
+    ensures { OnOk result (IsLineBehind names.now own.now text.old text.new) }
+{
+    match own {
+        Some(machine) => push_machine(alloc, text, names, machine),
+        None => Ok(()),
+    }
+}
+
+fn push_machine(
+    alloc: Global,
+    text: &mut Text,
+    names: &Names,
+    machine: &Machine,
+) -> Result<(), NoMemory>
+    requires sound { IsSound names.now }
+    requires shaped { IsMachineTextShaped machine.now }
+    requires enough { AreEnoughFor names.now machine.now }
+    ensures { OnOk result (IsMachineBehind names.now machine.now text.old text.new) }
+{
+    let line = print_machine(alloc, names, machine)?;
+    text.push(line.as_slice())
+}
+
+/// Appends the canonical texts of the machines that are there.
+fn push_machines(
+    alloc: Global,
+    text: &mut Text,
+    names: &Names,
+    machines: &[Option<Machine>],
+) -> Result<(), NoMemory>
+    requires sound { IsSound names.now }
+    requires shown { AreShown names.now machines.now }
+    ensures { OnOk result (IsShownBehind names.now machines.now text.old text.new) }
+{
+    for own in machines {
+        push_own(alloc, text, names, own)?;
+    }
+    Ok(())
+}
+
+/// The canonical text of the document: the roles line, the protocol, and a line for each machine that it has.
+pub fn print_document(alloc: Global, document: &Document) -> Result<Text, NoMemory>
+    requires shown { CanBeShown document.now }
+    ensures { IfOk result (IsCanonicalDocument document.now) }
+{
+    let mut text = print_protocol(alloc, &document.names, &document.protocol)?;
+    push_machines(
+        alloc,
+        &mut text,
+        &document.names,
+        document.machines.as_slice(),
+    )?;
+    Ok(text)
+}
