@@ -1,5 +1,5 @@
 -- The canonical derivation is a derivation that remembers what is owed.
-use Rattle.std.proofs.Common.{◌≡◌, ◌⊎◌, inl, inr, ℕ, ◌<◌, ◌≤◌, ◌+◌, List, [], ◌∷◌, length, map, refl, sym, ap, ◌∙◌, subst, arith, zero, suc, Some, None, Option, slice_get}
+use Rattle.std.proofs.Common.{◌≡◌, inl, inr, ℕ, ◌<◌, ◌≤◌, List, [], ◌∷◌, length, map, refl, sym, ap, ◌∙◌, subst, arith, zero, suc, Some, None, slice_get}
 use Rattle.std.proofs.lemmas.Bool.{cases_lt}
 use Rattle.std.proofs.lemmas.Option.{none-some, same_Some}
 use Rattle.rs_model.specs.Data.{Machine_data}
@@ -8,15 +8,15 @@ use Rattle.rs_derive.specs.Data.{DNode_data, Derivation_data}
 use Rattle.rs_derive.specs.Derivations.{IsDerivation, IsProper, KeepsItsHead, NodeFits, Remembers, spot_of}
 use Rattle.rs_derive.specs.Derivations as derivations
 use Rattle.rs_derive.specs.Faults.{first_fault}
-use Rattle.rs_derive.specs.Moves.{HasMove, Spot}
-use Rattle.rs_graph.proofs.Growth.{at_in, at_short, in_at}
+use Rattle.rs_derive.specs.Moves.{Spot}
+use Rattle.rs_graph.proofs.Growth.{at_short, in_at}
 use Rattle.rs_graph.specs.Discovery.{Numbered, NoMore, Known, New, Worked, AllDone, Next}
 use Rattle.rs_graph.specs.Lists.{Among, Names}
 use Rattle.rs_graph.specs.Walks.{Further}
 use Rattle.rs_search.proofs.Staying.{stays_within}
 use Rattle.rs_search.proofs.Verdicts.{candidate_short}
 use Rattle.rs_search.specs.Candidates.{IsCandidate, Start, begin}
-use Rattle.rs_search.specs.Canonical.{FollowsTheChoice, IsCanonical, IsFound, KeepsHead}
+use Rattle.rs_search.specs.Canonical.{IsCanonical, IsFound, KeepsHead}
 
 map-of : {X Y : Type 0} (f : X → Y) (xs : List X) (i : ℕ) (y : Y) → slice_get (map f xs) i ≡ Some y → (x : X) × (slice_get xs i ≡ Some x) × (f x ≡ y)
 map-of f [] i y e = absurd (none-some y e)

@@ -1,14 +1,14 @@
 -- The canonical derivation from the candidates, what is left of them, and the numbers of what the chosen moves reach.
-use Rattle.std.proofs.Common.{◌≡◌, ◌⊎◌, inl, inr, ℕ, ◌<◌, ◌≤◌, ◌+◌, Bool, true, false, List, [], ◌∷◌, ◌++◌, length, get_or, map, refl, sym, ap, ◌∙◌, subst, arith, zero, suc, Some, None, Option, slice_get, cond, if◌then◌else◌, nat_lt}
+use Rattle.std.proofs.Common.{◌≡◌, inl, inr, ℕ, ◌<◌, ◌≤◌, ◌+◌, Bool, true, false, List, [], ◌∷◌, length, get_or, map, refl, sym, ap, ◌∙◌, subst, arith, zero, suc, Some, Option, slice_get, if◌then◌else◌}
 use Rattle.std.proofs.lemmas.Bool.{cases_lt, false≢true}
 use Rattle.std.proofs.lemmas.List.{get_or_past}
 use Rattle.std.proofs.lemmas.Option.{none-some, same_Some}
 use Rattle.rs_model.specs.declared.limits.TheConstants.{MOST_CANDIDATES}
 use Rattle.rs_model.specs.Data.{Machine_data}
 use Rattle.rs_derive.proofs.Rows.{complete}
-use Rattle.rs_derive.specs.Data.{DNode_data, Derivation_data}
+use Rattle.rs_derive.specs.Data.{DNode_data}
 use Rattle.rs_derive.specs.Derivations.{IsProper, KeepsItsHead, spot_of}
-use Rattle.rs_derive.specs.Due.{Due, due}
+use Rattle.rs_derive.specs.Due.{Due}
 use Rattle.rs_derive.specs.Moves.{HasMove, Spot, spot}
 use Rattle.rs_graph.proofs.Buckets.{got}
 use Rattle.rs_graph.proofs.Growth.{at_in, at_short, at_within, not_both}
@@ -16,12 +16,12 @@ use Rattle.rs_graph.proofs.Kept.{Pictures}
 use Rattle.rs_graph.specs.Discovery.{IsDiscovery, Worked}
 use Rattle.rs_graph.specs.Built.{IsBuilt}
 use Rattle.rs_graph.specs.Graphs.{Graph_data, moves_of}
-use Rattle.rs_graph.specs.Lists.{Among, Names, Once, concat}
+use Rattle.rs_graph.specs.Lists.{Among, Names, concat}
 use Rattle.rs_graph.specs.Places.{next_of}
 use Rattle.rs_graph.specs.Ranks.{Edge}
 use Rattle.rs_graph.specs.Removal.{IsRemoval, at}
 use Rattle.rs_graph.specs.Removal as removal
-use Rattle.rs_graph.specs.Walks.{Walk, Here, Further, IsLeastOnCycle, IsOnCycle, IsRank}
+use Rattle.rs_graph.specs.Walks.{Walk, Here, Further, IsLeastOnCycle, IsRank}
 use Rattle.rs_search.proofs.Choices.{bool_cases, from_move, moves_at}
 use Rattle.rs_search.proofs.Chosen.{chosen}
 use Rattle.rs_search.proofs.Verdicts.{less_than, names_length, rows_within}
@@ -29,7 +29,7 @@ use Rattle.rs_search.specs.Candidates.{AreMoreThan, MoveWithin, begin}
 use Rattle.rs_search.specs.Canonical.{FollowsTheChoice, IsCanonical, IsForgets, IsFound, KeepsHead}
 use Rattle.rs_search.specs.Nodes.{AreKept, AreNodes, node_of}
 use Rattle.rs_search.specs.Survives.{IsChosen}
-use Rattle.rs_search.specs.Turns.{cut_at, is_keeping, nexts_within, no_turn, owes_more, turn_of, turn_within}
+use Rattle.rs_search.specs.Turns.{cut_at, is_keeping, nexts_within, no_turn, owes_more, turn_of}
 
 -- whether edges keep the oldest act that is owed
 

@@ -1,6 +1,5 @@
 -- The turns that are computed are the moves of the table.
-use Rattle.std.proofs.Common.{◌≡◌, ◌≢◌, ◌⊎◌, ◌↔◌, inl, inr, ℕ, ◌<◌, ◌≤◌, Bool, true, false, List, [], ◌∷◌, ◌++◌, length, refl, sym, ap, ◌∙◌, subst, arith, ◌+◌, suc, zero, Some, None, Option, slice_get, map, cond, if◌then◌else◌, eqb, ltb, nat_lt, ◌||◌, ◌&&◌, take, drop, length-append}
-use Rattle.std.specs.List.{list_any}
+use Rattle.std.proofs.Common.{◌≡◌, ◌⊎◌, inl, inr, ℕ, ◌<◌, ◌≤◌, Bool, true, false, List, [], ◌∷◌, ◌++◌, length, refl, sym, ap, ◌∙◌, subst, arith, ◌+◌, suc, zero, Some, None, Option, slice_get, map, cond, if◌then◌else◌, eqb, nat_lt, ◌||◌, ◌&&◌, take, drop, length-append}
 use Rattle.std.proofs.lemmas.Bool.{cases_lt, ltb-true, lt-ltb, ne_eqb, and_parts, false≢true}
 use Rattle.std.proofs.lemmas.Option.{none-some, same_Some}
 use Rattle.rs_model.specs.Data.{Machine_data}
@@ -12,7 +11,6 @@ use Rattle.rs_model.specs.declared.machines.Act.TheVariants as act
 use Rattle.rs_model.specs.declared.machines.State.{State}
 use Rattle.rs_model.specs.declared.machines.State.TheVariants.{Done, Puts, Takes}
 use Rattle.rs_model.specs.declared.values.Sort.{Sort}
-use Rattle.rs_model.specs.declared.graph.Label.{Label}
 use Rattle.rs_prefix.specs.Earliest.{without}
 use Rattle.rs_prefix.specs.Search.{earliest}
 use Rattle.rs_prefix.specs.declared.earliest.Found.{Found}
@@ -20,11 +18,11 @@ use Rattle.rs_prefix.specs.declared.earliest.Found.TheVariants.{At, Blocked, Abs
 use Rattle.rs_prefix.specs.declared.earliest.Kind.TheVariants.{Send, Receive}
 use Rattle.rs_derive.proofs.Rows.{complete, sound, served}
 use Rattle.rs_derive.specs.Due.{Chosen, Due, all_serve, both_at, due, due_at, ends, guesses, follows, paid, pays_receive, pays_send, receives, receives_past, sends, sends_both, sends_past, served_by, serves_some, stops}
-use Rattle.rs_derive.specs.Moves.{HasMove, Spot, arm_of, owing_receive, owing_send, spot}
+use Rattle.rs_derive.specs.Moves.{Spot, arm_of, owing_receive, owing_send, spot}
 use Rattle.rs_search.specs.Candidates.{MeetsACut, MoveWithin}
 use Rattle.rs_graph.specs.Graphs.{moves_of}
 use Rattle.rs_graph.specs.Lists.{Among, concat}
-use Rattle.rs_search.specs.Turns.{Turn_data, cut_at, no_turn, owes_more, turn_of, turn_within}
+use Rattle.rs_search.specs.Turns.{cut_at, no_turn, owes_more, turn_of, turn_within}
 
 -- one spot for each next
 abbrev pub Single : List (List Spot) → Type 0

@@ -1,6 +1,6 @@
 -- The move at which a node stays is the chosen one.
-use Rattle.std.proofs.Common.{◌≡◌, ◌≢◌, ◌⊎◌, inl, inr, ℕ, ◌<◌, ◌≤◌, Bool, true, false, List, [], ◌∷◌, ◌++◌, length, get_or, refl, sym, ap, ◌∙◌, subst, arith, ◌+◌, suc, zero, Some, None, Option, slice_get, map, eqb, ltb, cond, if◌then◌else◌, length-append, take, drop}
-use Rattle.std.proofs.lemmas.Bool.{eq-eqb, eqb-true, ne_eqb, false≢true}
+use Rattle.std.proofs.Common.{◌≡◌, inl, inr, ℕ, ◌<◌, ◌≤◌, Bool, true, List, [], ◌∷◌, ◌++◌, length, get_or, refl, sym, ap, ◌∙◌, subst, arith, suc, zero, Some, None, Option, slice_get, map, if◌then◌else◌, length-append}
+use Rattle.std.proofs.lemmas.Bool.{eq-eqb, ne_eqb}
 use Rattle.std.proofs.lemmas.Option.{none-some, same_Some}
 use Rattle.rs_model.specs.Data.{Machine_data}
 use Rattle.rs_model.specs.declared.graph.Arm.{Arm}
@@ -12,23 +12,22 @@ use Rattle.rs_model.specs.declared.machines.State.{State}
 use Rattle.rs_model.specs.declared.machines.State.TheVariants.{Done, Puts, Takes}
 use Rattle.rs_prefix.proofs.Right.{is}
 use Rattle.rs_prefix.specs.Earliest.{without}
-use Rattle.rs_prefix.specs.declared.earliest.Found.TheVariants.{At, Blocked, Absent}
-use Rattle.rs_prefix.specs.declared.earliest.Kind.TheVariants.{Send, Receive}
+use Rattle.rs_prefix.specs.declared.earliest.Found.TheVariants.{Absent}
+use Rattle.rs_prefix.specs.declared.earliest.Kind.TheVariants.{Send}
 use Rattle.rs_derive.proofs.Acts.{role_is}
 use Rattle.rs_derive.specs.Due.{due, guesses, Due}
-use Rattle.rs_derive.specs.Moves.{Both, HasMove, Stops, PaysSend, SendsBoth, Guesses, SendsAhead, PaysReceive, ReceivesAhead, Spot, arm_of, owing_receive, owing_send, spot}
+use Rattle.rs_derive.specs.Moves.{Both, HasMove, Stops, PaysSend, SendsBoth, Guesses, SendsAhead, PaysReceive, ReceivesAhead, Spot, owing_send, spot}
 use Rattle.rs_derive.specs.Within.{IsOnce}
-use Rattle.rs_search.specs.Candidates.{MoveWithin, begin}
+use Rattle.rs_search.specs.Candidates.{begin}
 use Rattle.rs_graph.specs.Discovery.{IsDiscovery}
 use Rattle.rs_graph.specs.Graphs.{Graph_data, moves_of}
 use Rattle.rs_graph.specs.Lists.{Among, Names}
 use Rattle.rs_graph.specs.Removal.{IsRemoval, at}
 use Rattle.rs_graph.specs.Removal as removal
-use Rattle.rs_search.specs.Survives.{IsChosen, Survives}
-use Rattle.rs_search.specs.Turns.{nexts_within, turn_within, turn_of, cut_at, owes_more, no_turn}
-use Rattle.rs_graph.proofs.Buckets.{got}
+use Rattle.rs_search.specs.Survives.{IsChosen}
+use Rattle.rs_search.specs.Turns.{nexts_within, turn_of, cut_at, owes_more, no_turn}
 use Rattle.rs_search.proofs.Choices.{moves_at, to_move, without_length, append_nil, bool_cases}
-use Rattle.rs_graph.proofs.Growth.{in_at, at_in, at_short, at_within}
+use Rattle.rs_graph.proofs.Growth.{in_at, at_within}
 use Rattle.rs_graph.proofs.Kept.{Pictures, earlier_dies, names_at}
 use Rattle.rs_search.proofs.Verdicts.{survives, to_stands}
 

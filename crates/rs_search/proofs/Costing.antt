@@ -1,5 +1,5 @@
 -- The reads of the graph are no more than the candidates and their results allow.
-use Rattle.std.proofs.Common.{◌≡◌, ℕ, ◌<◌, ◌≤◌, ◌+◌, ◌*◌, Bool, false, List, [], length, get_or, refl, sym, ap, ◌∙◌, arith, Some, slice_get}
+use Rattle.std.proofs.Common.{◌≡◌, ℕ, ◌<◌, ◌+◌, Bool, false, List, [], length, get_or, sym, ap, ◌∙◌, arith, Some, slice_get}
 use Rattle.std.specs.List.{sum_by}
 use Rattle.rs_model.specs.Data.{Machine_data}
 use Rattle.rs_derive.specs.Moves.{Spot}

@@ -1,5 +1,5 @@
 -- The canonical derivation is one at most, and so is the reason why there is none.
-use Rattle.std.proofs.Common.{◌≡◌, ◌≢◌, ◌⊎◌, ◌↔◌, inl, inr, ℕ, ◌<◌, ◌≤◌, ◌+◌, Bool, true, false, List, [], ◌∷◌, ◌++◌, length, map, eqb, refl, sym, ap, ◌∙◌, subst, arith, zero, suc, Some, None, Option, nat_lt, slice_get}
+use Rattle.std.proofs.Common.{◌≡◌, ◌≢◌, ◌⊎◌, inl, inr, ℕ, ◌<◌, ◌≤◌, ◌+◌, Bool, true, false, List, [], ◌∷◌, length, map, refl, sym, ap, ◌∙◌, subst, arith, zero, suc, Some, None, Option, nat_lt, slice_get}
 use Rattle.std.proofs.lemmas.Bool.{cases_lt, eq-eqb, ne_eqb}
 use Rattle.std.proofs.lemmas.Option.{none-some, same_Some}
 use Rattle.rs_model.specs.declared.limits.TheConstants.{MOST_CANDIDATES}
@@ -16,16 +16,16 @@ use Rattle.rs_derive.specs.Data.{DNode_data, Derivation_data}
 use Rattle.rs_derive.specs.Derivations.{KeepsItsHead, spot_of}
 use Rattle.rs_derive.specs.Due.{Chosen, Due, due, guesses}
 use Rattle.rs_derive.specs.Moves.{HasMove, Stops, PaysSend, SendsBoth, Guesses, SendsAhead, PaysReceive, ReceivesAhead, Spot, owing_send}
-use Rattle.rs_graph.proofs.Growth.{at_in, at_short, at_within, in_at}
+use Rattle.rs_graph.proofs.Growth.{at_in, at_within, in_at}
 use Rattle.rs_graph.specs.Discovery.{Numbered, NoMore, Known, New, Worked, AllDone, Next}
-use Rattle.rs_graph.specs.Lists.{Among, Names, Once, concat}
+use Rattle.rs_graph.specs.Lists.{Among, Names, Once}
 use Rattle.rs_graph.specs.Walks.{Walk, Here, Further, IsLeastOnCycle, IsRank}
 use Rattle.rs_graph.proofs.Kept.{names_at}
 use Rattle.rs_search.proofs.Accepted.{nodes_are_candidates}
 use Rattle.rs_search.proofs.Assembled.{least_on, walk_on}
 use Rattle.rs_search.proofs.Choices.{Single, both-single, follow-single, single-is}
-use Rattle.rs_search.specs.Candidates.{AreMoreThan, IsCandidate, begin}
-use Rattle.rs_search.specs.Canonical.{FollowsTheChoice, IsCanonical, IsForgets, IsFound, IsNotFound, KeepsHead, Refuses, SomeCut}
+use Rattle.rs_search.specs.Candidates.{IsCandidate, begin}
+use Rattle.rs_search.specs.Canonical.{IsCanonical, IsForgetful, IsForgets, IsFound, KeepsHead, Refuses}
 use Rattle.rs_search.specs.Survives.{IsChosen, IsSupported, Survives}
 use Rattle.rs_search.specs.declared.faults.SearchFault.{SearchFault}
 use Rattle.rs_search.specs.declared.faults.SearchFault.TheVariants.{NotFound, Forgets, TooLarge, NoMemory}
@@ -317,12 +317,15 @@ no-round E i rank n r w = let x = round E i n w (suc rank) in let a = r.most x.0
 first-edge : (E : ℕ → ℕ → Type 0) (i n k : ℕ) → Walk E i (suc n) k → (j : ℕ) × E i j
 first-edge E i n k (Further _ j _ _ e w) = (j, e)
 
-pub no_answer_forgets : (sub above : Machine_data) (bound node : ℕ) (d : Derivation_data) → IsFound sub above bound d → IsForgets sub above bound node → ⊥
-no_answer_forgets sub above bound node d f g =
+pub no_answer_is_forgetful : (sub above : Machine_data) (bound : ℕ) (d : Derivation_data) → IsFound sub above bound d → IsForgetful sub above bound → ⊥
+no_answer_is_forgetful sub above bound d f g =
     let s = one_canonical sub above bound g.derivation d g.canonical f.canonical in
-    let w = walk_on (KeepsHead sub above g.derivation.nodes) (KeepsHead sub above d.nodes) (keeps_on sub above g.derivation d s) node (suc g.cycle.cycle.0) node g.cycle.cycle.1 in
-    let h = (first-edge (KeepsHead sub above d.nodes) node g.cycle.cycle.0 node w).1 in
-    no-round (KeepsHead sub above d.nodes) node h.node.rank g.cycle.cycle.0 (f.ranks node h.node h.is) w
+    let w = walk_on (KeepsHead sub above g.derivation.nodes) (KeepsHead sub above d.nodes) (keeps_on sub above g.derivation d s) g.node (suc g.cycle.0) g.node g.cycle.1 in
+    let h = (first-edge (KeepsHead sub above d.nodes) g.node g.cycle.0 g.node w).1 in
+    no-round (KeepsHead sub above d.nodes) g.node h.node.rank g.cycle.0 (f.ranks g.node h.node h.is) w
+
+pub is_forgetful : (sub above : Machine_data) (bound node : ℕ) → IsForgets sub above bound node → IsForgetful sub above bound
+is_forgetful sub above bound node g = record { derivation = g.derivation; canonical = g.canonical; node = node; cycle = g.cycle.cycle }
 
 one-least : (E : ℕ → ℕ → Type 0) (i j : ℕ) → IsLeastOnCycle E i → IsLeastOnCycle E j → i ≡ j
 one-least E i j a b = let x = a.least j b.cycle in let y = b.least i a.cycle in omega arith
@@ -356,7 +359,7 @@ one_refusal sub above bound TooLarge TooLarge nf ng a b = refl
 
 pub not_both_ways : (sub above : Machine_data) (bound : ℕ) (d : Derivation_data) (f : SearchFault) → IsFound sub above bound d → Refuses sub above bound f → f ≡ NoMemory
 not_both_ways sub above bound d (NotFound cut) i r = absurd (r.dies (starts_survive sub above bound d i.canonical))
-not_both_ways sub above bound d (Forgets node) i r = absurd (no_answer_forgets sub above bound node d i r)
+not_both_ways sub above bound d (Forgets node) i r = absurd (no_answer_is_forgetful sub above bound d i (is_forgetful sub above bound node r))
 not_both_ways sub above bound d TooLarge i r = absurd (i.few r)
 not_both_ways sub above bound d NoMemory i r = refl
 

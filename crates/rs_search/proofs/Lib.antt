@@ -3,8 +3,12 @@ pub mod Assembled
 pub mod Choices
 pub mod Chosen
 pub mod Costing
+pub mod Deciding
 pub mod Determined
+pub mod Discovering
 pub mod Noding
+pub mod Removing
+pub mod Rounds
 pub mod Same
 pub mod Small
 pub mod Staying

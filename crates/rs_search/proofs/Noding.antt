@@ -1,11 +1,11 @@
 -- The nodes, one by one.
-use Rattle.std.proofs.Common.{◌≡◌, ◌⊎◌, inl, inr, ℕ, ◌<◌, ◌≤◌, List, [], ◌∷◌, ◌++◌, length, get_or, refl, sym, ap, ◌∙◌, subst, arith, ◌+◌, suc, Some, slice_get, length-append, Bool, false, cond, if◌then◌else◌}
+use Rattle.std.proofs.Common.{◌≡◌, inl, inr, ℕ, List, [], ◌∷◌, ◌++◌, get_or, refl, sym, ap, ◌∙◌, subst, arith, ◌+◌, Some, slice_get, length-append, Bool, false, if◌then◌else◌}
 use Rattle.std.proofs.lemmas.Bool.{cases_lt}
 use Rattle.std.proofs.lemmas.Option.{same_Some}
 use Rattle.rs_derive.specs.Data.{DNode_data}
 use Rattle.rs_derive.specs.Moves.{Spot}
 use Rattle.rs_search.specs.Nodes.{AreKept, AreNodes, node_of}
-use Rattle.rs_graph.proofs.Growth.{at_short, at_within, push_at, push_new}
+use Rattle.rs_graph.proofs.Growth.{push_at, push_new}
 
 pub nodes_none : (points : List Spot) (items : List ℕ) (nexts : List (List ℕ)) (ranks : List ℕ) → AreNodes points items nexts ranks 0 []
 nodes_none points items nexts ranks = record { size = refl; each = λ i n p row lt a b c. (let bad : ⊥ = omega arith in absurd bad) }

@@ -1,10 +1,6 @@
 -- Two small machines: where the start survives, and where it doesn't.
-use Rattle.std.proofs.Common.{◌≡◌, inl, inr, ℕ, ◌≤◌, List, [], ◌∷◌, length, refl, sym, subst, Some, None, Option, slice_get}
-use Rattle.std.proofs.lemmas.Option.{same_Some}
-use Rattle.rs_model.specs.declared.machines.State.{State}
-use Rattle.rs_model.specs.declared.machines.State.TheVariants.{Done, Puts, Takes}
+use Rattle.std.proofs.Common.{inl, inr, ℕ, List, [], ◌∷◌, refl, subst, None, Option}
 use Rattle.rs_derive.specs.Moves.{HasMove, Stops, PaysSend, SendsBoth, Guesses, SendsAhead, PaysReceive, ReceivesAhead, Spot}
-use Rattle.rs_graph.specs.Lists.{Among}
 use Rattle.rs_search.specs.Candidates.{IsCandidate, Start, begin}
 use Rattle.rs_search.specs.Examples.{ended, waiting}
 use Rattle.rs_search.specs.Survives.{Survives, IsSupported}

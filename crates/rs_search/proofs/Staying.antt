@@ -1,17 +1,16 @@
 -- Candidates stand at states of both machines.
-use Rattle.std.proofs.Common.{◌≡◌, ◌⊎◌, inl, inr, ℕ, ◌<◌, ◌≤◌, Bool, true, false, List, [], ◌∷◌, length, map, refl, sym, ap, ◌∙◌, subst, zero, suc, Some, None, Option, slice_get, cond, eqb}
-use Rattle.std.proofs.lemmas.Option.{none-some, same_Some}
+use Rattle.std.proofs.Common.{◌≡◌, inl, inr, ℕ, ◌<◌, Bool, true, false, List, [], ◌∷◌, length, map, refl, sym, ◌∙◌, subst, zero, suc, Some, Option, slice_get, cond, eqb}
+use Rattle.std.proofs.lemmas.Option.{none-some}
 use Rattle.rs_model.specs.Data.{Machine_data}
-use Rattle.rs_model.specs.WellFormed.{IsWellFormedMachine, StateFits}
 use Rattle.rs_model.specs.declared.graph.Arm.{Arm}
 use Rattle.rs_model.specs.declared.graph.Label.{Label}
 use Rattle.rs_model.specs.declared.graph.Role.{Role}
 use Rattle.rs_model.specs.declared.machines.Act.{Act}
-use Rattle.rs_model.specs.declared.machines.State.TheVariants.{Done, Puts, Takes}
+use Rattle.rs_model.specs.declared.machines.State.TheVariants.{Puts, Takes}
 use Rattle.rs_derive.specs.Derivations.{IsProper}
-use Rattle.rs_derive.specs.Moves.{Both, HasMove, Stops, PaysSend, SendsBoth, Guesses, SendsAhead, PaysReceive, ReceivesAhead, Spot, arm_of, owing_receive, owing_send, spot}
+use Rattle.rs_derive.specs.Moves.{Both, HasMove, Stops, PaysSend, SendsBoth, Guesses, SendsAhead, PaysReceive, ReceivesAhead, Spot, arm_of, owing_receive, spot}
 use Rattle.rs_graph.specs.Lists.{Among}
-use Rattle.rs_search.specs.Candidates.{IsCandidate, Start, Onward, begin}
+use Rattle.rs_search.specs.Candidates.{IsCandidate, Start, Onward}
 
 -- the spot stands at states of both
 pub record IsWithin (sub above : Machine_data) (p : Spot) : Type 0 where

@@ -1,13 +1,13 @@
 -- The turn that the code makes is the one that is due.
-use Rattle.std.proofs.Common.{◌≡◌, ◌⊎◌, inl, inr, ℕ, ◌<◌, ◌≤◌, ◌+◌, Bool, true, false, List, [], ◌∷◌, ◌++◌, length, map, refl, sym, ap, ◌∙◌, subst, arith, suc, zero, Some, None, Option, slice_get, get_or, take, drop, ◌^◌, append_assoc, length-append, cond, if◌then◌else◌, eqb, ltb, leb, nat_lt, nat_le, ◌&&◌, ◌||◌}
+use Rattle.std.proofs.Common.{◌≡◌, inl, inr, ℕ, ◌<◌, ◌≤◌, ◌+◌, Bool, true, false, List, [], ◌∷◌, ◌++◌, length, map, refl, sym, ap, ◌∙◌, subst, arith, suc, zero, Some, Option, slice_get, get_or, take, drop, ◌^◌, append_assoc, length-append, if◌then◌else◌, eqb, nat_lt, nat_le, ◌&&◌}
 use Rattle.std.proofs.lemmas.Bool.{cases_lt, lt-ltb, le-ltb, le-leb, lt-leb}
 use Rattle.rs_model.specs.declared.graph.Arm.{Arm}
 use Rattle.rs_model.specs.declared.graph.Role.{Role}
 use Rattle.rs_model.specs.declared.machines.Act.{Act}
 use Rattle.rs_prefix.specs.Earliest.{without}
-use Rattle.rs_derive.specs.Due.{Due, all_serve, both_at}
+use Rattle.rs_derive.specs.Due.{both_at}
 use Rattle.rs_derive.specs.Moves.{Spot, arm_of, owing_receive, owing_send, spot}
-use Rattle.rs_derive.specs.Rules.{Fits, due_by, keeps_head, nexts_by, pushes}
+use Rattle.rs_derive.specs.Rules.{due_by, keeps_head, nexts_by}
 use Rattle.rs_derive.specs.declared.rules.Rule.{Rule}
 use Rattle.rs_derive.specs.declared.rules.Rule.TheVariants.{Stops, Pays, SendsBoth, Guesses, Follows}
 use Rattle.rs_graph.specs.Lists.{Among, concat}

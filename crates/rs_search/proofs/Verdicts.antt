@@ -1,14 +1,14 @@
 -- What the numbered graph of the candidates says of the spots.
-use Rattle.std.proofs.Common.{◌≡◌, ◌≢◌, ◌⊎◌, ◌↔◌, inl, inr, ℕ, ◌<◌, ◌≤◌, Bool, true, false, List, [], ◌∷◌, ◌++◌, length, get_or, refl, sym, ap, ◌∙◌, subst, arith, ◌+◌, suc, zero, Some, None, slice_get, map, ◌||◌, cond, if◌then◌else◌}
+use Rattle.std.proofs.Common.{◌≡◌, inl, inr, ℕ, ◌<◌, ◌≤◌, Bool, true, false, List, [], ◌∷◌, ◌++◌, length, get_or, refl, sym, ap, ◌∙◌, subst, arith, ◌+◌, suc, zero, Some, slice_get, map, ◌||◌}
 use Rattle.std.specs.List.{list_any}
 use Rattle.std.proofs.lemmas.Bool.{cases_lt}
 use Rattle.std.proofs.lemmas.List.{get_or_past}
 use Rattle.rs_model.specs.declared.limits.TheConstants.{MOST_CANDIDATES}
 use Rattle.rs_graph.proofs.Buckets.{got}
 use Rattle.rs_model.specs.Data.{Machine_data}
-use Rattle.rs_derive.specs.Moves.{Spot, spot}
+use Rattle.rs_derive.specs.Moves.{Spot}
 use Rattle.rs_graph.specs.Built.{IsBuilt}
-use Rattle.rs_search.specs.Candidates.{AreMoreThan, IsCandidate, Start, Onward, MeetsACut, MoveWithin, begin}
+use Rattle.rs_search.specs.Candidates.{AreMoreThan, IsCandidate, Start, Onward, begin}
 use Rattle.rs_search.specs.Canonical.{IsNotFound, SomeCut}
 use Rattle.rs_graph.specs.Discovery.{IsDiscovery, MoreThan, Reached, Begin, Step}
 use Rattle.rs_graph.specs.Graphs.{Graph_data, moves_of}
@@ -16,12 +16,12 @@ use Rattle.rs_search.specs.Turns.{is_any, is_cut}
 use Rattle.rs_graph.specs.Lists.{Among, Names}
 use Rattle.rs_graph.specs.Removal.{IsRemoval, at}
 use Rattle.rs_graph.specs.Removal as removal
-use Rattle.rs_search.specs.Survives.{IsSupported, StandTogether, Survives}
-use Rattle.rs_search.specs.Turns.{Turn_data, nexts_within, turn_within}
+use Rattle.rs_search.specs.Survives.{StandTogether, Survives}
+use Rattle.rs_search.specs.Turns.{nexts_within, turn_within}
 use Rattle.rs_graph.proofs.Building.{pictured}
 use Rattle.rs_search.proofs.Choices.{moves_at, to_move, from_move, to_cut, from_cut, or-yes}
 use Rattle.rs_graph.proofs.Growth.{all_found, at_in, at_short, at_within, in_at, not_both}
-use Rattle.rs_graph.proofs.Kept.{Pictures, Stands, kept_of, kept_stands, kept_has, kept_are_found, gone_dies, earlier_dies}
+use Rattle.rs_graph.proofs.Kept.{Pictures, Stands, kept_of, kept_stands, kept_has, kept_are_found, gone_dies}
 
 -- what moves lead to stands among the spots of the turn, and the other way round
 among-moves : (any : Bool) (spots : List Spot) (rs : List Spot) → Among (moves_of any spots) rs → (r : Spot) → Among rs r → Among spots r

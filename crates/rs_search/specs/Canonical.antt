@@ -63,6 +63,19 @@ pub record IsForgets (sub above : Machine_data) (bound node : ℕ) : Type 0 wher
   pub canonical : IsCanonical sub above bound derivation
   pub cycle : IsLeastOnCycle (KeepsHead sub above derivation.nodes) node
 
+-- the canonical derivation has a cycle of edges that keep their head, round which the oldest act may be owed for ever
+pub record IsForgetful (sub above : Machine_data) (bound : ℕ) : Type 0 where
+  pub derivation : Derivation_data
+  pub canonical : IsCanonical sub above bound derivation
+  pub node : ℕ
+  pub cycle : IsOnCycle (KeepsHead sub above derivation.nodes) node
+
+-- there are at most 65,536 candidates, the start survives, and the canonical derivation has no such cycle
+pub record IsDerivable (sub above : Machine_data) (bound : ℕ) : Type 0 where
+  pub few : AreMoreThan sub above bound MOST_CANDIDATES → ⊥
+  pub survives : Survives sub above bound (begin sub above)
+  pub remembers : IsForgetful sub above bound → ⊥
+
 -- what each fault says; want of memory says nothing
 abbrev pub Refuses : Machine_data → Machine_data → ℕ → SearchFault → Type 0
 Refuses sub above bound (NotFound cut) = IsNotFound sub above bound cut

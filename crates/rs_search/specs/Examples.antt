@@ -1,5 +1,5 @@
 -- Believed: two small machines.
-use Rattle.std.specs.Prelude.{List, [], ◌∷◌}
+use Rattle.std.specs.Prelude.{[], ◌∷◌}
 use Rattle.rs_model.specs.Data.{Machine_data}
 use Rattle.rs_model.specs.declared.machines.State.TheVariants.{Done, Takes}
 

@@ -1,5 +1,5 @@
 //! Laws over the definitions that the contracts cite. The functions do nothing: the contract is the law.
-ghost use Rattle.std.specs.Prelude.{◌≡◌, ◌≢◌, ◌≤◌, ℕ, length, None};
+ghost use Rattle.std.specs.Prelude.{◌≡◌, ◌≢◌, ◌⊎◌, ◌↔◌, ◌≤◌, ℕ, length, None};
 ghost use Rattle.rs_model.specs.Data.{Machine_data};
 ghost use Rattle.rs_model.specs.declared.limits.TheConstants.{MOST_CANDIDATES};
 ghost use Rattle.rs_derive.specs.Data.{Derivation_data};
@@ -7,7 +7,7 @@ ghost use Rattle.rs_derive.specs.Derivations.{IsDerivation, IsProper, Remembers}
 ghost use Rattle.rs_derive.specs.Faults.{first_fault};
 ghost use Rattle.rs_derive.specs.Moves.{Spot};
 ghost use Rattle.rs_search.specs.Candidates.{IsCandidate, begin};
-ghost use Rattle.rs_search.specs.Canonical.{IsCanonical, IsFound, Refuses};
+ghost use Rattle.rs_search.specs.Canonical.{IsCanonical, IsDerivable, IsFound, Refuses};
 ghost use Rattle.rs_search.specs.Examples.{ended, waiting};
 ghost use Rattle.rs_search.specs.Survives.{Survives};
 ghost use Rattle.rs_search.specs.declared.faults.SearchFault.{SearchFault};
@@ -37,4 +37,16 @@ pub fn survivors_are_some()
     ensures canonical { (sub above : Machine_data) (bound : ℕ) (d : Derivation_data) → IsCanonical sub above bound d → Survives sub above bound (begin sub above) }
     ensures ended { (bound : ℕ) → Survives ended ended bound (begin ended ended) }
     ensures stuck { (bound : ℕ) → Survives ended waiting bound (begin ended waiting) → ⊥ }
+{}
+
+/// Two well-formed machines have a canonical derivation within a bound, or there is a reason why they have none.
+pub fn a_derivation_or_a_refusal()
+    ensures { (sub above : Machine_data) (bound : ℕ) → IsProper sub → IsProper above
+        → ((d : Derivation_data) × IsFound sub above bound d) ⊎ ((fault : SearchFault) × (fault ≢ NoMemory) × Refuses sub above bound fault) }
+{}
+
+/// They have one exactly where there aren't too many candidates, the start survives, and nothing is forgotten.
+pub fn a_derivation_where_derivable()
+    ensures { (sub above : Machine_data) (bound : ℕ) → IsProper sub → IsProper above
+        → ((d : Derivation_data) × IsFound sub above bound d) ↔ IsDerivable sub above bound }
 {}

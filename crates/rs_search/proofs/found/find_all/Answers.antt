@@ -1,12 +1,12 @@
-use Rattle.std.proofs.Common.{rules, arith, ◌≡◌, ℕ, List, [], ◌∷◌, ◌++◌, ◌<◌, ◌≤◌, ◌+◌, length, slice_get, Some, take, replicate, sym, ◌∙◌, subst, ap, Bool, length-append, refl}
+use Rattle.std.proofs.Common.{rules, arith, ◌≡◌, ℕ, List, [], ◌∷◌, ◌+◌, length, slice_get, Some, replicate, sym, ◌∙◌, subst, ap, length-append, refl}
 use Rattle.std.proofs.lemmas.List.{length-replicate}
 use Rattle.rs_derive.specs.Moves.{Spot}
 use Rattle.rs_search.specs.Buckets.{bucket_of}
 use Rattle.rs_search.specs.Candidates.{begin}
-use Rattle.rs_graph.specs.Discovery.{Grown, Growing, Numbered, MoreThan, Filed}
+use Rattle.rs_graph.specs.Discovery.{Grown, Filed}
 use Rattle.rs_search.specs.Turns.{is_any, is_cut, is_keeping}
 use Rattle.rs_graph.specs.Lists.{Names}
-use Rattle.rs_search.specs.Turns.{Turn_data, turn_within, nexts_within}
+use Rattle.rs_search.specs.Turns.{Turn_data, nexts_within}
 use Rattle.rs_graph.proofs.Buckets.{filed_none}
 use Rattle.rs_graph.proofs.Growth.{growing_begin, growing_on, growing_large, reads_at, map_next, any_next}
 use Rattle.rs_search.proofs.Staying.{stays_within}

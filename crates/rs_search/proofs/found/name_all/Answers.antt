@@ -1,7 +1,6 @@
-use Rattle.std.proofs.Common.{rules, arith, ◌≡◌, ℕ, List, [], ◌∷◌, ◌++◌, ◌<◌, ◌≤◌, ◌+◌, length, slice_get, Some, slice_index_or, take, sym, ◌∙◌, subst}
-use Rattle.rs_graph.specs.Discovery.{Grown, Numbered, NoMore, Filed}
+use Rattle.std.proofs.Common.{arith, ℕ, ◌+◌, sym, ◌∙◌, subst}
+use Rattle.rs_graph.specs.Discovery.{NoMore, Filed}
 use Rattle.rs_search.specs.Buckets.{bucket_of}
-use Rattle.rs_graph.specs.Lists.{Names}
 use Rattle.rs_graph.proofs.Growth.{grown_none, grown_on, grown_all, named_on, reads_at}
 use Rattle.rs_search.proofs.found.name_all.Goals as goal
 

@@ -1,6 +1,5 @@
-use Rattle.std.proofs.Common.{rules, arith, inl, inr, ◌≡◌, ◌≢◌, ◌<◌, ◌≤◌, ◌+◌, [], List, ℕ, length, slice_get, slice_index_or, Some, sym, ◌∙◌, ap, subst, refl}
+use Rattle.std.proofs.Common.{arith, inl, inr, ◌≡◌, ◌≢◌, ℕ, length, slice_get, slice_index_or, Some, sym, ◌∙◌, subst}
 use Rattle.std.proofs.lemmas.Bool.{cases_lt}
-use Rattle.rs_derive.specs.Moves.{Spot}
 use Rattle.rs_search.specs.Buckets.{bucket_of}
 use Rattle.rs_graph.proofs.Buckets.{the_row, row_within, not_there, reads_other}
 use Rattle.rs_graph.proofs.Growth.{reads_at}

@@ -1,4 +1,4 @@
-use Rattle.std.proofs.Common.{◌≡◌, ◌<◌, slice_index_or, false, refl, sym, arith}
+use Rattle.std.proofs.Common.{slice_index_or, false, refl, sym, arith}
 use Rattle.rs_graph.proofs.Buckets.{place_in}
 use Rattle.rs_graph.proofs.Growth.{reads_at}
 use Rattle.rs_search.proofs.Noding.{kept_none, kept_on}

@@ -1,7 +1,6 @@
-use Rattle.std.proofs.Common.{rules, arith, ◌≡◌, ◌<◌, ◌≤◌, ◌+◌, [], ◌∷◌, ◌++◌, ℕ, List, length, slice_get, slice_index_or, Some, sym, refl, ◌∙◌}
+use Rattle.std.proofs.Common.{slice_index_or}
 use Rattle.rs_graph.proofs.Buckets.{place_in}
-use Rattle.rs_graph.proofs.Growth.{reads_at}
-use Rattle.rs_search.proofs.Noding.{nodes_none, nodes_on}
+use Rattle.rs_search.proofs.Noding.{nodes_none}
 use Rattle.rs_search.proofs.nodes.nodes_of.Goals as goal
 
 pub loop-i-init : goal.loop-i-init

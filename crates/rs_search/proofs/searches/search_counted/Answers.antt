@@ -1,9 +1,8 @@
-use Rattle.std.proofs.Common.{rules, arith, ◌≡◌, ◌<◌, ◌≤◌, ◌+◌, [], List, ℕ, Bool, length, map, slice_index_or, sym, subst, ◌∙◌, ap, refl}
+use Rattle.std.proofs.Common.{arith, ◌≡◌, ◌<◌, [], List, ℕ, Bool, length, map, slice_index_or, sym, subst, ◌∙◌, ap, refl}
 use Rattle.rs_model.specs.declared.limits.TheConstants.{MOST_CANDIDATES}
 use Rattle.rs_model.specs.declared.graph.Role.{Role}
 use Rattle.rs_model.specs.Data.{Machine_data}
 use Rattle.rs_derive.specs.Moves.{Spot}
-use Rattle.rs_graph.specs.Lists.{Among}
 use Rattle.rs_graph.specs.Ranks.{Edge}
 use Rattle.rs_graph.specs.Removal.{IsRemoval}
 use Rattle.rs_graph.specs.Unranked.{Unranks}

@@ -1,8 +1,7 @@
-use Rattle.std.proofs.Common.{rules, arith, ◌≡◌, ◌<◌, ◌≤◌, ◌+◌, ◌^◌, [], List, ℕ, Bool, length, map, slice_index_or, sym, subst, ◌∙◌, ap}
+use Rattle.std.proofs.Common.{arith, ◌<◌, List, ℕ, Bool, length, subst, ◌∙◌}
 use Rattle.rs_model.specs.declared.limits.TheConstants.{MOST_CANDIDATES}
 use Rattle.rs_graph.specs.Built.{IsBuilt}
 use Rattle.rs_search.specs.Candidates.{begin}
-use Rattle.rs_graph.specs.Removal.{at}
 use Rattle.rs_search.specs.Turns.{nexts_within}
 use Rattle.rs_graph.proofs.Growth.{at_short}
 use Rattle.rs_graph.proofs.Removed.{index_at}

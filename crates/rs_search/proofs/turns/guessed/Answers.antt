@@ -1,4 +1,4 @@
-use Rattle.std.proofs.Common.{rules, arith, ◌≤◌, length}
+use Rattle.std.proofs.Common.{rules, arith}
 use Rattle.rs_derive.specs.Moves.{owing_send}
 use Rattle.rs_derive.proofs.Few.{few, one_more}
 use Rattle.rs_search.proofs.Turning.{arm_at, label_at, map_step, push_length}

@@ -1,4 +1,4 @@
-use Rattle.std.proofs.Common.{◌≡◌, ◌∙◌, List, ap, sym, refl}
+use Rattle.std.proofs.Common.{◌∙◌, List, ap, sym, refl}
 use Rattle.rs_model.specs.declared.machines.Act.{Act}
 use Rattle.rs_derive.specs.Moves.{Spot}
 use Rattle.rs_derive.specs.Rules.{keeps_head}

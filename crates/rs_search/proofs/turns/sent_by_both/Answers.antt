@@ -1,4 +1,4 @@
-use Rattle.std.proofs.Common.{rules, arith, ◌≤◌, length}
+use Rattle.std.proofs.Common.{rules, arith}
 use Rattle.rs_derive.proofs.Few.{few, one_more}
 use Rattle.rs_search.proofs.Turning.{both_on, label_at}
 use Rattle.rs_search.proofs.turns.sent_by_both.Goals as goal

@@ -1,9 +1,9 @@
-use Rattle.std.proofs.Common.{◌≡◌, ◌∙◌, List, sym, subst, IfOk}
+use Rattle.std.proofs.Common.{◌≡◌, List, sym, subst, IfOk}
 use Rattle.rs_derive.specs.Moves.{Spot}
 use Rattle.rs_derive.specs.Rules.{nexts_by}
 use Rattle.rs_derive.specs.declared.rules.Rule.{Rule}
 use Rattle.rs_graph.specs.Lists.{concat}
-use Rattle.rs_search.proofs.Turning.{followed_is, guessed_is}
+use Rattle.rs_search.proofs.Turning.{followed_is}
 use Rattle.rs_search.proofs.turns.spots_by.Goals as goal
 
 pub returns-in-Follows-clause-spots : goal.returns-in-Follows-clause-spots
