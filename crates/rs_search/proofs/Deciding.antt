@@ -226,11 +226,12 @@ decided sub above bound ws wa = elim (discovered same-spots (nexts_within sub ab
 pub is_derivable : (sub above : Machine_data) (bound : ℕ) (d : Derivation_data) → IsFound sub above bound d → IsDerivable sub above bound
 is_derivable sub above bound d f = record { few = f.few; survives = starts_survive sub above bound d f.canonical; remembers = no_answer_is_forgetful sub above bound d f }
 
+-- what may be derived isn't refused
+pub not_refused : (sub above : Machine_data) (bound : ℕ) → IsDerivable sub above bound → (fault : SearchFault) → fault ≢ NoMemory → Refuses sub above bound fault → ⊥
+not_refused sub above bound h (NotFound cut) ne r = r.dies h.survives
+not_refused sub above bound h (Forgets node) ne r = h.remembers (is_forgetful sub above bound node r)
+not_refused sub above bound h TooLarge ne r = h.few r
+not_refused sub above bound h NoMemory ne r = ne refl
+
 pub derivable : (sub above : Machine_data) (bound : ℕ) → IsProper sub → IsProper above → ((d : Derivation_data) × IsFound sub above bound d) ↔ IsDerivable sub above bound
-derivable sub above bound ws wa = ((λ f. is_derivable sub above bound f.0 f.1), (λ h. elim (decided sub above bound ws wa) [ inl f ↦ f | inr r ↦ absurd (refused h r.0 r.1 r.2) ]))
-  where
-    refused : IsDerivable sub above bound → (fault : SearchFault) → fault ≢ NoMemory → Refuses sub above bound fault → ⊥
-    refused h (NotFound cut) ne r = r.dies h.survives
-    refused h (Forgets node) ne r = h.remembers (is_forgetful sub above bound node r)
-    refused h TooLarge ne r = h.few r
-    refused h NoMemory ne r = ne refl
+derivable sub above bound ws wa = ((λ f. is_derivable sub above bound f.0 f.1), (λ h. elim (decided sub above bound ws wa) [ inl f ↦ f | inr r ↦ absurd (not_refused sub above bound h r.0 r.1 r.2) ]))
