@@ -1,8 +1,9 @@
 -- What is read is what the words spell, in both directions.
-use Rattle.std.proofs.Common.{◌≡◌, true, false, List, [], ◌∷◌, ◌++◌, map, Option, Some, None, refl, sym, ap, subst, ◌∙◌, true≢false}
+use Rattle.std.proofs.Common.{◌≡◌, Bool, true, false, List, [], ◌∷◌, ◌++◌, map, Option, Some, None, refl, sym, ap, subst, ◌∙◌, true≢false}
 use Rattle.std.specs.Prelude.{find, fold}
 use Rattle.std.specs.Str.{bytes_eq}
 use Rattle.clap.specs.Faults.{fault_of}
+use Rattle.clap.specs.Kinds.{Kinds}
 use Rattle.clap.specs.Walk.{with_default}
 use Rattle.clap.specs.Words.{subcommand_of}
 use Rattle.clap.proofs.WalkLemmas.{both}
@@ -12,7 +13,7 @@ use Rattle.rs_words.specs.Grammar.{AllNew, Form, SpellsUses, Bytes, Use, ending_
 use Rattle.rs_words.specs.Meaning.{IsMeaning, SpellsTask, task_of, value_of}
 use Rattle.rs_words.proofs.Lookups.{built_rules, found_passes, same_text}
 use Rattle.rs_words.proofs.Turns.{dashes, plain_is_no_dash, rows_of_uses}
-use Rattle.rs_words.proofs.Sound.{run_fault, run_rows, sound}
+use Rattle.rs_words.proofs.Sound.{clash, run_fault, run_rows, sound}
 use Rattle.rs_words.proofs.Complete.{complete, plain_is_allowed, is_allowed_before}
 use Rattle.rs_words.proofs.Levels.{command_fault, command_rows, no_command, no_words, start}
 use Rattle.rs_words.proofs.Found.{TrueOnly, WellMade, form_test, forms_pass, found_test, texts_found, uses_true, well_made}
@@ -107,8 +108,27 @@ meaning_of_taken words (Some t) allowed e is =
 pub meaning_of_refused : (words : List Bytes) → (dashes_are_allowed words false ≡ true → fault_of app words ≡ [] → ⊥) → IsMeaning words None
 meaning_of_refused words refused = λ t s. let taken = to_clap words t s in refused taken.allowed taken.passes
 
+-- a list of words has a meaning ..
+pub words_mean_something : (words : List Bytes) → (meaning : Option Task) × IsMeaning words meaning
+words_mean_something words = by_dashes (dashes_are_allowed words false) refl
+  where
+    by_fault : (kinds : Kinds) → fault_of app words ≡ kinds → dashes_are_allowed words false ≡ true → (meaning : Option Task) × IsMeaning words meaning
+    by_fault [] passes allowed = (task_found (subcommand_of app words), meaning_of_taken words (task_found (subcommand_of app words)) allowed passes refl)
+    by_fault (k ∷ ks) fails allowed = (None, meaning_of_refused words (λ _ passes. clash (fault_of app words) k ks fails passes))
+
+    by_dashes : (b : Bool) → dashes_are_allowed words false ≡ b → (meaning : Option Task) × IsMeaning words meaning
+    by_dashes true allowed = by_fault (fault_of app words) refl allowed
+    by_dashes false refused = (None, meaning_of_refused words (λ allowed _. absurd (true≢false (sym allowed ∙ refused))))
+
 pub words_spell_one_task : (words : List Bytes) (one other : Task) → SpellsTask words one → SpellsTask words other → one ≡ other
 words_spell_one_task words one other s t = some_same (sym (to_clap words one s).found ∙ (to_clap words other t).found)
   where
     some_same : Some one ≡ Some other → one ≡ other
     some_same e = cc
+
+-- .. and no other one
+pub words_mean_one_thing : (words : List Bytes) (one other : Option Task) → IsMeaning words one → IsMeaning words other → one ≡ other
+words_mean_one_thing words None None a b = refl
+words_mean_one_thing words None (Some t) a b = absurd (a t b)
+words_mean_one_thing words (Some t) None a b = absurd (b t a)
+words_mean_one_thing words (Some t) (Some s) a b = ap (λ x. Some x) (words_spell_one_task words t s a b)
