@@ -1,5 +1,5 @@
 -- Believed: what a list of words asks for.
-use Rattle.std.specs.Prelude.{◌≡◌, ◌&&◌, ℕ, Bool, List, ◌∷◌, codes, Option, Some, None, option_map, option_and_then, find, if◌then◌else◌, nat_le, is_some}
+use Rattle.std.specs.Prelude.{◌≡◌, ◌≤◌, ◌&&◌, ℕ, Bool, List, ◌∷◌, codes, Option, Some, None, option_map, option_and_then, find, if◌then◌else◌, nat_le, is_some, IfSome}
 use Rattle.std.specs.Str.{bytes_eq}
 use Rattle.std.specs.Str.Parse.{digits_value}
 use Rattle.std.specs.Fmt.{decimal}
@@ -100,3 +100,16 @@ pub record SpellsTask (words : List Bytes) (spelt : Task) : Type 0 where
 abbrev pub IsMeaning : List Bytes → Option Task → Type 0
 IsMeaning words (Some spelt) = SpellsTask words spelt
 IsMeaning words None = (any : Task) → SpellsTask words any → ⊥
+
+-- the number lies from the low one to the high one
+abbrev pub IsFrom : ℕ → ℕ → ℕ → Type 0
+IsFrom low high n = (low ≤ n) × (n ≤ high)
+
+-- each number of the task lies in its range
+abbrev pub IsInRange : Task → Type 0
+IsInRange (task.Check bound derivations) = IsFrom 1 MOST_BOUND bound
+IsInRange (task.Run bound ring workers limit seed) =
+    IsFrom 1 MOST_BOUND bound × IfSome ring (IsFrom 1 MOST_CAPACITY) × IsFrom 1 MOST_WORKERS workers × IsFrom 1 MOST_LIMIT limit × IsFrom 0 MOST_SEED seed
+IsInRange (task.Demo kind ring workers) = IfSome ring (IsFrom 1 MOST_CAPACITY) × IsFrom 1 MOST_WORKERS workers
+IsInRange (task.Gen number) = IsFrom 0 MOST_GEN number
+IsInRange _ = Unit {0}
