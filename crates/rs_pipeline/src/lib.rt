@@ -1,0 +1,10 @@
+//! Pipelines: documents of any size that are made from a number, to check the checker with.
+#![tactic(auto)]
+
+mod pipelines;
+#[cfg(test)]
+mod tests;
+mod texts;
+
+pub use pipelines::{Pipeline, pipeline_of};
+pub use texts::{document_text, summary_text};

@@ -1,0 +1,121 @@
+//! The commands of the program, as clap is told them.
+
+ghost use Rattle.std.specs.Prelude.{◌≡◌, IfOk, true, false};
+ghost use Rattle.clap.specs.Words.{app_of, rule_of, with_rule, with_subcommand};
+ghost use Rattle.clap.specs.declared.builder.command.Command.TheViews.{out-Command};
+ghost use Rattle.rs_words.specs.Clap as spec;
+ghost use Rattle.rs_words.specs.Grammar.{check_form, demo_form, gen_form, run_form};
+
+use clap::{Arg, ArgAction, Command};
+use std::alloc::{AllocError, Global};
+
+/// The command with one more option that has a value.
+fn with_value<'a>(
+    alloc: Global,
+    command: Command<'a>,
+    name: &'a str,
+) -> Result<Command<'a>, AllocError>
+    ensures app { IfOk result (λ r. app_of r ≡ with_rule (app_of command.entry) (spec.choice_rule name.entry.now true)) }
+    ensures local { IfOk result (λ r. (out-Command command.entry).has_globals ≡ false → (out-Command r).has_globals ≡ false) }
+{
+    let option = Arg::new(alloc, name).long(name).action(ArgAction::Set);
+    command.arg(option)
+}
+
+/// The command with one more option that has no value.
+fn with_flag<'a>(
+    alloc: Global,
+    command: Command<'a>,
+    name: &'a str,
+) -> Result<Command<'a>, AllocError>
+    ensures app { IfOk result (λ r. app_of r ≡ with_rule (app_of command.entry) (spec.choice_rule name.entry.now false)) }
+    ensures local { IfOk result (λ r. (out-Command command.entry).has_globals ≡ false → (out-Command r).has_globals ≡ false) }
+{
+    let flag = Arg::new(alloc, name).long(name).action(ArgAction::SetTrue);
+    command.arg(flag)
+}
+
+/// The command with a positional word.
+fn with_word<'a>(
+    alloc: Global,
+    command: Command<'a>,
+    id: &'a str,
+) -> Result<Command<'a>, AllocError>
+    ensures app { IfOk result (λ r. app_of r ≡ with_rule (app_of command.entry) (spec.word_rule id.entry.now)) }
+    ensures local { IfOk result (λ r. (out-Command command.entry).has_globals ≡ false → (out-Command r).has_globals ≡ false) }
+{
+    let word = Arg::new(alloc, id).action(ArgAction::Set);
+    command.arg(word)
+}
+
+/// The command `check`.
+fn check_command<'a>(alloc: Global) -> Result<Command<'a>, AllocError>
+    ensures app { IfOk result (λ r. app_of r ≡ spec.app_of_form check_form) }
+    ensures local { IfOk result (λ r. (out-Command r).has_globals ≡ false) }
+{
+    let command = with_value(alloc, Command::new(alloc, "check"), "bound")?;
+    with_flag(alloc, command, "derivations")
+}
+
+/// The command `run`.
+fn run_command<'a>(alloc: Global) -> Result<Command<'a>, AllocError>
+    ensures app { IfOk result (λ r. app_of r ≡ spec.app_of_form run_form) }
+    ensures local { IfOk result (λ r. (out-Command r).has_globals ≡ false) }
+{
+    let command = with_value(alloc, Command::new(alloc, "run"), "bound")?;
+    let command = with_value(alloc, command, "ring")?;
+    let command = with_value(alloc, command, "workers")?;
+    let command = with_value(alloc, command, "limit")?;
+    with_value(alloc, command, "seed")
+}
+
+/// The command `demo`.
+fn demo_command<'a>(alloc: Global) -> Result<Command<'a>, AllocError>
+    ensures app { IfOk result (λ r. app_of r ≡ spec.app_of_form demo_form) }
+    ensures local { IfOk result (λ r. (out-Command r).has_globals ≡ false) }
+{
+    let command = with_value(alloc, Command::new(alloc, "demo"), "ring")?;
+    let command = with_value(alloc, command, "workers")?;
+    with_word(alloc, command, "name")
+}
+
+/// The command `gen`.
+fn gen_command<'a>(alloc: Global) -> Result<Command<'a>, AllocError>
+    ensures app { IfOk result (λ r. app_of r ≡ spec.app_of_form gen_form) }
+    ensures local { IfOk result (λ r. (out-Command r).has_globals ≡ false) }
+{
+    with_word(alloc, Command::new(alloc, "gen"), "number")
+}
+
+/// The program, before its commands are added.
+fn program<'a>(alloc: Global) -> Command<'a>
+    ensures app { app_of result ≡ spec.program }
+    ensures local { (out-Command result).has_globals ≡ false }
+{
+    Command::new(alloc, "rumpsteak")
+        .no_binary_name(true)
+        .disable_help_flag(true)
+        .disable_help_subcommand(true)
+        .subcommand_required(true)
+}
+
+/// The program with one more command.
+fn with_command<'a>(program: Command<'a>, command: Command<'a>) -> Result<Command<'a>, AllocError>
+    requires { (out-Command command).has_globals ≡ false }
+    ensures app { IfOk result (λ r. app_of r ≡ with_subcommand (app_of program.entry) (app_of command.entry).top) }
+{
+    program.subcommand(command)
+}
+
+/// The program with all of its commands.
+pub(crate) fn all_commands<'a>(alloc: Global) -> Result<Command<'a>, AllocError>
+    ensures { IfOk result (λ r. app_of r ≡ spec.app) }
+{
+    let program = with_command(program(alloc), check_command(alloc)?)?;
+    let program = with_command(program, Command::new(alloc, "verify"))?;
+    let program = with_command(program, Command::new(alloc, "show"))?;
+    let program = with_command(program, Command::new(alloc, "project"))?;
+    let program = with_command(program, run_command(alloc)?)?;
+    let program = with_command(program, demo_command(alloc)?)?;
+    with_command(program, gen_command(alloc)?)
+}

@@ -1,0 +1,20 @@
+//! The words of the program: read by clap, and exactly those that the grammar of words takes.
+#![tactic(auto)]
+
+mod commands;
+mod dashes;
+pub mod laws;
+mod limits;
+mod meaning;
+mod numbers;
+mod reading;
+mod tasks;
+
+pub use limits::{
+    DEFAULT_BOUND, DEFAULT_LIMIT, MOST_CAPACITY, MOST_GEN, MOST_LIMIT, MOST_SEED, MOST_WORKERS,
+};
+pub use reading::read_words;
+pub use tasks::{Demo, Task};
+
+#[cfg(test)]
+mod tests;

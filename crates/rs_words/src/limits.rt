@@ -1,0 +1,22 @@
+//! The ranges of the numbers among the words, and what stands where none is given.
+
+/// The bound of a search where none is given: the most acts that a derivation may owe at a node.
+pub const DEFAULT_BOUND: u8 = 16;
+
+/// The greatest capacity of a ring.
+pub const MOST_CAPACITY: u32 = 1_024;
+
+/// The most workers of a run.
+pub const MOST_WORKERS: u32 = 16;
+
+/// The most acts of a role in a run where no limit is given.
+pub const DEFAULT_LIMIT: u32 = 10_000;
+
+/// The greatest limit of the acts of a role in a run.
+pub const MOST_LIMIT: u32 = 1_000_000;
+
+/// The greatest seed of a run.
+pub const MOST_SEED: u32 = 2_147_483_647;
+
+/// The greatest number that a pipeline is made from.
+pub const MOST_GEN: u32 = 4_294_967_295;

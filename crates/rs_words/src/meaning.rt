@@ -1,0 +1,201 @@
+//! What the texts that clap found ask for.
+
+ghost use Rattle.std.specs.Prelude.{◌≡◌, IfOk, codes, option_map};
+ghost use Rattle.clap.specs.Words.{first_of, found_of, rows_of, subcommand_rows_of};
+ghost use Rattle.rs_words.specs.Clap as clap;
+ghost use Rattle.rs_words.specs.Meaning as spec;
+
+use crate::limits::MOST_GEN;
+use crate::numbers::{bound_in, limit_in, number_in, ring_in, seed_in, workers_in};
+use crate::tasks::{Demo, Task};
+use clap::ArgMatches;
+use std::alloc::{AllocError, Global};
+
+/// The demo of this name.
+fn demo_of_name(text: &str) -> Option<Demo>
+    ensures { result ≡ spec.demo_of_name text.now }
+{
+    if text == "double" {
+        Some(Demo::Double)
+    } else if text == "ring" {
+        Some(Demo::Ring)
+    } else if text == "stream" {
+        Some(Demo::Stream)
+    } else if text == "butterfly" {
+        Some(Demo::Butterfly)
+    } else {
+        None
+    }
+}
+
+/// What `check` asks for, by the texts of its options.
+fn check_task(
+    alloc: Global,
+    bound: Option<&str>,
+    derivations: bool,
+) -> Result<Option<Task>, AllocError>
+    ensures { IfOk result (λ r. r ≡ spec.check_task (option_map (λ s. s.now) bound.entry) derivations) }
+{
+    let Some(bound) = bound_in(alloc, bound)? else {
+        return Ok(None);
+    };
+    Ok(Some(Task::Check { bound, derivations }))
+}
+
+/// What `run` asks for, by the texts of its options.
+fn run_task(
+    alloc: Global,
+    bound: Option<&str>,
+    ring: Option<&str>,
+    workers: Option<&str>,
+    limit: Option<&str>,
+    seed: Option<&str>,
+) -> Result<Option<Task>, AllocError>
+    ensures { IfOk result (λ r. r ≡ spec.run_task (option_map (λ s. s.now) bound.entry) (option_map (λ s. s.now) ring.entry) (option_map (λ s. s.now) workers.entry) (option_map (λ s. s.now) limit.entry) (option_map (λ s. s.now) seed.entry)) }
+{
+    let Some(bound) = bound_in(alloc, bound)? else {
+        return Ok(None);
+    };
+    let Some(ring) = ring_in(alloc, ring)? else {
+        return Ok(None);
+    };
+    let Some(workers) = workers_in(alloc, workers)? else {
+        return Ok(None);
+    };
+    let Some(limit) = limit_in(alloc, limit)? else {
+        return Ok(None);
+    };
+    let Some(seed) = seed_in(alloc, seed)? else {
+        return Ok(None);
+    };
+    Ok(Some(Task::Run {
+        bound,
+        ring,
+        workers,
+        limit,
+        seed,
+    }))
+}
+
+/// What `demo` asks for, by the text of its name and those of its options.
+fn demo_task(
+    alloc: Global,
+    name: Option<&str>,
+    ring: Option<&str>,
+    workers: Option<&str>,
+) -> Result<Option<Task>, AllocError>
+    ensures { IfOk result (λ r. r ≡ spec.demo_task (option_map (λ s. s.now) name.entry) (option_map (λ s. s.now) ring.entry) (option_map (λ s. s.now) workers.entry)) }
+{
+    let Some(name) = name else {
+        return Ok(None);
+    };
+    let Some(kind) = demo_of_name(name) else {
+        return Ok(None);
+    };
+    let Some(ring) = ring_in(alloc, ring)? else {
+        return Ok(None);
+    };
+    let Some(workers) = workers_in(alloc, workers)? else {
+        return Ok(None);
+    };
+    Ok(Some(Task::Demo {
+        kind,
+        ring,
+        workers,
+    }))
+}
+
+/// What `gen` asks for, by the text of its number.
+fn gen_task(alloc: Global, number: Option<&str>) -> Result<Option<Task>, AllocError>
+    ensures { IfOk result (λ r. r ≡ spec.gen_task (option_map (λ s. s.now) number.entry)) }
+{
+    let Some(number) = number else {
+        return Ok(None);
+    };
+    let Some(number) = number_in(alloc, 0, MOST_GEN, number)? else {
+        return Ok(None);
+    };
+    Ok(Some(Task::Gen { number }))
+}
+
+/// The text that clap found for an option or a positional word.
+fn text_found<'a>(found: &ArgMatches<'a>, id: &str) -> Option<&'a str>
+    ensures { option_map (λ s. s.now) result ≡ first_of id.now (rows_of (found_of found.now)) }
+{
+    found.get_str(id)
+}
+
+/// Whether the option without a value is used.
+fn is_used(found: &ArgMatches<'_>, id: &str) -> bool
+    ensures { result ≡ clap.is_true_text (first_of id.now (rows_of (found_of found.now))) }
+{
+    match text_found(found, id) {
+        Some(text) => text == "true",
+        None => false,
+    }
+}
+
+/// What `run` asks for, by the texts that clap found.
+fn run_task_in(alloc: Global, found: &ArgMatches<'_>) -> Result<Option<Task>, AllocError>
+    ensures { IfOk result (λ r. r ≡ spec.run_task (first_of (codes "bound") (rows_of (found_of found.now))) (first_of (codes "ring") (rows_of (found_of found.now)))
+        (first_of (codes "workers") (rows_of (found_of found.now))) (first_of (codes "limit") (rows_of (found_of found.now))) (first_of (codes "seed") (rows_of (found_of found.now)))) }
+{
+    run_task(
+        alloc,
+        text_found(found, "bound"),
+        text_found(found, "ring"),
+        text_found(found, "workers"),
+        text_found(found, "limit"),
+        text_found(found, "seed"),
+    )
+}
+
+/// What `demo` asks for, by the texts that clap found.
+fn demo_task_in(alloc: Global, found: &ArgMatches<'_>) -> Result<Option<Task>, AllocError>
+    ensures { IfOk result (λ r. r ≡ spec.demo_task (first_of (codes "name") (rows_of (found_of found.now))) (first_of (codes "ring") (rows_of (found_of found.now)))
+        (first_of (codes "workers") (rows_of (found_of found.now)))) }
+{
+    demo_task(
+        alloc,
+        text_found(found, "name"),
+        text_found(found, "ring"),
+        text_found(found, "workers"),
+    )
+}
+
+/// What the command of this name asks for, by the texts that clap found.
+fn task_of(alloc: Global, name: &str, found: &ArgMatches<'_>) -> Result<Option<Task>, AllocError>
+    ensures { IfOk result (λ r. r ≡ spec.task_of name.now (clap.found_text (rows_of (found_of found.now)))) }
+{
+    if name == "check" {
+        check_task(
+            alloc,
+            text_found(found, "bound"),
+            is_used(found, "derivations"),
+        )
+    } else if name == "verify" {
+        Ok(Some(Task::Verify))
+    } else if name == "show" {
+        Ok(Some(Task::Show))
+    } else if name == "project" {
+        Ok(Some(Task::Project))
+    } else if name == "run" {
+        run_task_in(alloc, found)
+    } else if name == "demo" {
+        demo_task_in(alloc, found)
+    } else if name == "gen" {
+        gen_task(alloc, text_found(found, "number"))
+    } else {
+        Ok(None)
+    }
+}
+
+/// What the command that clap found asks for.
+pub(crate) fn task_in(alloc: Global, found: &ArgMatches<'_>) -> Result<Option<Task>, AllocError>
+    ensures { IfOk result (λ r. r ≡ clap.task_found (subcommand_rows_of found.now)) }
+{
+    match found.subcommand() {
+        None => Ok(None),
+        Some((name, inner)) => task_of(alloc, name, inner),
+    }
+}

@@ -1,0 +1,116 @@
+//! The numbers among the words.
+
+ghost use Rattle.std.specs.Prelude.{◌≡◌, ◌≤◌, IfOk, IfSome, option_map};
+ghost use Rattle.rs_words.specs.Meaning as spec;
+
+use crate::limits::{
+    DEFAULT_BOUND, DEFAULT_LIMIT, MOST_CAPACITY, MOST_LIMIT, MOST_SEED, MOST_WORKERS,
+};
+use rs_model::MOST_BOUND;
+use std::alloc::{AllocError, Global};
+
+/// The number whose decimal text this is, where it lies from the low one to the high one.
+pub(crate) fn number_in(
+    alloc: Global,
+    low: u32,
+    high: u32,
+    text: &str,
+) -> Result<Option<u32>, AllocError>
+    ensures value { IfOk result (λ r. r ≡ spec.number_in low high text.now) }
+    ensures range { IfOk result (λ r. IfSome r (λ n. n ≤ high)) }
+{
+    let Ok(number) = text.parse::<u32>() else {
+        return Ok(None);
+    };
+    if number < low || number > high {
+        return Ok(None);
+    }
+    let written = number.to_string(alloc)?;
+    if written.as_str() == text {
+        Ok(Some(number))
+    } else {
+        Ok(None)
+    }
+}
+
+/// The same, or the first number where no text is given.
+fn number_or(
+    alloc: Global,
+    fallback: u32,
+    low: u32,
+    high: u32,
+    text: Option<&str>,
+) -> Result<Option<u32>, AllocError>
+    requires { fallback ≤ high }
+    ensures value { IfOk result (λ r. r ≡ spec.number_or fallback low high (option_map (λ s. s.now) text.entry)) }
+    ensures range { IfOk result (λ r. IfSome r (λ n. n ≤ high)) }
+{
+    match text {
+        None => Ok(Some(fallback)),
+        Some(text) => number_in(alloc, low, high, text),
+    }
+}
+
+/// The same, or no number where no text is given.
+fn optional_in(
+    alloc: Global,
+    low: u32,
+    high: u32,
+    text: Option<&str>,
+) -> Result<Option<Option<u32>>, AllocError>
+    ensures value { IfOk result (λ r. r ≡ spec.optional_in low high (option_map (λ s. s.now) text.entry)) }
+    ensures range { IfOk result (λ r. IfSome r (λ o. IfSome o (λ n. n ≤ high))) }
+{
+    match text {
+        None => Ok(Some(None)),
+        Some(text) => match number_in(alloc, low, high, text)? {
+            None => Ok(None),
+            Some(number) => Ok(Some(Some(number))),
+        },
+    }
+}
+
+/// The bound of a search.
+pub(crate) fn bound_in(alloc: Global, text: Option<&str>) -> Result<Option<u8>, AllocError>
+    ensures { IfOk result (λ r. r ≡ spec.bound_in (option_map (λ s. s.now) text.entry)) }
+{
+    match number_or(alloc, u32::from(DEFAULT_BOUND), 1, MOST_BOUND as u32, text)? {
+        None => Ok(None),
+        Some(number) => Ok(Some(number as u8)),
+    }
+}
+
+/// The number of workers.
+pub(crate) fn workers_in(alloc: Global, text: Option<&str>) -> Result<Option<u8>, AllocError>
+    ensures { IfOk result (λ r. r ≡ spec.workers_in (option_map (λ s. s.now) text.entry)) }
+{
+    match number_or(alloc, 1, 1, MOST_WORKERS, text)? {
+        None => Ok(None),
+        Some(number) => Ok(Some(number as u8)),
+    }
+}
+
+/// The capacity of the rings, where one is given.
+pub(crate) fn ring_in(alloc: Global, text: Option<&str>) -> Result<Option<Option<u16>>, AllocError>
+    ensures { IfOk result (λ r. r ≡ spec.ring_in (option_map (λ s. s.now) text.entry)) }
+{
+    match optional_in(alloc, 1, MOST_CAPACITY, text)? {
+        None => Ok(None),
+        Some(None) => Ok(Some(None)),
+        Some(Some(number)) => Ok(Some(Some(number as u16))),
+    }
+}
+
+/// The most acts of each role.
+pub(crate) fn limit_in(alloc: Global, text: Option<&str>) -> Result<Option<u32>, AllocError>
+    ensures { IfOk result (λ r. r ≡ spec.limit_in (option_map (λ s. s.now) text.entry)) }
+{
+    number_or(alloc, DEFAULT_LIMIT, 1, MOST_LIMIT, text)
+}
+
+/// The seed of the actors' choices.
+pub(crate) fn seed_in(alloc: Global, text: Option<&str>) -> Result<Option<u32>, AllocError>
+    ensures { IfOk result (λ r. r ≡ spec.seed_in (option_map (λ s. s.now) text.entry)) }
+{
+    number_or(alloc, 0, 0, MOST_SEED, text)
+}
