@@ -1,0 +1,10 @@
+pub mod Places
+pub mod Acts
+pub mod Rule
+pub mod Steps
+pub mod Told
+pub mod Rows
+pub mod Passes
+pub mod Closed
+pub mod Emptied
+pub mod Shown
