@@ -6,10 +6,8 @@ use native.Mathlib.Decide.{ℕ_discrete, dec_le}
 use mathlib.Core.Logic.{dite}
 use lib.ListN.{get_elem?}
 use Rattle.rs_slots.specs.declared.parcels.Parcel.{Parcel}
-use Rattle.rs_rings.specs.Closed.{loose_from}
-use Rattle.rs_rings.specs.Emptied.{content_of, found_one, found, Emptied}
-use Rattle.rs_rings.specs.Emptied.{RingHolds}
-use Rattle.rs_rings.specs.Closed.{sender_of, receiver_of}
+use Rattle.rs_rings.specs.Closed.{loose_from, sender_of, receiver_of}
+use Rattle.rs_rings.specs.Emptied.{content_of, found_one, found, Emptied, RingHolds}
 use Rattle.rs_slots.specs.Places.{ring_count, ring_of, column, IsPair}
 use Rattle.rs_rings.specs.declared.loose.Loose.{Loose}
 use native.Mathlib.Nat.{add-mod_left}

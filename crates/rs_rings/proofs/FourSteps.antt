@@ -13,12 +13,13 @@ use Rattle.rs_rings.specs.declared.views.Part.{Part}
 use Rattle.rs_rings.specs.declared.views.Load.{Load}
 use Rattle.rs_rings.specs.declared.views.View.{View}
 use Rattle.rs_rings.specs.declared.views.Key.{Key}
-use Rattle.rs_rings.specs.Acts.{numbered, sent_act, got_act, message_of, HasFittingArm, Happened}
+use Rattle.rs_rings.specs.Acts.{numbered, sent_act, got_act, message_of, Happened, parcels_sent, parcels_got, parcel_sent, parcel_got}
+use Rattle.rs_rings.specs.Places.{head_of, tail_of, place_of}
+use Rattle.rs_rings.specs.Rule.{RingFacts, RingRule, ring_facts, AreLegal, Shows, machines_of, configuration_of}
+use Rattle.rs_rings.specs.Steps.{HasFittingArm, Call, LoadsHead, StoresTail, LoadsTail, StoresHead, GivesEmptied}
+use Rattle.rs_rings.specs.Views.{last_found, is_putting, taken_from, speaks, the_part, with_part, looked_head, gaining, sending, looked_tail, taking, getting}
 use Rattle.rs_rings.specs.declared.views.Middle.{Middle}
 use Rattle.rs_rings.specs.declared.views.Middle.TheVariants.{Idle, Putting, Taking}
-use Rattle.rs_rings.specs.Places.{Call, head_of, tail_of, place_of}
-use Rattle.rs_rings.specs.Rule.{RingFacts, RingRule, ring_facts, AreLegal, Shows, parcels_sent, parcels_got, parcel_sent, parcel_got, last_found, is_putting, taken_from, speaks, the_part, machines_of, configuration_of}
-use Rattle.rs_rings.specs.Steps.{with_part, looked_head, gaining, sending, looked_tail, taking, getting, LoadsHead, StoresTail, LoadsTail, StoresHead, GivesEmptied}
 use Rattle.rs_rings.proofs.OneRing.{below_at, looks_head, looks_tail, gains_free, gives_full, gains_full, gives_free, behind}
 use Rattle.rs_rings.proofs.Parts.{at_put, spoken_step, known_is, the_role}
 use Rattle.rs_rings.proofs.Places.{heads_apart, tails_apart, head_no_tail, slots_apart, counts_apart, next_turn, slot_below, head_below, tail_below}
@@ -43,7 +44,7 @@ putting_here q = eq-eqb q q refl
 putting_other : (y q : ℕ) → y ≢ q → is_putting y (Putting q) ≡ false
 putting_other y q ne = ne_eqb y q ne
 
-taken_here : (p : ℕ) (m : Parcel) → taken_from p (Taking p m) ≡ Some m
+pub taken_here : (p : ℕ) (m : Parcel) → taken_from p (Taking p m) ≡ Some m
 taken_here p m = rw (eq-eqb p p refl) refl
 
 taken_other : (y p : ℕ) (m : Parcel) → y ≢ p → taken_from y (Taking p m) ≡ None
@@ -181,7 +182,7 @@ module _ (key : Key) (slots id : ℕ) (me : Me (Option Parcel) View) (p q next :
         (seen, (let g : got ≤ r = omega arith in g), (let g : r ≤ got + c' = omega arith in g), (λ e. absurd (more e)), (λ _. (x, fits_arms, refl))),
       ))
 
-module _ (key : Key) (slots id : ℕ) (v : View) (cs : List (ℕ × Option Parcel)) (p q new : ℕ) (apart : p ≢ q) (x : Parcel) (arms all : List Arm) (arm : Arm) (chosen : arm_with all x.label ≡ Some arm) (has : HasSort x.value arm.sort) where
+module _ (key : Key) (slots id : ℕ) (v : View) (cs : List (ℕ × Option Parcel)) (p q new : ℕ) (apart : p ≢ q) (x : Parcel) (arms all : List Arm) (arm : Arm) (picked : (place : ℕ) × (slice_get all place ≡ Some arm) × (arm.label ≡ x.label)) (has : HasSort x.value arm.sort) where
   abbrev next : ℕ
   next = arm.next
 
@@ -204,7 +205,7 @@ module _ (key : Key) (slots id : ℕ) (v : View) (cs : List (ℕ × Option Parce
       let a : Part = the_part p v.parts in let b : Part = sh.known q in let kn = known_is nn sh.owner sh.known s.views sh.spoken id v at p says in let is = kn.1 in
       let f : RingFacts = ring_facts nn cc' s.words s.homes p q a b in let fl : RingRule cc' f = subst (λ (z : Part). RingRule cc' (ring_facts nn cc' s.words s.homes p q z b)) is (sh.rings p q kn.0 below apart) in
       let pair : IsPair nn p q = record { sender = kn.0; receiver = below; differ = apart } in
-      let lived = legal_sent (machines_of key) sh.known p q apart x all arm chosen has (sending q x next a) sh.legal (ap (λ (z : Part). state_of (slice_get (machines_of key) p) z.state) is ∙ stands) refl (ap (λ (z : Part). z.history ++ sent_act q x ∷ []) (sym is))
+      let lived = legal_sent (machines_of key) sh.known p q apart x all arm picked has (sending q x next a) sh.legal (ap (λ (z : Part). state_of (slice_get (machines_of key) p) z.state) is ∙ stands) refl (ap (λ (z : Part). z.history ++ sent_act q x ∷ []) (sym is))
       (subst (λ (z : Part). length (parcels_got p b.history) ≤ length (parcels_sent q z.history)) (sym is) (behind cc' f fl)) in
       let i : ℕ = tail_of nn p q in let role = the_role p v.parts says in let sent : ℕ = length (parcels_sent q a.history) in let bh : length (parcels_got p b.history) ≤ sent = behind cc' f fl in
       let k₀ : ℕ = place_of nn cc' p q sent in let h : maybe.Option (Option Parcel) = some (Some x) in let inside : k₀ < length s.homes = subst (λ (z : ℕ). k₀ < z) (sym sh.slot_count) (slot_below nn cc' p q sent sh.roomy pair) in
@@ -244,7 +245,7 @@ module _ (key : Key) (slots id : ℕ) (v : View) (cs : List (ℕ × Option Parce
       let i : ℕ = head_of nn p q in let role = the_role q v.parts says in let got : ℕ = length (parcels_got p b.history) in let bh : got ≤ length (parcels_sent q a.history) = behind cc' f fl in
       let k₀ : ℕ = place_of nn cc' p q got in let h : maybe.Option (Option Parcel) = some None in let inside : k₀ < length s.homes = subst (λ (z : ℕ). k₀ < z) (sym sh.slot_count) (slot_below nn cc' p q got sh.roomy pair) in
       let here : i < length s.words = subst (λ (z : ℕ). i < z) (sym sh.word_count) (head_below nn p q pair) in let busy' : taken_from p b.middle ≡ Some x = ap (taken_from p) busy ∙ taken_here p x in
-      let lived = legal_got (machines_of key) sh.known p q apart x all arm chosen has (getting p x next b) sh.legal (ap (λ (z : Part). state_of (slice_get (machines_of key) q) z.state) is ∙ stands) refl (ap (λ (z : Part). z.history ++ got_act p x ∷ []) (sym is))
+      let lived = legal_got (machines_of key) sh.known p q apart x all arm picked has (getting p x next b) sh.legal (ap (λ (z : Part). state_of (slice_get (machines_of key) q) z.state) is ∙ stands) refl (ap (λ (z : Part). z.history ++ got_act p x ∷ []) (sym is))
       (subst (λ (z : Part). get_elem? (parcels_sent q a.history) (length (parcels_got p z.history)) ≡ some x) (sym is) (fl.takes x busy')) in (
         with_part q (getting p x next b) v,
         gives,

@@ -24,8 +24,9 @@ use Rattle.std.proofs.lemmas.Option.{slice_get_within}
 use Rattle.rs_core.proofs.Stands.{here-is}
 use Rattle.rs_slots.specs.declared.parcels.Parcel.{Parcel}
 use Rattle.rs_rings.specs.declared.views.Part.{Part}
-use Rattle.rs_rings.specs.Acts.{numbered, sent_act, got_act, message_of, HasFittingArm, Happened}
-use Rattle.rs_rings.specs.Rule.{parcels_sent, parcels_got, parcel_sent, parcel_got, configuration_of, histories_of, AreLegal}
+use Rattle.rs_rings.specs.Acts.{numbered, sent_act, got_act, message_of, Happened, parcels_sent, parcels_got, parcel_sent, parcel_got}
+use Rattle.rs_rings.specs.Rule.{configuration_of, histories_of, AreLegal}
+use Rattle.rs_rings.specs.Steps.{HasFittingArm}
 use Rattle.rs_rings.proofs.Parts.{at_put, put_case}
 
 pub last : {A B : Type 0} (f : A → List B) (xs : List A) (x : A) → flat_map f (xs ++ x ∷ []) ≡ flat_map f xs ++ f x
@@ -73,10 +74,7 @@ module _ (ms : List Machine_data) (known : ℕ → Part) where
       subst (λ (z : (ℕ → History) × Configuration). IsLegal ms z.0 z.1)
       (λ i. ((λ r. hs r i), record { at = λ r. ss r i; queue = λ x y. map message_of (drop (length (parcels_got x (hs y i))) (parcels_sent y (hs x i))) })) lives
 
-  module _ (p q : ℕ) (apart : p ≢ q) (m : Parcel) (arms : List Arm) (arm : Arm) (chosen : arm_with arms m.label ≡ Some arm) (has : HasSort m.value arm.sort) where
-    abbrev at : (place : ℕ) × (slice_get arms place ≡ Some arm) × (arm.label ≡ m.label)
-    at = arm_at arms m.label arm chosen
-
+  module _ (p q : ℕ) (apart : p ≢ q) (m : Parcel) (arms : List Arm) (arm : Arm) (at : (place : ℕ) × (slice_get arms place ≡ Some arm) × (arm.label ≡ m.label)) (has : HasSort m.value arm.sort) where
     pub sends : (a' : Part) → state_at ms (configuration_of known) p ≡ Some (Puts (numbered q) arms) → a'.state ≡ arm.next → a'.history ≡ (known p).history ++ sent_act q m ∷ [] → length (parcels_got p (known q).history) ≤ length (parcels_sent q (known p).history)
         → (step : Sends ms (configuration_of known) p at.0 m.value (configuration_of (at_put known p a'))) × (Sent step.peer step.arm.label m.value ≡ sent_act q m)
     sends a' puts st hist le = let known' : ℕ → Part = at_put known p a' in (

@@ -11,8 +11,10 @@ use Rattle.rs_rings.specs.declared.views.Part.{Part}
 use Rattle.rs_rings.specs.declared.views.View.{View}
 use Rattle.rs_rings.specs.declared.views.Key.{Key}
 use Rattle.rs_slots.specs.Places.{IsPair}
+use Rattle.rs_rings.specs.Acts.{parcels_sent, parcels_got}
 use Rattle.rs_rings.specs.Places.{head_of, tail_of, place_of}
-use Rattle.rs_rings.specs.Rule.{RingRule, ring_facts, AllRings, parcels_sent, parcels_got, last_found, is_putting, taken_from}
+use Rattle.rs_rings.specs.Rule.{RingRule, ring_facts, AllRings}
+use Rattle.rs_rings.specs.Views.{last_found, is_putting, taken_from}
 use Rattle.rs_rings.proofs.Parts.{at_put, put_case}
 
 abbrev pub Homes : Type 0

@@ -8,8 +8,8 @@ use lib.ListN.{get_elem?}
 use Rattle.atomic_table.proofs.Lists.{at_set, set_here, set_else}
 use Rattle.rs_rings.specs.declared.views.Part.{Part}
 use Rattle.rs_rings.specs.declared.views.View.{View}
-use Rattle.rs_rings.specs.Rule.{speaks, the_part, put_part, Spoken}
-use Rattle.rs_rings.specs.Steps.{with_part}
+use Rattle.rs_rings.specs.Rule.{Spoken}
+use Rattle.rs_rings.specs.Views.{speaks, the_part, put_part, with_part}
 use Rattle.rs_rings.proofs.OneRing.{at_below}
 
 abbrev pub at_put : {A : Type 0} → (ℕ → A) → ℕ → A → ℕ → A

@@ -19,12 +19,11 @@ use Rattle.rs_core.specs.Histories.{Action, Sent, Got, History}
 use Rattle.rs_rings.proofs.Arms.{arm_at, arm_found}
 use Rattle.rs_core.proofs.Stands.{here-is}
 use Rattle.rs_slots.specs.declared.parcels.Parcel.{Parcel}
-use Rattle.rs_rings.specs.Acts.{numbered, sent_act, got_act, MayPut, arms_in}
-use Rattle.rs_rings.specs.Rows.{row_at, with_sent_count, with_got_count, new_row, either_row, row_at_start}
-use Rattle.rs_rings.specs.Passes.{RowShows, IsBetweenCalls, CanPut, CanTake, IsChanged, starting}
-use Rattle.rs_rings.specs.Rule.{speaks, the_part, parcels_sent, parcels_got, parcel_sent, parcel_got, without, left_by, alone, joined, start_of}
-use Rattle.rs_rings.specs.Told.{IsAfter}
-use Rattle.rs_rings.specs.Steps.{gaining, sending, taking, getting}
+use Rattle.rs_rings.specs.Acts.{numbered, sent_act, got_act, MayPut, parcels_sent, parcels_got, parcel_sent, parcel_got}
+use Rattle.rs_rings.specs.Passes.{CanPut, CanTake, IsChanged}
+use Rattle.rs_rings.specs.Rows.{row_at, with_sent_count, with_got_count, new_row, either_row, row_at_start, RowShows, IsBetweenCalls}
+use Rattle.rs_rings.specs.Told.{arms_in, IsAfter}
+use Rattle.rs_rings.specs.Views.{starting, speaks, the_part, without, left_by, alone, joined, start_of, gaining, sending, taking, getting}
 use Rattle.rs_rings.specs.declared.rows.Row.{Row}
 use Rattle.rs_rings.specs.declared.views.Middle.TheVariants.{Idle}
 use Rattle.rs_rings.specs.declared.views.Part.{Part}
@@ -197,23 +196,26 @@ kept_first ms items small some' none' = let n : ℕ = length ms in record {
 }
 
 -- what conditions of the calls give
-pub may_put : (ms : List Machine_data) (p : ℕ) (q : Role) (s : ℕ) (x : Parcel) (next : ℕ) → AreWellFormed ms → (can : CanPut ms p q s x) → IfSome (arm_with can.arms x.label) (λ a. next ≡ a.next) → MayPut ms p q.0 s x next
-may_put ms p q s x next well_formed can goes = by (arm_with can.arms x.label) refl goes
+pub may_put : (ms : List Machine_data) (p : ℕ) (q : Role) (s : ℕ) (x : Parcel) (next : ℕ) → AreWellFormed ms → (can : CanPut ms p q s x) → IfSome (arm_with can.1.arms x.label) (λ a. next ≡ a.next) → MayPut ms p q.0 s x next
+may_put ms p q s x next well_formed can goes = by (arm_with may.arms x.label) refl goes
   where
-    by : (o : Option Arm) → arm_with can.arms x.label ≡ o → IfSome o (λ a. next ≡ a.next) → MayPut ms p q.0 s x next
-    by None e g = absurd (arm_found can.arms x.label can.place can.arm can.picks can.same_label e)
-    by (Some arm) e g = let found = arm_at can.arms x.label arm e in
-        let at = here-is (slice_get ms p) s (Puts q can.arms) can.stands in
-        let once : can.place ≡ found.0 = ((well_formed.fits p at.0 at.1).puts s q can.arms at.2).once can.place found.0 can.arm arm can.picks found.1 (can.same_label ∙ sym found.2) in
-        let same' : Some can.arm ≡ Some arm = sym can.picks ∙ ap (slice_get can.arms) once ∙ found.1 in
-        let same : can.arm ≡ arm = cc in
-        record { arms = can.arms; arm = arm; stands = can.stands; chosen = e; has = subst (λ (a : Arm). HasSort x.value a.sort) same can.has; goes = g }
+    may : MayPut ms p q.0 s x can.0
+    may = can.1
 
-pub some_arm : (ms : List Machine_data) (p : ℕ) (q : Role) (s : ℕ) (x : Parcel) → (can : CanPut ms p q s x) → (arm : Arm) × (arm_with can.arms x.label ≡ Some arm)
-some_arm ms p q s x can = by (arm_with can.arms x.label) refl
+    by : (o : Option Arm) → arm_with may.arms x.label ≡ o → IfSome o (λ a. next ≡ a.next) → MayPut ms p q.0 s x next
+    by None e g = absurd (arm_found may.arms x.label may.place may.arm may.picks may.same_label e)
+    by (Some arm) e g = let found = arm_at may.arms x.label arm e in
+        let at = here-is (slice_get ms p) s (Puts q may.arms) may.puts in
+        let once : may.place ≡ found.0 = ((well_formed.fits p at.0 at.1).puts s q may.arms at.2).once may.place found.0 may.arm arm may.picks found.1 (may.same_label ∙ sym found.2) in
+        let same' : Some may.arm ≡ Some arm = sym may.picks ∙ ap (slice_get may.arms) once ∙ found.1 in
+        let same : may.arm ≡ arm = cc in
+        record { arms = may.arms; place = may.place; arm = may.arm; puts = may.puts; picks = may.picks; same_label = may.same_label; has_sort = may.has_sort; goes = g ∙ ap (λ (a : Arm). a.next) (sym same) }
+
+pub some_arm : (ms : List Machine_data) (p : ℕ) (q : Role) (s : ℕ) (x : Parcel) → (can : CanPut ms p q s x) → (arm : Arm) × (arm_with can.1.arms x.label ≡ Some arm)
+some_arm ms p q s x can = by (arm_with can.1.arms x.label) refl
   where
-    by : (o : Option Arm) → arm_with can.arms x.label ≡ o → (arm : Arm) × (arm_with can.arms x.label ≡ Some arm)
-    by None e = absurd (arm_found can.arms x.label can.place can.arm can.picks can.same_label e)
+    by : (o : Option Arm) → arm_with can.1.arms x.label ≡ o → (arm : Arm) × (arm_with can.1.arms x.label ≡ Some arm)
+    by None e = absurd (arm_found can.1.arms x.label can.1.place can.1.arm can.1.picks can.1.same_label e)
     by (Some arm) e = (arm, e)
 
 -- who acts, and with whom
@@ -223,11 +225,11 @@ pub record IsPairOf (ms : List Machine_data) (p q : ℕ) : Type 0 where
   pub differ : p ≢ q
 
 pub put_pair : (ms : List Machine_data) (p : ℕ) (q : Role) (s : ℕ) (x : Parcel) → AreWellFormed ms → CanPut ms p q s x → IsPairOf ms p q.0
-put_pair ms p q s x well_formed can = let at = here-is (slice_get ms p) s (Puts q can.arms) can.stands in let fit = (well_formed.fits p at.0 at.1).puts s q can.arms at.2 in
+put_pair ms p q s x well_formed can = let at = here-is (slice_get ms p) s (Puts q can.1.arms) can.1.puts in let fit = (well_formed.fits p at.0 at.1).puts s q can.1.arms at.2 in
     record { one = slice_get_within ms p at.0 at.1; other = fit.known; differ = λ e. fit.other (ap numbered (sym e ∙ sym (well_formed.role p at.0 at.1))) }
 
 pub take_pair : (ms : List Machine_data) (q : ℕ) (p : Role) (s : ℕ) → AreWellFormed ms → CanTake ms q p s → IsPairOf ms q p.0
-take_pair ms q p s well_formed can = let at = here-is (slice_get ms q) s (Takes p can.arms) can.stands in let fit = (well_formed.fits q at.0 at.1).takes s p can.arms at.2 in
+take_pair ms q p s well_formed can = let at = here-is (slice_get ms q) s (Takes p can.arms) can.takes in let fit = (well_formed.fits q at.0 at.1).takes s p can.arms at.2 in
     record { one = slice_get_within ms q at.0 at.1; other = fit.known; differ = λ e. fit.other (ap numbered (sym e ∙ sym (well_formed.role q at.0 at.1))) }
 
 -- no more parcels than acts
@@ -236,8 +238,8 @@ few_parcels f one [] = omega arith
 few_parcels f one (a ∷ h) = let r = few_parcels f one h in let l = one a in let e = length-append (f a) (flat_map f h) in omega arith
 
 -- what the code reads
-pub put_arms : (ms : List Machine_data) (p : ℕ) (q : Role) (s s' : ℕ) (x : Parcel) (arms : List Arm) (can : CanPut ms p q s x) → s' ≡ s → IfSome (state_of (slice_get ms p) s') (λ st. arms ≡ arms_in st) → arms ≡ can.arms
-put_arms ms p q s s' x arms can e told = subst (λ (o : Option State). IfSome o (λ st. arms ≡ arms_in st)) (ap (λ (k : ℕ). state_of (slice_get ms p) k) e ∙ can.stands) told
+pub put_arms : (ms : List Machine_data) (p : ℕ) (q : Role) (s s' : ℕ) (x : Parcel) (arms : List Arm) (can : CanPut ms p q s x) → s' ≡ s → IfSome (state_of (slice_get ms p) s') (λ st. arms ≡ arms_in st) → arms ≡ can.1.arms
+put_arms ms p q s s' x arms can e told = subst (λ (o : Option State). IfSome o (λ st. arms ≡ arms_in st)) (ap (λ (k : ℕ). state_of (slice_get ms p) k) e ∙ can.1.puts) told
 
 pub some_is_some : (o : Option Arm) (arm : Arm) → o ≡ Some arm → IsSome o
 some_is_some o arm e = subst (λ (z : Option Arm). IsSome z) (sym e) (search rules)
@@ -261,3 +263,47 @@ few_got p h = few_parcels (parcel_got p) (one_got_few p) h
 
 pub changed : (p : ℕ) (y : Part) (v : View) (m : M) → IsAfter p y v m → IsChanged p y v m.0
 changed p y v m a = record { part = a.part; spoken = a.spoken; others = a.others }
+
+-- what a put knows of its sender p, of whom a is known, and of its receiver, by the counts that it reads
+pub record PutKnows (roles p q : ℕ) (a : Part) (state sent : ℕ) : Type 0 where
+  pub ring : (p < roles) × (q < roles) × (p ≢ q)
+  pub small : (p < 16) × (q < 16)
+  pub state_is : state ≡ a.state
+  pub sent_is : sent ≡ length (parcels_sent q a.history)
+  pub acts : sent < 9223372036854775808
+
+pub put_knows : (ms : List Machine_data) (roles p : ℕ) (q : Role) (m : M) (items : Items) (x : Parcel) (state sent got : ℕ) → length ms ≡ roles → roles ≤ 16 → AreWellFormed ms → IsBetweenCalls m items → speaks p m.0.parts ≡ true
+    → CanPut ms p q (the_part p m.0.parts).state x → length (the_part p m.0.parts).history < 9223372036854775808
+    → ((r : Row) → row_at items p ≡ Some r → (state ≡ r.state) × (slice_get r.sent q.0 ≡ Some sent) × (slice_get r.got q.0 ≡ Some got))
+    → PutKnows roles p q.0 (the_part p m.0.parts) state sent
+put_knows ms roles p q m items x state sent got many few well_formed kept says can short reads =
+    let a : Part = the_part p m.0.parts in let t = kept.rows p says in let k = reads t.0 t.1 in
+    let pair = put_pair ms p q a.state x well_formed can in
+    let one : p < roles = subst (λ (z : ℕ). p < z) many pair.one in
+    let other : q.0 < roles = subst (λ (z : ℕ). q.0 < z) many pair.other in
+    let small : p < 16 = omega arith in
+    let small' : q.0 < 16 = omega arith in
+    let is : sent ≡ length (parcels_sent q.0 a.history) = count_is t.0 t.0.sent q.0 sent (length (parcels_sent q.0 a.history)) k.1 (t.2.sent q.0 small') in
+    let f = few_sent q.0 a.history in
+    record { ring = (one, other, pair.differ); small = (small, small'); state_is = k.0 ∙ t.2.state; sent_is = is; acts = omega arith }
+
+-- .. and a take of its receiver q, of whom b is known
+pub record TakeKnows (p q : ℕ) (b : Part) (got : ℕ) : Type 0 where
+  pub small : (q < 16) × (p < 16)
+  pub got_is : got ≡ length (parcels_got p b.history)
+  pub acts : got < 9223372036854775808
+
+pub take_knows : (ms : List Machine_data) (roles : ℕ) (p : Role) (q : ℕ) (m : M) (items : Items) (state sent got : ℕ) → length ms ≡ roles → roles ≤ 16 → AreWellFormed ms → IsBetweenCalls m items → speaks q m.0.parts ≡ true
+    → CanTake ms q p (the_part q m.0.parts).state → length (the_part q m.0.parts).history < 9223372036854775808
+    → ((r : Row) → row_at items q ≡ Some r → (state ≡ r.state) × (slice_get r.sent p.0 ≡ Some sent) × (slice_get r.got p.0 ≡ Some got))
+    → TakeKnows p.0 q (the_part q m.0.parts) got
+take_knows ms roles p q m items state sent got many few well_formed kept says can short reads =
+    let b : Part = the_part q m.0.parts in let t = kept.rows q says in let k = reads t.0 t.1 in
+    let pair = take_pair ms q p b.state well_formed can in
+    let one : q < roles = subst (λ (z : ℕ). q < z) many pair.one in
+    let other : p.0 < roles = subst (λ (z : ℕ). p.0 < z) many pair.other in
+    let small : q < 16 = omega arith in
+    let small' : p.0 < 16 = omega arith in
+    let is : got ≡ length (parcels_got p.0 b.history) = count_is t.0 t.0.got p.0 got (length (parcels_got p.0 b.history)) k.2 (t.2.got p.0 small') in
+    let f = few_got p.0 b.history in
+    record { small = (small, small'); got_is = is; acts = omega arith }

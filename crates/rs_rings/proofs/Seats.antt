@@ -16,11 +16,13 @@ use Rattle.rs_core.specs.Choices.{AreWellFormed}
 use Rattle.rs_core.specs.Configurations.{Configuration, state_at, state_of}
 use Rattle.rs_core.specs.Histories.{History, IsLegal}
 use Rattle.rs_core.specs.Safety.{IsSafe, CanMove, MaySend, MayReceive, CanStep, AllEnded}
-use Rattle.rs_rings.specs.Acts.{message_of}
+use Rattle.rs_rings.specs.Acts.{message_of, parcels_sent, parcels_got}
+use Rattle.rs_rings.specs.Places.{head_of, tail_of, place_of}
+use Rattle.rs_rings.specs.Rule.{Spoken, Shows, machines_of, configuration_of, histories_of, first_view}
+use Rattle.rs_rings.specs.Told.{Ends}
+use Rattle.rs_rings.specs.Views.{speaks, the_part, history_in, left_in, first_part, first_parts, start_of, without, left_by, alone, joined, spent_view}
 use Rattle.rs_slots.specs.Places.{ring_count}
 use Rattle.rs_model.specs.declared.machines.State.TheVariants.{Done}
-use Rattle.rs_rings.specs.Places.{head_of, tail_of, place_of}
-use Rattle.rs_rings.specs.Rule.{speaks, the_part, Spoken, Shows, parcels_sent, parcels_got, machines_of, configuration_of, histories_of, histories_in, left_in, first_part, first_parts, first_view, start_of, without, left_by, alone, joined, spent_view, Ends}
 use Rattle.rs_rings.proofs.OneRing.{at_below, at_snoc_where}
 use Rattle.rs_rings.proofs.Parts.{at_put, put_case, the_role, known_is}
 use Rattle.rs_rings.proofs.Places.{slot_below}
@@ -77,7 +79,7 @@ bool_cases true = inl refl
 bool_cases false = inr refl
 
 module _ (n : ℕ) (owner : ℕ → ℕ) (known : ℕ → Part) (views : List View) (sp : Spoken n owner known views) (id : ℕ) (v : View) (at : get_elem? views id ≡ some v) where
-  spoken_split : (r : ℕ) → speaks r v.parts ≡ true → Spoken n (at_put owner r (length views)) known (set views id (left_by r v) ++ alone r v ∷ [])
+  pub spoken_split : (r : ℕ) → speaks r v.parts ≡ true → Spoken n (at_put owner r (length views)) known (set views id (left_by r v) ++ alone r v ∷ [])
   spoken_split r says = let mine = sp.only id v r at says in let kn = known_is n owner known views sp id v at r says in let role = the_role r v.parts says in let vs : List View = set views id (left_by r v) in let k : ℕ = length views in
       let long : length vs ≡ k = length-set views id (left_by r v) in record {
         each = λ y l. let e = sp.each y l in dite (ℕ_discrete y r)
@@ -105,7 +107,7 @@ module _ (n : ℕ) (owner : ℕ → ℕ) (known : ℕ → Part) (views : List Vi
             (at_snoc_where vs (alone r v) d j there);
       }
 
-  spoken_join : (other : ℕ) (w : View) → other ≢ id → get_elem? views other ≡ some w → Spoken n (λ y. if owner y == other then id else owner y) known (set (set views id (joined v w)) other spent_view)
+  pub spoken_join : (other : ℕ) (w : View) → other ≢ id → get_elem? views other ≡ some w → Spoken n (λ y. if owner y == other then id else owner y) known (set (set views id (joined v w)) other spent_view)
   spoken_join other w apart at' = let us : List View = set views id (joined v w) in let vs : List View = set us other spent_view in let there : get_elem? vs id ≡ some (joined v w) = set_else us other id spent_view (λ e. apart (sym e)) ∙ set_here views id (joined v w) (at_below views id v at) in record {
     each = λ y l. let e = sp.each y l in elim (eqb_tells (owner y) other) [
       | inl h ↦ let same : e.0 ≡ w = some-injective e.0 w (sym e.1 ∙ ap (get_elem? views) h.1 ∙ at') in
@@ -190,12 +192,12 @@ none_moves ms c ended (p, l, m) = by m
 pub ends : (key : Key) (id : ℕ) (v : View) (s : State (Option Parcel) View) → ((r : ℕ) → r < key.roles → speaks r v.parts ≡ true) → Seen (Shows key) id v s → Ends (machines_of key) key.roles v
 ends key id v s all t = let sh = t.0 in let n : ℕ = key.roles in let ms : List Machine_data = machines_of key in let last : Configuration = configuration_of sh.known in
     let kn = known_is n sh.owner sh.known s.views sh.spoken id v t.1 in
-    let same : (r : ℕ) → (sh.known r).history ≡ histories_in v r = λ r. dite (dec_le (suc r) n) (λ l. ap (λ (z : Part). z.history) (kn r (all r l)).1)
+    let same : (r : ℕ) → (sh.known r).history ≡ history_in v r = λ r. dite (dec_le (suc r) n) (λ l. ap (λ (z : Part). z.history) (kn r (all r l)).1)
     (λ no. let high : n ≤ r = omega arith in let quiet : speaks r v.parts ≡ false = ⊎_elim (λ says. absurd (no (sh.spoken.only id v r t.1 says).1)) (λ q. q) (bool_cases (speaks r v.parts)) in
     no_acts ms (histories_of sh.known) last sh.legal r (subst (λ (k : ℕ). k ≤ r) (sym sh.machine_count) high) ∙ sym (the_blank r v.parts quiet)) in
-    let legal : IsLegal ms (histories_in v) last = subst (λ (h : ℕ → History). IsLegal ms h last) (λ i r. same r i) sh.legal in
+    let legal : IsLegal ms (history_in v) last = subst (λ (h : ℕ → History). IsLegal ms h last) (λ i r. same r i) sh.legal in
     let states : (r : ℕ) → r < n → last.at r ≡ (the_part r v.parts).state = λ r l. ap (λ (z : Part). z.state) (kn r (all r l)).1 in
-    let queues : (p q : ℕ) → p < n → q < n → p ≢ q → (parcels_sent q (histories_in v p) ≡ parcels_got p (histories_in v q) ++ left_in v p q) × (last.queue p q ≡ map message_of (left_in v p q)) = λ p q a b apart.
+    let queues : (p q : ℕ) → p < n → q < n → p ≢ q → (parcels_sent q (history_in v p) ≡ parcels_got p (history_in v q) ++ left_in v p q) × (last.queue p q ≡ map message_of (left_in v p q)) = λ p q a b apart.
     let left : List Parcel = drop (length (parcels_got p (sh.known q).history)) (parcels_sent q (sh.known p).history) in
     let is : left ≡ left_in v p q = λ i. drop (length (parcels_got p (same q i))) (parcels_sent q (same p i)) in
     (ap (parcels_sent q) (sym (same p)) ∙ (sh.rings p q a b apart).order ∙ (λ i. parcels_got p (same q i) ++ is i), ap (λ (l : List Parcel). map message_of l) is) in
@@ -208,7 +210,7 @@ ends key id v s all t = let sh = t.0 in let n : ℕ = key.roles in let ms : List
           let all_over : AllEnded ms last = ⊎_elim (λ c. absurd (none_moves ms last ended c)) (λ a. a) (sh.safe.goes_on last (reached ms (histories_of sh.known) last sh.legal)) in (
             all_over,
             λ p q a b apart. let t = queues p q a b apart in let empty : left_in v p q ≡ [] = none_left (left_in v p q) (sym t.1 ∙ all_over.empty p q (subst (λ (k : ℕ). p < k) (sym sh.machine_count) a) (subst (λ (k : ℕ). q < k) (sym sh.machine_count) b) apart) in
-                t.0 ∙ ap (λ (l : List Parcel). parcels_got p (histories_in v q) ++ l) empty ∙ append-nil (parcels_got p (histories_in v q)),
+                t.0 ∙ ap (λ (l : List Parcel). parcels_got p (history_in v q) ++ l) empty ∙ append-nil (parcels_got p (history_in v q)),
           );
     }
 

@@ -13,12 +13,14 @@ use Rattle.rs_model.specs.declared.machines.State.{State}
 use Rattle.rs_model.specs.Data.{Machine_data}
 use Rattle.rs_core.specs.Configurations.{state_of}
 use Rattle.rs_core.specs.Core.{arm_with}
-use Rattle.rs_rings.specs.Acts.{numbered, sent_act, got_act, Happened, MayPut, MayTake, HasFittingArm, TakesFrom, arms_in}
-use Rattle.rs_rings.specs.Places.{Call, head_of, tail_of, place_of}
-use Rattle.rs_rings.specs.Rule.{Shows, parcels_sent, parcels_got, speaks, the_part, machines_of}
-use Rattle.rs_rings.specs.Steps.{with_part, sending, taking, getting, LoadsHead, StoresTail, LoadsTail, StoresHead, GivesFilled, GivesEmptied, own}
-use Rattle.rs_rings.specs.Told.{IsAfter}
+use Rattle.rs_rings.specs.Acts.{numbered, sent_act, got_act, Happened, MayPut, MayTake, parcels_sent, parcels_got}
+use Rattle.rs_rings.specs.Places.{head_of, tail_of, place_of}
+use Rattle.rs_rings.specs.Rule.{Shows, machines_of}
+use Rattle.rs_rings.specs.Steps.{HasFittingArm, Call, LoadsHead, StoresTail, LoadsTail, StoresHead, GivesFilled, GivesEmptied, own}
+use Rattle.rs_rings.specs.Told.{TakesFrom, arms_in, IsAfter}
+use Rattle.rs_rings.specs.Views.{speaks, the_part, with_part, sending, taking, getting}
 use Rattle.rs_rings.proofs.Parts.{the_role, speaks_put, the_put_here, the_put_other}
+use Rattle.rs_rings.proofs.Arms.{arm_at}
 use Rattle.rs_rings.proofs.FourSteps.{sees_head, stores_tail, sees_tail, stores_head}
 
 abbrev M : Type 0
@@ -62,13 +64,13 @@ module _ (key : Key) (w : Call) (n cap p q : ℕ) (kn : key.roles ≡ n) (kc : k
       → me ≡ (v, (place_of n cap p q sent, Some x) ∷ cs) → Allows (Shows key) slots id me i (λ _. new) (λ _. StoresTail w (step slots i new 0 none) me new)
   store_asks i at me v cs sent new x says below busy is more may here = subst (λ (i : ℕ). Allows (Shows key) slots id me i (λ _. new) (λ _. StoresTail w (step slots i new 0 none) me new)) (sym at) (lift (λ a b u. q < a → me ≡ (v, (place_of a b p q sent, Some x) ∷ cs) → Allows (Shows key) slots id me (tail_of a p q) (λ _. new) (λ _. StoresTail u (step slots (tail_of a p q) new 0 none) me new))
       (λ below' here'. subst (λ (m : M). Allows (Shows key) slots id m (tail_of key.roles p q) (λ _. new) (λ _. StoresTail (named key.roles key.capacity p q w.next w.arms (machines_of key)) (step slots (tail_of key.roles p q) new 0 none) m new))
-      (sym (here' ∙ (λ i. (v, (place_of key.roles key.capacity p q (is i), Some x) ∷ cs)))) (subst (λ (nx : ℕ). Allows (Shows key) slots id (v, (place_of key.roles key.capacity p q (length (parcels_sent q (the_part p v.parts).history)), Some x) ∷ cs) (tail_of key.roles p q) (λ _. new) (λ _. StoresTail (named key.roles key.capacity p q nx w.arms (machines_of key)) (step slots (tail_of key.roles p q) new 0 none) (v, (place_of key.roles key.capacity p q (length (parcels_sent q (the_part p v.parts).history)), Some x) ∷ cs) new)) (sym may.goes) (stores_tail key slots id v cs p q new apart x w.arms may.arms may.arm may.chosen may.has says below' busy (more ∙ ap (λ (k : ℕ). k + 1) is) may.stands))) below here)
+      (sym (here' ∙ (λ i. (v, (place_of key.roles key.capacity p q (is i), Some x) ∷ cs)))) (subst (λ (nx : ℕ). Allows (Shows key) slots id (v, (place_of key.roles key.capacity p q (length (parcels_sent q (the_part p v.parts).history)), Some x) ∷ cs) (tail_of key.roles p q) (λ _. new) (λ _. StoresTail (named key.roles key.capacity p q nx w.arms (machines_of key)) (step slots (tail_of key.roles p q) new 0 none) (v, (place_of key.roles key.capacity p q (length (parcels_sent q (the_part p v.parts).history)), Some x) ∷ cs) new)) (sym may.goes) (stores_tail key slots id v cs p q new apart x w.arms may.arms may.arm (may.place, may.picks, may.same_label) may.has_sort says below' busy (more ∙ ap (λ (k : ℕ). k + 1) is) may.puts))) below here)
 
   pub free_asks : (i : ℕ) → i ≡ head_of n p q → (me : M) (v : View) (cs : List (ℕ × Option Parcel)) (got new : ℕ) (x : Parcel) → speaks q v.parts ≡ true → p < n → (the_part q v.parts).middle ≡ Taking p x → got ≡ length (parcels_got p (the_part q v.parts).history) → new ≡ got + 1 → MayTake (machines_of key) q p (the_part q v.parts).state x w.next
       → me ≡ (v, (place_of n cap p q got, None) ∷ cs) → Allows (Shows key) slots id me i (λ _. new) (λ _. StoresHead w (step slots i new 0 none) me new)
   free_asks i at me v cs got new x says low busy is more may here = subst (λ (i : ℕ). Allows (Shows key) slots id me i (λ _. new) (λ _. StoresHead w (step slots i new 0 none) me new)) (sym at) (lift (λ a b u. p < a → me ≡ (v, (place_of a b p q got, None) ∷ cs) → Allows (Shows key) slots id me (head_of a p q) (λ _. new) (λ _. StoresHead u (step slots (head_of a p q) new 0 none) me new))
       (λ low' here'. subst (λ (m : M). Allows (Shows key) slots id m (head_of key.roles p q) (λ _. new) (λ _. StoresHead (named key.roles key.capacity p q w.next w.arms (machines_of key)) (step slots (head_of key.roles p q) new 0 none) m new))
-      (sym (here' ∙ (λ i. (v, (place_of key.roles key.capacity p q (is i), None) ∷ cs)))) (subst (λ (nx : ℕ). Allows (Shows key) slots id (v, (place_of key.roles key.capacity p q (length (parcels_got p (the_part q v.parts).history)), None) ∷ cs) (head_of key.roles p q) (λ _. new) (λ _. StoresHead (named key.roles key.capacity p q nx w.arms (machines_of key)) (step slots (head_of key.roles p q) new 0 none) (v, (place_of key.roles key.capacity p q (length (parcels_got p (the_part q v.parts).history)), None) ∷ cs) new)) (sym may.goes) (stores_head key slots id v cs p q new apart x w.arms may.arms may.arm may.chosen may.has says low' busy (more ∙ ap (λ (k : ℕ). k + 1) is) may.stands))) low here)
+      (sym (here' ∙ (λ i. (v, (place_of key.roles key.capacity p q (is i), None) ∷ cs)))) (subst (λ (nx : ℕ). Allows (Shows key) slots id (v, (place_of key.roles key.capacity p q (length (parcels_got p (the_part q v.parts).history)), None) ∷ cs) (head_of key.roles p q) (λ _. new) (λ _. StoresHead (named key.roles key.capacity p q nx w.arms (machines_of key)) (step slots (head_of key.roles p q) new 0 none) (v, (place_of key.roles key.capacity p q (length (parcels_got p (the_part q v.parts).history)), None) ∷ cs) new)) (sym may.goes) (stores_head key slots id v cs p q new apart x w.arms may.arms may.arm (may.place, may.picks, may.same_label) may.has_sort says low' busy (more ∙ ap (λ (k : ℕ). k + 1) is) may.takes))) low here)
 
   -- the same, of what a load told
   pub head_loaded : (st : Step (Option Parcel)) (m m' : M) (r : ℕ) → LoadsHead w st m r m' → LoadsHead (named n cap p q w.next w.arms (machines_of key)) st m r m'
@@ -117,7 +119,8 @@ pub found_next : (o : Option Arm) (arm : Arm) (next : ℕ) → o ≡ Some arm �
 found_next o arm next e h = subst (λ (o : Option Arm). IfSome o (λ a. next ≡ a.next)) e h
 
 pub may_take : (ms : List Machine_data) (p q s : ℕ) (m : Parcel) (next : ℕ) (arms : List Arm) → state_of (slice_get ms q) s ≡ Some (Takes (numbered p) arms) → HasFittingArm arms m → IfSome (arm_with arms m.label) (λ a. next ≡ a.next) → MayTake ms q p s m next
-may_take ms p q s m next arms st f h = record { arms = arms; arm = f.arm; stands = st; chosen = f.chosen; has = f.has; goes = found_next (arm_with arms m.label) f.arm next f.chosen h }
+may_take ms p q s m next arms st f h = let at = arm_at arms m.label f.arm f.chosen in
+    record { arms = arms; place = at.0; arm = f.arm; takes = st; picks = at.1; same_label = at.2; has_sort = f.has; goes = found_next (arm_with arms m.label) f.arm next f.chosen h }
 
 -- two changes of one part
 pub after_twice : (p : ℕ) (y z : Part) (v u : View) (m : M) → speaks p v.parts ≡ true → y.role ≡ p → u ≡ with_part p y v → IsAfter p z u m → IsAfter p z v m

@@ -1,10 +1,11 @@
-pub mod Places
 pub mod Acts
+pub mod Views
+pub mod Places
 pub mod Rule
+pub mod Shown
+pub mod Passes
+pub mod Closed
 pub mod Steps
 pub mod Told
 pub mod Rows
-pub mod Passes
-pub mod Closed
 pub mod Emptied
-pub mod Shown

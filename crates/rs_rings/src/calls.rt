@@ -1,12 +1,14 @@
-// The calls on a seat and its rows.
+// Puts and takes by a seat and the rows beside it.
 ghost use Rattle.std.specs.Prelude.{◌≡◌, ◌<◌, ◌^◌, true, length};
 ghost use Rattle.rs_core.specs.Choices.{AreWellFormed};
-ghost use Rattle.rs_rings.specs.Passes.{IsBetweenCalls, CanPut, CanTake, PutTells, TakeTells};
-ghost use Rattle.rs_rings.specs.Rule.{machines_of, speaks, the_part};
+ghost use Rattle.rs_rings.specs.Passes.{CanPut, CanTake, PutTells, TakeTells};
+ghost use Rattle.rs_rings.specs.Rows.{IsBetweenCalls};
+ghost use Rattle.rs_rings.specs.Rule.{machines_of};
+ghost use Rattle.rs_rings.specs.Views.{speaks, the_part};
 
 use crate::answers::{Got, Put, Took};
-use crate::tables::{RingTable, RingSeat, next_of};
 use crate::rows::Rows;
+use crate::tables::{RingSeat, RingTable, next_of};
 use rs_model::Role;
 use rs_slots::Parcel;
 
@@ -27,7 +29,7 @@ impl RingTable {
         requires acts { length (the_part sender.0 seat.old.me.0.parts).history < 2 ^ 63 }
         ensures table { seat.new.table_id ≡ seat.old.table_id }
         ensures kept { IsBetweenCalls seat.new.me rows.new.items }
-        ensures told { PutTells (machines_of self.now.board.shared.key) self.now.layout.capacity sender.0 receiver.0 parcel (the_part sender.0 seat.old.me.0.parts) seat.old.me.0 seat.new.me.0 result }
+        ensures told { PutTells (machines_of self.now.board.shared.key) self.now.layout.capacity sender.0 receiver.0 parcel seat.old.me.0 seat.new.me.0 result }
     {
         let counts = rows.counts(sender, receiver);
         let arms = self.arms_of(sender, counts.state);
@@ -58,7 +60,7 @@ impl RingTable {
         requires acts { length (the_part receiver.0 seat.old.me.0.parts).history < 2 ^ 63 }
         ensures table { seat.new.table_id ≡ seat.old.table_id }
         ensures kept { IsBetweenCalls seat.new.me rows.new.items }
-        ensures told { TakeTells (machines_of self.now.board.shared.key) sender.0 receiver.0 (the_part receiver.0 seat.old.me.0.parts) seat.old.me.0 seat.new.me.0 result }
+        ensures told { TakeTells (machines_of self.now.board.shared.key) receiver.0 sender.0 seat.old.me.0 seat.new.me.0 result }
     {
         let counts = rows.counts(receiver, sender);
         match self.look_take(seat, receiver, sender, counts.state, counts.got) {

@@ -1,4 +1,4 @@
-// Takes out what the slots hold when the table is closed.
+// What the slots of a closed table hold is taken out.
 ghost use Rattle.std.specs.Prelude.{◌≡◌, ◌⊎◌, ℕ, ◌+◌, ◌-◌, ◌*◌, ◌^◌, ◌<◌, ◌≤◌, List, [], ◌++◌, true, false, length, map, slice_get, slice_index_or, vec_len, vec_capacity};
 ghost use Rattle.std.specs.Mem.Slots.{slots_items, slots_filled, slots_len};
 ghost use Rattle.std.specs.Mem.Slots.Ownership.{Filled};
@@ -6,8 +6,8 @@ ghost use Rattle.rs_slots.specs.Places.{ring_count, slot_of};
 ghost use Rattle.rs_slots.specs.declared.parcels.Parcel.{Parcel};
 ghost use Rattle.rs_rings.specs.Closed.{loose_from, loose_in, sender_of, receiver_of};
 ghost use Rattle.rs_rings.specs.Emptied.{content_of, found, Emptied, RingHolds, AllHold};
-ghost use Rattle.rs_rings.specs.Passes.{IsBetweenCalls};
-ghost use Rattle.rs_rings.specs.Rule.{speaks};
+ghost use Rattle.rs_rings.specs.Rows.{IsBetweenCalls};
+ghost use Rattle.rs_rings.specs.Views.{speaks};
 
 use crate::loose::Loose;
 use crate::rows::Rows;

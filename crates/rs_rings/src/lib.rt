@@ -1,17 +1,17 @@
-//! Rings between roles, in one table of atomic words and slots.
+//! Bounded rings between roles, in one table of atomic words and slots that threads share without a lock.
 #![tactic(auto)]
 
 mod answers;
 mod calls;
 mod closed;
 mod emptying;
-mod tables;
 pub mod laws;
 mod loose;
 mod passes;
 mod plays;
 mod rings;
 mod rows;
+mod tables;
 mod views;
 
 pub use answers::{Got, Put};

@@ -1,25 +1,26 @@
-ghost use Rattle.std.specs.Prelude.{◌≡◌, ◌<◌, ◌≤◌, ◌^◌, ◌*◌, [], vec_capacity, ℕ, Some, true, length, slice_get, IfOk};
+ghost use Rattle.std.specs.Prelude.{◌≡◌, ◌<◌, ◌≤◌, ◌^◌, ◌*◌, [], vec_capacity, ℕ, Some, length, slice_get, IfOk};
 ghost use Rattle.rs_core.specs.Choices.{AreWellFormed};
 ghost use Rattle.rs_core.specs.Configurations.{state_of};
 ghost use Rattle.rs_core.specs.Safety.{IsSafe};
 ghost use Rattle.rs_model.specs.declared.machines.State.TheVariants.{Done};
 ghost use Rattle.rs_slots.specs.Places.{ring_count};
 ghost use Rattle.rs_rings.specs.Closed.{IsLeft, IsOver, loose_in};
-ghost use Rattle.rs_rings.specs.Passes.{CanPut, CanTake, PutTells, TakeTells, starting};
-ghost use Rattle.rs_rings.specs.Rule.{speaks, the_part, left_by, alone, joined};
+ghost use Rattle.rs_rings.specs.Passes.{CanPut, CanTake, PutTells, TakeTells};
+ghost use Rattle.rs_rings.specs.Views.{SpeaksFor, state_in, history_in, starting, left_by, alone, joined};
 
 use crate::answers::{Got, Put};
 use crate::closed::Closed;
-use crate::tables::RingTable;
 use crate::loose::Loose;
 use crate::passes::Pass;
 use crate::rows::Rows;
+use crate::tables::RingTable;
 use rs_model::{Machine, NoMemory, Role};
 use rs_slots::Parcel;
 use std::alloc::Global;
 use std::marker::Model;
 
-/// A ring for each ordered pair of different roles.
+/// Bounded first-in-first-out rings between the roles of a session, one for each ordered pair of different roles. Threads
+/// share them by `&Rings`, each with a pass of its own; no call takes a lock or waits for another thread.
 #[derive(Drop)]
 pub struct Rings {
     inner: RingTable,
@@ -38,7 +39,8 @@ impl Model for Rings {
 }
 
 impl Rings {
-    /// The rings of these machines, and the pass that speaks for all roles. No later call takes memory.
+    /// The rings of these machines, each with `capacity` slots, and the pass that speaks for all roles. It takes all the
+    /// memory that the rings and their passes ever use.
     pub fn begin(
         alloc: Global,
         machines: &[Machine],
@@ -58,10 +60,10 @@ impl Rings {
         Ok((Rings { inner }, Pass { seat, rows }))
     }
 
-    /// Cuts off a pass that speaks for the role alone.
+    /// Cuts off a pass that speaks for the role alone; `pass` no longer speaks for it.
     pub fn split(&self, pass: &mut Pass, role: Role) -> Pass
         requires table { pass.old.table ≡ self.now.table }
-        requires speaks { speaks role.0 pass.old.view.parts ≡ true }
+        requires speaks { SpeaksFor pass.old.view role.0 }
         ensures table { (pass.new.table ≡ pass.old.table) × (result.table ≡ pass.old.table) }
         ensures old { pass.new.view ≡ left_by role.0 pass.old.view }
         ensures new { result.view ≡ alone role.0 pass.old.view }
@@ -71,7 +73,7 @@ impl Rings {
         Pass { seat, rows }
     }
 
-    /// GivesFilled the roles of the other pass to the first.
+    /// Gives `pass` the roles of the other pass too.
     pub fn join(&self, pass: &mut Pass, other: Pass)
         requires table { (pass.old.table ≡ self.now.table) × (other.table ≡ self.now.table) }
         ensures table { pass.new.table ≡ pass.old.table }
@@ -82,37 +84,45 @@ impl Rings {
         pass.rows.join(rows);
     }
 
-    /// Puts the parcel into the ring, where it isn't full.
+    /// Puts the parcel into the ring from `sender` to `receiver`.
+    ///
+    /// It loads the ring's head word, once. Where the ring has a free slot it fills it, stores the tail word, and answers
+    /// `Done`: the sender has sent the parcel. Else it answers `Full`, and nothing has changed but what the pass knows of the
+    /// head word.
     pub fn put(&self, pass: &mut Pass, sender: Role, receiver: Role, parcel: Parcel) -> Put
         requires table { pass.old.table ≡ self.now.table }
-        requires speaks { speaks sender.0 pass.old.view.parts ≡ true }
-        requires can { CanPut self.now.machines sender.0 receiver (the_part sender.0 pass.old.view.parts).state parcel }
-        requires acts { length (the_part sender.0 pass.old.view.parts).history < 2 ^ 63 }
+        requires speaks { SpeaksFor pass.old.view sender.0 }
+        requires can { CanPut self.now.machines sender.0 receiver (state_in pass.old.view sender.0) parcel }
+        requires acts { length (history_in pass.old.view sender.0) < 2 ^ 63 }
         ensures table { pass.new.table ≡ pass.old.table }
-        ensures told { PutTells self.now.machines self.now.capacity sender.0 receiver.0 parcel (the_part sender.0 pass.old.view.parts) pass.old.view pass.new.view result }
+        ensures told { PutTells self.now.machines self.now.capacity sender.0 receiver.0 parcel pass.old.view pass.new.view result }
     {
         self.inner
             .put(&mut pass.seat, &mut pass.rows, sender, receiver, parcel)
     }
 
-    /// Takes the oldest parcel out of the ring, where there is one. No answer for a mismatch exists.
+    /// Takes the oldest parcel out of the ring from `sender` to `receiver`.
+    ///
+    /// It loads the ring's tail word, once. Where a parcel is there it empties its slot, stores the head word, and answers
+    /// `One`: the receiver has got the parcel, which fits its state. Else it answers `Empty`, and nothing has changed but
+    /// what the pass knows of the tail word.
     pub fn look_take(&self, pass: &mut Pass, receiver: Role, sender: Role) -> Got
         requires table { pass.old.table ≡ self.now.table }
-        requires speaks { speaks receiver.0 pass.old.view.parts ≡ true }
-        requires can { CanTake self.now.machines receiver.0 sender (the_part receiver.0 pass.old.view.parts).state }
-        requires acts { length (the_part receiver.0 pass.old.view.parts).history < 2 ^ 63 }
+        requires speaks { SpeaksFor pass.old.view receiver.0 }
+        requires can { CanTake self.now.machines receiver.0 sender (state_in pass.old.view receiver.0) }
+        requires acts { length (history_in pass.old.view receiver.0) < 2 ^ 63 }
         ensures table { pass.new.table ≡ pass.old.table }
-        ensures told { TakeTells self.now.machines sender.0 receiver.0 (the_part receiver.0 pass.old.view.parts) pass.old.view pass.new.view result }
+        ensures told { TakeTells self.now.machines receiver.0 sender.0 pass.old.view pass.new.view result }
     {
         self.inner
             .take(&mut pass.seat, &mut pass.rows, receiver, sender)
     }
 
-    /// Ends a session in which all roles have ended.
+    /// Ends a session in which all roles have ended. Every ring is empty.
     pub fn close(self, pass: Pass) -> Closed
         requires table { pass.table ≡ self.table }
-        requires all { (r : ℕ) → r < self.roles → speaks r pass.view.parts ≡ true }
-        requires ended { (r : ℕ) → r < self.roles → state_of (slice_get self.machines r) (the_part r pass.view.parts).state ≡ Some Done }
+        requires all { (r : ℕ) → r < self.roles → SpeaksFor pass.view r }
+        requires ended { (r : ℕ) → r < self.roles → state_of (slice_get self.machines r) (state_in pass.view r) ≡ Some Done }
         ensures closed { (result.machines ≡ self.machines) × (result.last ≡ pass.view) }
         ensures over { IsOver result }
     {
@@ -121,10 +131,10 @@ impl Rings {
         inner.close(seat)
     }
 
-    /// GivesFilled a session up. What the rings hold is dropped.
+    /// Gives a session up, wherever its roles stand. What the rings hold is dropped. It takes no memory.
     pub fn abandon(self, pass: Pass) -> Closed
         requires table { pass.table ≡ self.table }
-        requires all { (r : ℕ) → r < self.roles → speaks r pass.view.parts ≡ true }
+        requires all { (r : ℕ) → r < self.roles → SpeaksFor pass.view r }
         ensures closed { (result.machines ≡ self.machines) × (result.last ≡ pass.view) }
         ensures left { IsLeft result }
     {
@@ -133,18 +143,18 @@ impl Rings {
         inner.close(seat)
     }
 
-    /// The number of slots of all rings.
+    /// How many slots all rings have together: no more parcels can be under way.
     pub fn slots(&self) -> usize
         ensures { result ≡ ring_count self.now.roles * self.now.capacity }
     {
         self.inner.layout.slots()
     }
 
-    /// GivesFilled a session up, and hands out what the rings hold: ordered by sender, then by receiver, the oldest first.
-    /// It takes no memory.
+    /// Gives a session up, and hands out what the rings hold, in `loose`: ordered by sender, then by receiver, then the
+    /// oldest first. `loose` needs room for as many parcels as `slots` tells; no other memory is taken.
     pub fn close_left(self, pass: Pass, mut loose: Vec<Loose>) -> (Closed, Vec<Loose>)
         requires table { pass.table ≡ self.table }
-        requires all { (r : ℕ) → r < self.roles → speaks r pass.view.parts ≡ true }
+        requires all { (r : ℕ) → r < self.roles → SpeaksFor pass.view r }
         requires none { loose.items ≡ [] }
         requires room { ring_count self.roles * self.capacity ≤ vec_capacity loose }
         ensures closed { (result.0.machines ≡ self.machines) × (result.0.last ≡ pass.view) }

@@ -1,11 +1,11 @@
-// What a pass keeps at run time: for each role that it speaks for, its state, and how many parcels it has sent to and
-// got from each other role.
+// What a pass keeps at run time of each role that it speaks for, so that no call loads a word that its own role stores.
 ghost use Rattle.std.specs.Prelude.{◌≡◌, ℕ, ◌+◌, ◌==◌, ◌<◌, ◌≤◌, ◌^◌, List, Option, None, Some, slice_get, slice_set, slice_index_or, replicate, length, IfOk, OnOk, ◌≢◌, if◌then◌else◌};
 ghost use Rattle.rs_rings.specs.Rows.{row_at, with_sent_count, with_got_count, row_at_start, new_row, either_row};
 
 use rs_model::{Machine, NoMemory, Role};
 use std::alloc::Global;
 
+/// A role's state, and how many parcels it has sent to each other role and got from it.
 #[derive(Drop)]
 pub struct Row {
     pub state: u32,
@@ -13,6 +13,7 @@ pub struct Row {
     pub got: [u64; 16],
 }
 
+/// The rows of the roles that a pass speaks for, by their numbers.
 #[derive(Drop)]
 pub struct Rows {
     pub items: [Option<Box<Row>>; 16],
@@ -117,6 +118,7 @@ impl Rows {
     }
 }
 
+/// What a call reads of a role's row.
 #[derive(Clone, Copy)]
 pub struct Counts {
     pub state: u32,

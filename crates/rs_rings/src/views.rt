@@ -1,9 +1,11 @@
+// What the table's contracts see. No value of these types is made at run time but the key: a view is a ghost, and a pass
+// keeps at run time what it needs of it in its rows.
 use rs_model::{Label, Machine, Role, Value};
 use rs_slots::Parcel;
 use std::collections::LinkedList;
 use std::marker::Model;
 
-/// What a role did. No value of it is made.
+/// One action of a role's history.
 #[derive(Drop)]
 pub struct PastAction {
     sent: bool,
@@ -21,14 +23,15 @@ impl Model for PastAction {
     ghost view = { λ d. if d.sent then Sent d.peer d.label d.value else Got d.peer d.label d.value };
 }
 
-/// What a load of a peer's word found.
+/// One load of a word of the ring with a peer, and the number that it found.
 #[derive(Drop)]
 pub struct Load {
     pub peer: u8,
     pub found: u64,
 }
 
-/// Between which two steps of a call a role is: none; a put to the peer; a take of the parcel from the peer.
+/// Where a role is within a call: between calls it is `Idle`; between the load and the store of a put it holds the slot of
+/// its next parcel to that peer, and between those of a take the slot of the oldest parcel from that peer.
 #[derive(Drop)]
 pub enum Middle {
     Idle,
@@ -36,7 +39,8 @@ pub enum Middle {
     Taking(u8, Parcel),
 }
 
-/// What is known of one role.
+/// What a view knows of one role: the state of its machine, its history, its loads of the head words of its rings to others
+/// and of the tail words of the rings to it, the newest first, and where it is within a call.
 #[derive(Drop)]
 pub struct Part {
     pub role: u8,
@@ -47,13 +51,13 @@ pub struct Part {
     pub middle: Middle,
 }
 
-/// What a seat knows. No value of it is made.
+/// What a seat of the table knows: a part for each role that it speaks for.
 #[derive(Drop)]
 pub struct View {
     pub parts: LinkedList<Part>,
 }
 
-/// What is fixed.
+/// What stays the same as long as the table lives.
 #[derive(Drop)]
 pub struct Key {
     pub roles: u8,

@@ -1,6 +1,6 @@
 use Rattle.std.proofs.Common.{◌≡◌, ℕ, List, length, sym, ap, ◌∙◌, subst}
 use Rattle.rs_model.specs.Data.{Machine_data}
-use Rattle.rs_rings.specs.Rule.{Ends}
+use Rattle.rs_rings.specs.Told.{Ends}
 use Rattle.rs_rings.specs.declared.views.View.{View}
 use Rattle.rs_rings.proofs.Over.{is_left}
 use Rattle.rs_rings.proofs.rings.Rings.abandon.Goals as goal

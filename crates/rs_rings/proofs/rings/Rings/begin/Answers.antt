@@ -1,7 +1,8 @@
 use Rattle.std.proofs.Common.{◌≡◌, List, [], length, sym, ap, ◌∙◌, subst}
 use Rattle.rs_model.specs.Data.{Machine_data}
-use Rattle.rs_rings.specs.Passes.{IsBetweenCalls, starting}
-use Rattle.rs_rings.specs.Rule.{machines_of, first_view, first_parts}
+use Rattle.rs_rings.specs.Rows.{IsBetweenCalls}
+use Rattle.rs_rings.specs.Rule.{machines_of, first_view}
+use Rattle.rs_rings.specs.Views.{starting, first_parts}
 use Rattle.rs_rings.proofs.PassRows.{M, kept_first}
 use Rattle.rs_rings.proofs.rings.Rings.begin.Goals as goal
 

@@ -2,7 +2,8 @@ use Rattle.std.proofs.Common.{◌≡◌, ◌<◌, ℕ, List, Some, length, slice
 use Rattle.rs_model.specs.Data.{Machine_data}
 use Rattle.rs_model.specs.declared.machines.State.TheVariants.{Done}
 use Rattle.rs_core.specs.Configurations.{state_of}
-use Rattle.rs_rings.specs.Rule.{Ends, the_part}
+use Rattle.rs_rings.specs.Told.{Ends}
+use Rattle.rs_rings.specs.Views.{the_part}
 use Rattle.rs_rings.specs.declared.views.View.{View}
 use Rattle.rs_rings.proofs.Over.{is_over}
 use Rattle.rs_rings.proofs.rings.Rings.close.Goals as goal

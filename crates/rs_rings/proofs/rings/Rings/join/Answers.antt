@@ -1,6 +1,6 @@
 use Rattle.std.proofs.Common.{[], sym, ◌∙◌, subst}
-use Rattle.rs_rings.specs.Passes.{IsBetweenCalls}
-use Rattle.rs_rings.specs.Rule.{joined}
+use Rattle.rs_rings.specs.Rows.{IsBetweenCalls}
+use Rattle.rs_rings.specs.Views.{joined}
 use Rattle.rs_rings.specs.declared.views.View.{View}
 use Rattle.rs_rings.proofs.PassRows.{M, kept_joined}
 use Rattle.rs_rings.proofs.rings.Rings.join.Goals as goal

@@ -1,6 +1,6 @@
 use Rattle.std.proofs.Common.{◌≡◌, ℕ, [], true, sym, ap, ◌∙◌, subst}
-use Rattle.rs_rings.specs.Passes.{IsBetweenCalls}
-use Rattle.rs_rings.specs.Rule.{speaks, left_by}
+use Rattle.rs_rings.specs.Rows.{IsBetweenCalls}
+use Rattle.rs_rings.specs.Views.{speaks, left_by}
 use Rattle.rs_rings.specs.declared.views.View.{View}
 use Rattle.rs_rings.proofs.PassRows.{M, kept_left, kept_alone}
 use Rattle.rs_rings.proofs.rings.Rings.split.Goals as goal
