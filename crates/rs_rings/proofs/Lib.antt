@@ -1,0 +1,14 @@
+pub mod OneRing
+pub mod Parts
+pub mod Places
+pub mod Arms
+pub mod Legal
+pub mod OtherRings
+pub mod FourSteps
+pub mod Seats
+pub mod StepsAsked
+pub mod PassRows
+pub mod Over
+pub mod LeftOver
+pub mod Emptied
+pub mod Shown

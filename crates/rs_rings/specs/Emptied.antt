@@ -1,0 +1,40 @@
+-- Steps: slots that are emptied at the end.
+use Rattle.std.specs.Prelude.{◌≡◌, ◌⊎◌, ℕ, zero, suc, ◌+◌, ◌*◌, ◌%◌, ◌<◌, ◌≤◌, Bool, false, List, [], ◌∷◌, ◌++◌, length, slice_index_or, slice_get, Option, Some, None}
+use mathlib.Core.Option.{some, none}
+use mathlib.Core.Option as maybe
+use lib.ListN.{get_elem?}
+use Rattle.rs_slots.specs.Places.{ring_of, IsPair}
+use Rattle.rs_slots.specs.declared.parcels.Parcel.{Parcel}
+use Rattle.rs_rings.specs.Acts.{parcels_got}
+use Rattle.rs_rings.specs.Closed.{loose_from}
+use Rattle.rs_rings.specs.Views.{history_in, left_in}
+use Rattle.rs_rings.specs.declared.loose.Loose.{Loose}
+use Rattle.rs_rings.specs.declared.views.View.{View}
+
+-- what is found in one slot of the ring from p to q
+abbrev pub content_of : ℕ → ℕ → Option Parcel → List Loose
+content_of p q None = []
+content_of p q (Some x) = loose_from p q x ∷ []
+
+abbrev pub found_one : ℕ → ℕ → maybe.Option (Option Parcel) → List Loose
+found_one p q none = []
+found_one p q (some content) = content_of p q content
+
+-- .. and in m slots, beginning with the one at `from`
+abbrev pub found : List (Option Parcel) → ℕ → ℕ → ℕ → ℕ → List Loose
+found xs p q from zero = []
+found xs p q from (suc m) = found xs p q from m ++ found_one p q (get_elem? xs (from + m))
+
+-- the places from `low` up to `high` are empty, and no other has changed
+pub record Emptied (old new : List Bool) (low high : ℕ) : Type 0 where
+  pub inside : (k : ℕ) → low ≤ k → k < high → slice_index_or new k false ≡ false
+  pub outside : (k : ℕ) → (k < low) ⊎ (high ≤ k) → slice_index_or new k false ≡ slice_index_or old k false
+
+-- a ring's slots, which begin at `base` and of which so many parcels were got, hold these parcels in turn, and else nothing
+abbrev pub RingHolds : List (Option Parcel) → ℕ → ℕ → ℕ → List Parcel → Type 0
+RingHolds xs capacity base got left = (length left ≤ capacity) × ((i : ℕ) → i < capacity → get_elem? xs (base + (got + i) % capacity) ≡ some (slice_get left i))
+
+-- each ring's slots hold what is left in it
+abbrev pub AllHold : List (Option Parcel) → ℕ → ℕ → View → Type 0
+AllHold xs roles capacity v =
+    (p q : ℕ) → IsPair roles p q → RingHolds xs capacity (ring_of roles p q * capacity) (length (parcels_got p (history_in v q))) (left_in v p q)

@@ -1,0 +1,11 @@
+pub mod Acts
+pub mod Views
+pub mod Places
+pub mod Rule
+pub mod Shown
+pub mod Passes
+pub mod Closed
+pub mod Steps
+pub mod Told
+pub mod Rows
+pub mod Emptied

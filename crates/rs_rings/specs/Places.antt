@@ -1,0 +1,13 @@
+-- Believed: the words and slots of the ring from one role to another.
+use Rattle.std.specs.Prelude.{ℕ}
+use Rattle.rs_slots.specs.Places.{ring_of, head_word, tail_word, slot_of}
+
+abbrev pub head_of : ℕ → ℕ → ℕ → ℕ
+head_of roles p q = head_word (ring_of roles p q)
+
+abbrev pub tail_of : ℕ → ℕ → ℕ → ℕ
+tail_of roles p q = tail_word (ring_of roles p q)
+
+-- the slot of the ring's parcel number k, from 0
+abbrev pub place_of : ℕ → ℕ → ℕ → ℕ → ℕ → ℕ
+place_of roles capacity p q k = slot_of capacity (ring_of roles p q) k

@@ -1,0 +1,72 @@
+-- Steps: what the calls on a seat tell.
+use Rattle.std.specs.Prelude.{◌≡◌, ◌≢◌, ℕ, ◌+◌, ◌<◌, ◌≤◌, List, [], ◌∷◌, ◌++◌, map, Option, Some, None, slice_get}
+use Rattle.atomic_table.specs.Table.{Me}
+use Rattle.rs_model.specs.Data.{Machine_data}
+use Rattle.rs_model.specs.declared.graph.Arm.{Arm}
+use Rattle.rs_model.specs.declared.machines.State.{State}
+use Rattle.rs_model.specs.declared.machines.State.TheVariants.{Done, Puts, Takes}
+use Rattle.rs_core.specs.Configurations.{Configuration, state_of}
+use Rattle.rs_core.specs.Histories.{IsLegal}
+use Rattle.rs_core.specs.Safety.{AllEnded}
+use Rattle.rs_slots.specs.declared.parcels.Parcel.{Parcel}
+use Rattle.rs_rings.specs.Acts.{message_of, sent_act, got_act, parcels_sent, parcels_got, MayTake, Happened}
+use Rattle.rs_rings.specs.Steps.{HasFittingArm}
+use Rattle.rs_rings.specs.Views.{the_part, speaks, last_found, with_part, looked_head, gaining, sending, looked_tail, taking, getting, history_in, left_in}
+use Rattle.rs_rings.specs.declared.answers.Put.{Put}
+use Rattle.rs_rings.specs.declared.answers.Put.TheVariants as put
+use Rattle.rs_rings.specs.declared.answers.Looked.{Looked}
+use Rattle.rs_rings.specs.declared.answers.Looked.TheVariants.{Nothing, Found}
+use Rattle.rs_rings.specs.declared.answers.Took.{Took}
+use Rattle.rs_rings.specs.declared.answers.Took.TheVariants as took
+use Rattle.rs_rings.specs.declared.views.Part.{Part}
+use Rattle.rs_rings.specs.declared.views.View.{View}
+
+-- the arms of a state
+abbrev pub arms_in : State → List Arm
+arms_in Done = []
+arms_in (Puts q arms) = arms
+arms_in (Takes p arms) = arms
+
+-- the state takes from p
+abbrev pub TakesFrom : Option State → ℕ → Type 0
+TakesFrom None p = ⊥
+TakesFrom (Some Done) p = ⊥
+TakesFrom (Some (Puts q arms)) p = ⊥
+TakesFrom (Some (Takes r arms)) p = r.0 ≡ p
+
+-- what the seat knows of p is y now, all else that it knows is as in the view v, and it holds no slot
+pub record IsAfter (p : ℕ) (y : Part) (v : View) (m : Me (Option Parcel) View) : Type 0 where
+  pub part : the_part p m.0.parts ≡ y
+  pub empty : m.1 ≡ []
+  pub spoken : (r : ℕ) → speaks r m.0.parts ≡ speaks r v.parts
+  pub others : (r : ℕ) → r ≢ p → the_part r m.0.parts ≡ the_part r v.parts
+
+-- a put of x from p to q by a seat with the view v, of which p has sent so many before and stands in `next` behind it
+abbrev pub HasPut : List Machine_data → ℕ → ℕ → ℕ → ℕ → ℕ → Parcel → Part → View → Me (Option Parcel) View → Put → Type 0
+HasPut machines next p q capacity sent x a v m put.Done =
+    (n : ℕ) × (last_found q a.heads ≤ n) × (sent ≢ n + capacity) × Happened machines p a.history (sent_act q x) × IsAfter p (sending q x next (gaining q n a)) v m
+HasPut machines next p q capacity sent x a v m (put.Full s n back) =
+    (s ≡ sent) × (sent ≡ n + capacity) × (back ≡ x) × (last_found q a.heads ≤ n) × IsAfter p (looked_head q n a) v m
+
+-- a look of q for a parcel from p, of which q has got so many before; where one is found, its slot k is still with the seat
+abbrev pub HasLooked : List Arm → ℕ → ℕ → ℕ → ℕ → Part → View → Me (Option Parcel) View → Looked → Type 0
+HasLooked arms p q k got a v m (Nothing n) = (n ≡ got) × (last_found p a.tails ≤ n) × IsAfter q (looked_tail p n a) v m
+HasLooked arms p q k got a v m (Found n x) =
+    (got ≢ n) × (last_found p a.tails ≤ n) × HasFittingArm arms x × (m ≡ (with_part q (taking p x n a) v, (k, None) ∷ []))
+
+-- the whole take
+abbrev pub HasTaken : List Machine_data → ℕ → ℕ → ℕ → Part → View → Me (Option Parcel) View → Took → Type 0
+HasTaken machines p q got a v m (took.Nothing n) = (n ≡ got) × (last_found p a.tails ≤ n) × IsAfter q (looked_tail p n a) v m
+HasTaken machines p q got a v m (took.One x next) =
+    (n : ℕ) × (got ≢ n) × (last_found p a.tails ≤ n) × MayTake machines q p a.state x next × Happened machines q a.history (got_act p x) × IsAfter q (getting p x next (taking p x n a)) v m
+
+-- at the end: the histories in the last seat's view are legal, and lead to a configuration with the states in it and with
+-- queues of what was sent and not got
+pub record Ends (machines : List Machine_data) (roles : ℕ) (v : View) : Type 0 where
+  pub last : Configuration
+  pub legal : IsLegal machines (history_in v) last
+  pub states : (r : ℕ) → r < roles → last.at r ≡ (the_part r v.parts).state
+  pub queues : (p q : ℕ) → p < roles → q < roles → p ≢ q
+      → (parcels_sent q (history_in v p) ≡ parcels_got p (history_in v q) ++ left_in v p q) × (last.queue p q ≡ map message_of (left_in v p q))
+  pub over : ((r : ℕ) → r < roles → state_of (slice_get machines r) (the_part r v.parts).state ≡ Some Done)
+      → AllEnded machines last × ((p q : ℕ) → p < roles → q < roles → p ≢ q → parcels_sent q (history_in v p) ≡ parcels_got p (history_in v q))

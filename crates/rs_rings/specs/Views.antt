@@ -1,0 +1,120 @@
+-- Believed: what the views of a table know. A view has one part for each role that it speaks for.
+use Rattle.std.specs.Prelude.{◌≡◌, ℕ, zero, suc, ◌==◌, Bool, true, false, if◌then◌else◌, List, [], ◌∷◌, ◌++◌, length, drop, slice_get, Option, Some, None}
+use Rattle.rs_model.specs.Data.{Machine_data}
+use Rattle.rs_core.specs.Histories.{History}
+use Rattle.rs_slots.specs.declared.parcels.Parcel.{Parcel}
+use Rattle.rs_rings.specs.Acts.{sent_act, got_act, parcels_sent, parcels_got}
+use Rattle.rs_rings.specs.declared.views.Load.{Load}
+use Rattle.rs_rings.specs.declared.views.Middle.{Middle}
+use Rattle.rs_rings.specs.declared.views.Middle.TheVariants.{Idle, Putting, Taking}
+use Rattle.rs_rings.specs.declared.views.Part.{Part}
+use Rattle.rs_rings.specs.declared.views.View.{View}
+
+-- the number that was last read of the word of the ring with q, by loads with the newest first; 0 where none was
+abbrev pub last_found : ℕ → List Load → ℕ
+last_found q [] = 0
+last_found q (l ∷ ls) = if q == l.peer then l.found else last_found q ls
+
+-- whether the role is in the middle of a put to q
+abbrev pub is_putting : ℕ → Middle → Bool
+is_putting q Idle = false
+is_putting q (Putting r) = q == r
+is_putting q (Taking r x) = false
+
+-- the parcel from p that the role is in the middle of taking
+abbrev pub taken_from : ℕ → Middle → Option Parcel
+taken_from p Idle = None
+taken_from p (Putting r) = None
+taken_from p (Taking r x) = if p == r then Some x else None
+
+-- whether some part is that of role r, and the first that is
+abbrev pub speaks : ℕ → List Part → Bool
+speaks r [] = false
+speaks r (x ∷ xs) = if r == x.role then true else speaks r xs
+
+abbrev pub blank_part : ℕ → Part
+blank_part r = record { role = r; state = 0; history = []; heads = []; tails = []; middle = Idle }
+
+abbrev pub the_part : ℕ → List Part → Part
+the_part r [] = blank_part r
+the_part r (x ∷ xs) = if r == x.role then x else the_part r xs
+
+-- what a view knows of a role that it speaks for
+abbrev pub SpeaksFor : View → ℕ → Type 0
+SpeaksFor v r = speaks r v.parts ≡ true
+
+abbrev pub part_of : View → ℕ → Part
+part_of v r = the_part r v.parts
+
+abbrev pub state_in : View → ℕ → ℕ
+state_in v r = (the_part r v.parts).state
+
+abbrev pub history_in : View → ℕ → History
+history_in v r = (the_part r v.parts).history
+
+-- the parcels that p has sent to q and that q hasn't got, by a view that speaks for both
+abbrev pub left_in : View → ℕ → ℕ → List Parcel
+left_in v p q = drop (length (parcels_got p (history_in v q))) (parcels_sent q (history_in v p))
+
+-- the view with y in place of the part of role r
+abbrev pub put_part : ℕ → Part → List Part → List Part
+put_part r y [] = []
+put_part r y (x ∷ xs) = if r == x.role then y ∷ xs else x ∷ put_part r y xs
+
+abbrev pub with_part : ℕ → Part → View → View
+with_part r y v = record { parts = put_part r y v.parts }
+
+-- the part of a sender that has read n in the head word of its ring to q and found the ring full; that has read it, found
+-- room and gained a slot; and that has then sent the parcel and stands in the state `next`
+abbrev pub looked_head : ℕ → ℕ → Part → Part
+looked_head q n a = record { role = a.role; state = a.state; history = a.history; heads = record { peer = q; found = n } ∷ a.heads; tails = a.tails; middle = a.middle }
+
+abbrev pub gaining : ℕ → ℕ → Part → Part
+gaining q n a = record { role = a.role; state = a.state; history = a.history; heads = record { peer = q; found = n } ∷ a.heads; tails = a.tails; middle = Putting q }
+
+abbrev pub sending : ℕ → Parcel → ℕ → Part → Part
+sending q x next a = record { role = a.role; state = next; history = a.history ++ sent_act q x ∷ []; heads = a.heads; tails = a.tails; middle = Idle }
+
+-- the part of a receiver that has read n in the tail word of the ring from p and found the ring empty; that has read it and
+-- gained the slot with the parcel; and that has then got the parcel and stands in the state `next`
+abbrev pub looked_tail : ℕ → ℕ → Part → Part
+looked_tail p n a = record { role = a.role; state = a.state; history = a.history; heads = a.heads; tails = record { peer = p; found = n } ∷ a.tails; middle = a.middle }
+
+abbrev pub taking : ℕ → Parcel → ℕ → Part → Part
+taking p x n a = record { role = a.role; state = a.state; history = a.history; heads = a.heads; tails = record { peer = p; found = n } ∷ a.tails; middle = Taking p x }
+
+abbrev pub getting : ℕ → Parcel → ℕ → Part → Part
+getting p x next a = record { role = a.role; state = next; history = a.history ++ got_act p x ∷ []; heads = a.heads; tails = a.tails; middle = Idle }
+
+-- at the start the one view speaks for all roles; each stands in its machine's start state and has done nothing
+abbrev pub start_of : Option Machine_data → ℕ
+start_of None = 0
+start_of (Some m) = m.start
+
+abbrev pub first_part : List Machine_data → ℕ → Part
+first_part machines r = record { role = r; state = start_of (slice_get machines r); history = []; heads = []; tails = []; middle = Idle }
+
+abbrev pub first_parts : List Machine_data → ℕ → List Part
+first_parts machines zero = []
+first_parts machines (suc n) = first_part machines n ∷ first_parts machines n
+
+abbrev pub starting : List Machine_data → View
+starting machines = record { parts = first_parts machines (length machines) }
+
+-- a view that has given up role r, and the new view that speaks for r alone
+abbrev pub without : ℕ → List Part → List Part
+without r [] = []
+without r (x ∷ xs) = if r == x.role then without r xs else x ∷ without r xs
+
+abbrev pub left_by : ℕ → View → View
+left_by r v = record { parts = without r v.parts }
+
+abbrev pub alone : ℕ → View → View
+alone r v = record { parts = the_part r v.parts ∷ [] }
+
+-- a view that has taken in another, and the other, which speaks for no role any more
+abbrev pub joined : View → View → View
+joined v w = record { parts = v.parts ++ w.parts }
+
+abbrev pub spent_view : View
+spent_view = record { parts = [] }

@@ -1,0 +1,74 @@
+// Puts and takes by a seat and the rows beside it.
+ghost use Rattle.std.specs.Prelude.{◌≡◌, ◌<◌, ◌^◌, true, length};
+ghost use Rattle.rs_core.specs.Choices.{AreWellFormed};
+ghost use Rattle.rs_rings.specs.Passes.{CanPut, CanTake, PutTells, TakeTells};
+ghost use Rattle.rs_rings.specs.Rows.{IsBetweenCalls};
+ghost use Rattle.rs_rings.specs.Rule.{machines_of};
+ghost use Rattle.rs_rings.specs.Views.{speaks, the_part};
+
+use crate::answers::{Got, Put, Took};
+use crate::rows::Rows;
+use crate::tables::{RingSeat, RingTable, next_of};
+use rs_model::Role;
+use rs_slots::Parcel;
+
+impl RingTable {
+    pub fn put(
+        &self,
+        seat: &mut RingSeat,
+        rows: &mut Rows,
+        sender: Role,
+        receiver: Role,
+        parcel: Parcel,
+    ) -> Put
+        requires table { seat.old.table_id ≡ self.now.board.shared.table_id }
+        requires well_formed { AreWellFormed (machines_of self.now.board.shared.key) }
+        requires kept { IsBetweenCalls seat.old.me rows.old.items }
+        requires speaks { speaks sender.0 seat.old.me.0.parts ≡ true }
+        requires can { CanPut (machines_of self.now.board.shared.key) sender.0 receiver (the_part sender.0 seat.old.me.0.parts).state parcel }
+        requires acts { length (the_part sender.0 seat.old.me.0.parts).history < 2 ^ 63 }
+        ensures table { seat.new.table_id ≡ seat.old.table_id }
+        ensures kept { IsBetweenCalls seat.new.me rows.new.items }
+        ensures told { PutTells (machines_of self.now.board.shared.key) self.now.layout.capacity sender.0 receiver.0 parcel seat.old.me.0 seat.new.me.0 result }
+    {
+        let counts = rows.counts(sender, receiver);
+        let arms = self.arms_of(sender, counts.state);
+        let next = next_of(arms, parcel.label);
+        match self.put_to(seat, sender, receiver, counts.sent, parcel, next) {
+            Put::Done => {
+                rows.note_sent(sender, receiver, counts.sent + 1, next);
+                Put::Done
+            }
+            Put::Full {
+                sent,
+                taken,
+                parcel,
+            } => Put::Full {
+                sent,
+                taken,
+                parcel,
+            },
+        }
+    }
+
+    pub fn take(&self, seat: &mut RingSeat, rows: &mut Rows, receiver: Role, sender: Role) -> Got
+        requires table { seat.old.table_id ≡ self.now.board.shared.table_id }
+        requires well_formed { AreWellFormed (machines_of self.now.board.shared.key) }
+        requires kept { IsBetweenCalls seat.old.me rows.old.items }
+        requires speaks { speaks receiver.0 seat.old.me.0.parts ≡ true }
+        requires can { CanTake (machines_of self.now.board.shared.key) receiver.0 sender (the_part receiver.0 seat.old.me.0.parts).state }
+        requires acts { length (the_part receiver.0 seat.old.me.0.parts).history < 2 ^ 63 }
+        ensures table { seat.new.table_id ≡ seat.old.table_id }
+        ensures kept { IsBetweenCalls seat.new.me rows.new.items }
+        ensures told { TakeTells (machines_of self.now.board.shared.key) receiver.0 sender.0 seat.old.me.0 seat.new.me.0 result }
+    {
+        let counts = rows.counts(receiver, sender);
+        match self.look_take(seat, receiver, sender, counts.state, counts.got) {
+            Took::One { parcel, next } => {
+                rows.note_got(receiver, sender, counts.got + 1, next);
+                Got::One(parcel)
+            }
+            Took::Nothing { seen } => Got::Empty { seen },
+        }
+    }
+}

@@ -1,0 +1,20 @@
+use crate::rows::Rows;
+use crate::tables::RingSeat;
+use std::marker::Model;
+
+/// Speaks for a set of roles of one session over rings: only who holds it can act for them. It must be spent.
+pub struct Pass {
+    pub(crate) seat: RingSeat,
+    pub(crate) rows: Rows,
+}
+
+impl Model for Pass {
+    ghost use Rattle.rs_rings.specs.Passes.{Pass_data};
+    ghost use Rattle.rs_rings.specs.Rows.{IsBetweenCalls};
+
+    ghost Value = { Pass_data };
+
+    ghost view = { λ p. record { table = p.seat.table_id; view = p.seat.me.0 } };
+
+    ghost invariant = { λ p. IsBetweenCalls p.seat.me p.rows.items };
+}

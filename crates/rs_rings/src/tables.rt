@@ -1,0 +1,424 @@
+// The table and its steps. What a call has to know of its roles without a load, their states and counts, the caller keeps.
+ghost use Rattle.std.specs.Prelude.{◌≡◌, ℕ, ◌+◌, ◌*◌, ◌<◌, ◌≤◌, List, [], ◌∷◌, slice_get, vec_len, vec_capacity, IsSome, IfSome, IfOk, true, length, ◌^◌, ◌≢◌, Some, None};
+ghost use Rattle.rs_core.specs.Choices.{AreWellFormed};
+ghost use Rattle.rs_core.specs.Configurations.{state_of};
+ghost use Rattle.rs_core.specs.Core.{arm_with};
+ghost use Rattle.rs_core.specs.Safety.{IsSafe};
+ghost use Rattle.rs_model.specs.declared.machines.State.TheVariants.{Takes};
+ghost use Rattle.rs_slots.specs.Places.{ring_count};
+ghost use Rattle.rs_rings.specs.Acts.{Happened, MayPut, MayTake, sent_act, got_act, parcels_sent, parcels_got};
+ghost use Rattle.rs_rings.specs.Closed.{loose_in};
+ghost use Rattle.rs_rings.specs.Places.{head_of, tail_of, place_of};
+ghost use Rattle.rs_rings.specs.Rows.{IsBetweenCalls};
+ghost use Rattle.rs_rings.specs.Rule.{machines_of, first_view};
+ghost use Rattle.rs_rings.specs.Steps.{HasFittingArm};
+ghost use Rattle.rs_rings.specs.Told.{arms_in, TakesFrom, Ends, HasPut, HasLooked, HasTaken, IsAfter};
+ghost use Rattle.rs_rings.specs.Views.{the_part, speaks, left_by, alone, joined, with_part, getting};
+ghost use Rattle.rs_rings.specs.declared.views.Middle.TheVariants.{Idle, Taking};
+
+use crate::answers::{Looked, Put, Took};
+use crate::closed::Closed;
+use crate::emptying::empty_all;
+use crate::loose::Loose;
+use crate::plays::{
+    CallName, JoinPasses, LoadHead, LoadTail, RingTableRule, RoleName, SplitRole, StoreHead,
+    StoreTail,
+};
+use crate::rows::Rows;
+use crate::views::{Key, View};
+use atomic_table::{Perch, Seat, Table};
+use rs_model::{Arm, Label, Machine, NoMemory, Role, State};
+use rs_slots::{Layout, Parcel};
+use std::alloc::Global;
+use std::marker::Brand;
+
+pub type Board = Table<Option<Parcel>, View, Key, RingTableRule, Global>;
+
+pub type RingSeat = Seat<Option<Parcel>, View>;
+
+/// The table, its layout, and the machines beside it.
+#[derive(Drop)]
+pub struct RingTable {
+    pub board: Board,
+    pub layout: Layout,
+    pub capacity: u16,
+    pub machines: Vec<Machine>,
+    pub ghost keyed: { (board.shared.key.roles ≡ layout.roles) × (board.shared.key.capacity ≡ layout.capacity) },
+    pub ghost same: { machines_of board.shared.key ≡ machines.items },
+    pub ghost sized: { layout.capacity ≡ capacity },
+    pub ghost wide: { board.shared.table_id.words ≡ 2 * ring_count layout.roles },
+    pub ghost machine_count: { length machines.items ≡ layout.roles },
+}
+
+impl RingTable {
+    pub fn begin(
+        alloc: Global,
+        machines: Vec<Machine>,
+        capacity: u16,
+    ) -> Result<(RingTable, RingSeat), NoMemory>
+        requires roles { (2 ≤ vec_len machines) × (vec_len machines ≤ 16) }
+        requires capacity { (1 ≤ capacity) × (capacity ≤ 1024) }
+        requires safe { IsSafe machines.items }
+        requires well_formed { AreWellFormed machines.items }
+        ensures table { IfOk result (λ t. t.1.table_id ≡ t.0.board.shared.table_id) }
+        ensures first { IfOk result (λ t. t.1.me ≡ (first_view t.0.board.shared.key, [])) }
+        ensures key { IfOk result (λ t. (t.0.layout.roles ≡ vec_len machines) × (t.0.layout.capacity ≡ capacity) × (machines_of t.0.board.shared.key ≡ machines.items)) }
+    {
+        let roles = machines.len() as u8;
+        let layout = Layout::new(roles, capacity);
+        let key = Key {
+            roles,
+            capacity,
+            machines,
+        };
+        let words = Vec::from_elem(alloc, 0u64, layout.words())?;
+        let (board, seat) = Table::vacant(alloc, words.as_slice(), layout.slots(), &key)?;
+        let Key {
+            roles: _,
+            capacity,
+            machines,
+        } = key;
+        Ok((
+            RingTable {
+                board,
+                layout,
+                capacity,
+                machines,
+            },
+            seat,
+        ))
+    }
+
+    fn head_word(&self, sender: Role, receiver: Role) -> usize
+        requires ring { (sender.0 < self.now.layout.roles) × (receiver.0 < self.now.layout.roles) × (sender.0 ≢ receiver.0) }
+        ensures value { result ≡ head_of self.now.layout.roles sender.0 receiver.0 }
+        ensures below { result < self.now.board.shared.table_id.words }
+    {
+        self.layout.head_word(self.layout.ring(sender, receiver))
+    }
+
+    fn tail_word(&self, sender: Role, receiver: Role) -> usize
+        requires ring { (sender.0 < self.now.layout.roles) × (receiver.0 < self.now.layout.roles) × (sender.0 ≢ receiver.0) }
+        ensures value { result ≡ tail_of self.now.layout.roles sender.0 receiver.0 }
+        ensures below { result < self.now.board.shared.table_id.words }
+    {
+        self.layout.tail_word(self.layout.ring(sender, receiver))
+    }
+
+    fn slot(&self, sender: Role, receiver: Role, count: u64) -> usize
+        requires ring { (sender.0 < self.now.layout.roles) × (receiver.0 < self.now.layout.roles) × (sender.0 ≢ receiver.0) }
+        ensures value { result ≡ place_of self.now.layout.roles self.now.layout.capacity sender.0 receiver.0 count }
+    {
+        self.layout.slot(self.layout.ring(sender, receiver), count)
+    }
+
+    // One load of the head word; where there is room, an exchange that fills the slot of the tail, and one store of the tail
+    // word.
+    fn put_as<N: CallName>(
+        &self,
+        seat: &mut RingSeat,
+        sender: Role,
+        receiver: Role,
+        sent: u64,
+        parcel: Parcel,
+        next: u32,
+    ) -> Put
+        requires table { seat.old.table_id ≡ self.now.board.shared.table_id }
+        requires ring { (sender.0 < self.now.layout.roles) × (receiver.0 < self.now.layout.roles) × (sender.0 ≢ receiver.0) }
+        requires speaks { speaks sender.0 seat.old.me.0.parts ≡ true }
+        requires idle { ((the_part sender.0 seat.old.me.0.parts).middle ≡ Idle) × (seat.old.me.1 ≡ []) }
+        requires may { MayPut (machines_of self.now.board.shared.key) sender.0 receiver.0 (the_part sender.0 seat.old.me.0.parts).state parcel N.call.next }
+        requires sent { sent ≡ length (parcels_sent receiver.0 (the_part sender.0 seat.old.me.0.parts).history) }
+        requires acts { sent < 2 ^ 63 }
+        requires next { N.call.next ≡ next }
+        requires name { (N.call.roles ≡ self.now.layout.roles) × (N.call.capacity ≡ self.now.layout.capacity) × (N.call.sender ≡ sender.0) × (N.call.receiver ≡ receiver.0) × (N.call.machines ≡ machines_of self.now.board.shared.key) }
+        ensures table { seat.new.table_id ≡ seat.old.table_id }
+        ensures done { HasPut (machines_of self.now.board.shared.key) N.call.next sender.0 receiver.0 self.now.layout.capacity sent parcel (the_part sender.0 seat.old.me.0.parts) seat.old.me.0 seat.new.me result }
+    {
+        let taken = self
+            .board
+            .shared
+            .load::<LoadHead<N>>(seat, self.head_word(sender, receiver));
+        if sent - taken == self.capacity as u64 {
+            return Put::Full {
+                sent,
+                taken,
+                parcel,
+            };
+        }
+        match self
+            .board
+            .shared
+            .exchange(seat, self.slot(sender, receiver, sent), Some(parcel))
+        {
+            None => {}
+            Some(_) => unreachable!(),
+        }
+        self.board
+            .shared
+            .store::<StoreTail<N>>(seat, self.tail_word(sender, receiver), sent + 1);
+        Put::Done
+    }
+
+    // One load of the tail word; where a parcel is there, an exchange that empties the slot of the head.
+    fn look_as<N: CallName>(
+        &self,
+        seat: &mut RingSeat,
+        receiver: Role,
+        sender: Role,
+        got: u64,
+        arms: &[Arm],
+    ) -> Looked
+        requires table { seat.old.table_id ≡ self.now.board.shared.table_id }
+        requires ring { (sender.0 < self.now.layout.roles) × (receiver.0 < self.now.layout.roles) × (sender.0 ≢ receiver.0) }
+        requires speaks { speaks receiver.0 seat.old.me.0.parts ≡ true }
+        requires idle { ((the_part receiver.0 seat.old.me.0.parts).middle ≡ Idle) × (seat.old.me.1 ≡ []) }
+        requires stands { state_of (slice_get (machines_of self.now.board.shared.key) receiver.0) (the_part receiver.0 seat.old.me.0.parts).state ≡ Some (Takes sender N.call.arms) }
+        requires got { got ≡ length (parcels_got sender.0 (the_part receiver.0 seat.old.me.0.parts).history) }
+        requires arms { N.call.arms ≡ arms.now }
+        requires name { (N.call.roles ≡ self.now.layout.roles) × (N.call.capacity ≡ self.now.layout.capacity) × (N.call.sender ≡ sender.0) × (N.call.receiver ≡ receiver.0) × (N.call.machines ≡ machines_of self.now.board.shared.key) }
+        ensures table { seat.new.table_id ≡ seat.old.table_id }
+        ensures looked { HasLooked N.call.arms sender.0 receiver.0 (place_of self.now.layout.roles self.now.layout.capacity sender.0 receiver.0 got) got (the_part receiver.0 seat.old.me.0.parts) seat.old.me.0 seat.new.me result }
+    {
+        let seen = self
+            .board
+            .shared
+            .load::<LoadTail<N>>(seat, self.tail_word(sender, receiver));
+        if seen == got {
+            return Looked::Nothing { seen };
+        }
+        match self
+            .board
+            .shared
+            .exchange(seat, self.slot(sender, receiver, got), None)
+        {
+            Some(parcel) => Looked::Found { seen, parcel },
+            None => unreachable!(),
+        }
+    }
+
+    // One store of the head word, which ends a take.
+    fn give_as<N: CallName>(
+        &self,
+        seat: &mut RingSeat,
+        receiver: Role,
+        sender: Role,
+        got: u64,
+        parcel: &Parcel,
+        next: u32,
+    )
+        requires table { seat.old.table_id ≡ self.now.board.shared.table_id }
+        requires ring { (sender.0 < self.now.layout.roles) × (receiver.0 < self.now.layout.roles) × (sender.0 ≢ receiver.0) }
+        requires speaks { speaks receiver.0 seat.old.me.0.parts ≡ true }
+        requires middle { ((the_part receiver.0 seat.old.me.0.parts).middle ≡ Taking sender.0 parcel.now) × (seat.old.me.1 ≡ (place_of self.now.layout.roles self.now.layout.capacity sender.0 receiver.0 got, None) ∷ []) }
+        requires may { MayTake (machines_of self.now.board.shared.key) receiver.0 sender.0 (the_part receiver.0 seat.old.me.0.parts).state parcel.now N.call.next }
+        requires got { got ≡ length (parcels_got sender.0 (the_part receiver.0 seat.old.me.0.parts).history) }
+        requires acts { got < 2 ^ 63 }
+        requires next { N.call.next ≡ next }
+        requires name { (N.call.roles ≡ self.now.layout.roles) × (N.call.capacity ≡ self.now.layout.capacity) × (N.call.sender ≡ sender.0) × (N.call.receiver ≡ receiver.0) × (N.call.machines ≡ machines_of self.now.board.shared.key) }
+        ensures table { seat.new.table_id ≡ seat.old.table_id }
+        ensures event { Happened (machines_of self.now.board.shared.key) receiver.0 (the_part receiver.0 seat.old.me.0.parts).history (got_act sender.0 parcel.now) }
+        ensures given { IsAfter receiver.0 (getting sender.0 parcel.now N.call.next (the_part receiver.0 seat.old.me.0.parts)) seat.old.me.0 seat.new.me }
+    {
+        self.board
+            .shared
+            .store::<StoreHead<N>>(seat, self.head_word(sender, receiver), got + 1);
+    }
+
+    fn split_as<N: RoleName>(&self, seat: &mut RingSeat, role: Role) -> RingSeat
+        requires table { seat.old.table_id ≡ self.now.board.shared.table_id }
+        requires speaks { speaks role.0 seat.old.me.0.parts ≡ true }
+        requires name { N.role ≡ role.0 }
+        requires ring { 0 < self.now.board.shared.table_id.words }
+        ensures tables { (seat.new.table_id ≡ seat.old.table_id) × (result.table_id ≡ seat.old.table_id) }
+        ensures old { seat.new.me ≡ (left_by role.0 seat.old.me.0, seat.old.me.1) }
+        ensures new { result.me ≡ (alone role.0 seat.old.me.0, []) }
+    {
+        self.board.shared.split_seat::<SplitRole<N>>(seat)
+    }
+
+    pub fn split(&self, seat: &mut RingSeat, role: Role) -> RingSeat
+        requires table { seat.old.table_id ≡ self.now.board.shared.table_id }
+        requires speaks { speaks role.0 seat.old.me.0.parts ≡ true }
+        ensures tables { (seat.new.table_id ≡ seat.old.table_id) × (result.table_id ≡ seat.old.table_id) }
+        ensures old { seat.new.me ≡ (left_by role.0 seat.old.me.0, seat.old.me.1) }
+        ensures new { result.me ≡ (alone role.0 seat.old.me.0, []) }
+    {
+        self.split_as::<Brand>(seat, role)
+    }
+
+    pub fn join(&self, seat: &mut RingSeat, other: RingSeat)
+        requires table { (seat.old.table_id ≡ self.now.board.shared.table_id) × (other.table_id ≡ self.now.board.shared.table_id) }
+        requires idle { other.me.1 ≡ [] }
+        ensures table { seat.new.table_id ≡ seat.old.table_id }
+        ensures both { seat.new.me ≡ (joined seat.old.me.0 other.me.0, seat.old.me.1) }
+    {
+        self.board.shared.join_seat::<JoinPasses>(seat, other);
+    }
+
+    pub fn close(self, seat: RingSeat) -> Closed
+        requires table { seat.table_id ≡ self.board.shared.table_id }
+        requires all { (r : ℕ) → r < self.layout.roles → speaks r seat.me.0.parts ≡ true }
+        ensures machines { result.machines ≡ machines_of self.board.shared.key }
+        ensures last { result.last ≡ seat.me.0 }
+        ensures ends { Ends (machines_of self.board.shared.key) self.layout.roles seat.me.0 }
+    {
+        let last = Perch::new(&seat, 0);
+        let RingTable {
+            board,
+            layout: _,
+            capacity: _,
+            machines,
+        } = self;
+        let mut closed = board.close_with(seat);
+        let mut i = 0;
+        while i < closed.slot_count() {
+            closed.take(i);
+            i += 1;
+        }
+        closed.free();
+        Closed { machines, last }
+    }
+
+    pub fn close_left(self, seat: RingSeat, rows: &Rows, loose: &mut Vec<Loose>) -> Closed
+        requires table { seat.table_id ≡ self.board.shared.table_id }
+        requires all { (r : ℕ) → r < self.layout.roles → speaks r seat.me.0.parts ≡ true }
+        requires kept { IsBetweenCalls seat.me rows.now.items }
+        requires none { loose.old.items ≡ [] }
+        requires room { vec_len loose.old + ring_count self.layout.roles * self.layout.capacity ≤ vec_capacity loose.old }
+        ensures machines { result.machines ≡ machines_of self.board.shared.key }
+        ensures last { result.last ≡ seat.me.0 }
+        ensures ends { Ends (machines_of self.board.shared.key) self.layout.roles seat.me.0 }
+        ensures loose { loose.new.items ≡ loose_in seat.me.0 self.layout.roles (ring_count self.layout.roles) }
+    {
+        let last = Perch::new(&seat, 0);
+        let RingTable {
+            board,
+            layout: _,
+            capacity,
+            machines,
+        } = self;
+        let mut closed = board.close_with(seat);
+        empty_all(&mut closed, machines.len(), capacity, &last, rows, loose);
+        closed.free();
+        Closed { machines, last }
+    }
+
+    pub fn put_to(
+        &self,
+        seat: &mut RingSeat,
+        sender: Role,
+        receiver: Role,
+        sent: u64,
+        parcel: Parcel,
+        next: u32,
+    ) -> Put
+        requires table { seat.old.table_id ≡ self.now.board.shared.table_id }
+        requires ring { (sender.0 < self.now.layout.roles) × (receiver.0 < self.now.layout.roles) × (sender.0 ≢ receiver.0) }
+        requires speaks { speaks sender.0 seat.old.me.0.parts ≡ true }
+        requires idle { ((the_part sender.0 seat.old.me.0.parts).middle ≡ Idle) × (seat.old.me.1 ≡ []) }
+        requires may { MayPut (machines_of self.now.board.shared.key) sender.0 receiver.0 (the_part sender.0 seat.old.me.0.parts).state parcel next }
+        requires sent { sent ≡ length (parcels_sent receiver.0 (the_part sender.0 seat.old.me.0.parts).history) }
+        requires acts { sent < 2 ^ 63 }
+        ensures table { seat.new.table_id ≡ seat.old.table_id }
+        ensures done { HasPut (machines_of self.now.board.shared.key) next sender.0 receiver.0 self.now.layout.capacity sent parcel (the_part sender.0 seat.old.me.0.parts) seat.old.me.0 seat.new.me result }
+    {
+        self.put_as::<Brand>(seat, sender, receiver, sent, parcel, next)
+    }
+
+    fn look(
+        &self,
+        seat: &mut RingSeat,
+        receiver: Role,
+        sender: Role,
+        got: u64,
+        arms: &[Arm],
+    ) -> Looked
+        requires table { seat.old.table_id ≡ self.now.board.shared.table_id }
+        requires ring { (sender.0 < self.now.layout.roles) × (receiver.0 < self.now.layout.roles) × (sender.0 ≢ receiver.0) }
+        requires speaks { speaks receiver.0 seat.old.me.0.parts ≡ true }
+        requires idle { ((the_part receiver.0 seat.old.me.0.parts).middle ≡ Idle) × (seat.old.me.1 ≡ []) }
+        requires stands { state_of (slice_get (machines_of self.now.board.shared.key) receiver.0) (the_part receiver.0 seat.old.me.0.parts).state ≡ Some (Takes sender arms.now) }
+        requires got { got ≡ length (parcels_got sender.0 (the_part receiver.0 seat.old.me.0.parts).history) }
+        ensures table { seat.new.table_id ≡ seat.old.table_id }
+        ensures looked { HasLooked arms.now sender.0 receiver.0 (place_of self.now.layout.roles self.now.layout.capacity sender.0 receiver.0 got) got (the_part receiver.0 seat.old.me.0.parts) seat.old.me.0 seat.new.me result }
+    {
+        self.look_as::<Brand>(seat, receiver, sender, got, arms)
+    }
+
+    fn give(
+        &self,
+        seat: &mut RingSeat,
+        receiver: Role,
+        sender: Role,
+        got: u64,
+        parcel: &Parcel,
+        next: u32,
+    )
+        requires table { seat.old.table_id ≡ self.now.board.shared.table_id }
+        requires ring { (sender.0 < self.now.layout.roles) × (receiver.0 < self.now.layout.roles) × (sender.0 ≢ receiver.0) }
+        requires speaks { speaks receiver.0 seat.old.me.0.parts ≡ true }
+        requires middle { ((the_part receiver.0 seat.old.me.0.parts).middle ≡ Taking sender.0 parcel.now) × (seat.old.me.1 ≡ (place_of self.now.layout.roles self.now.layout.capacity sender.0 receiver.0 got, None) ∷ []) }
+        requires may { MayTake (machines_of self.now.board.shared.key) receiver.0 sender.0 (the_part receiver.0 seat.old.me.0.parts).state parcel.now next }
+        requires got { got ≡ length (parcels_got sender.0 (the_part receiver.0 seat.old.me.0.parts).history) }
+        requires acts { got < 2 ^ 63 }
+        ensures table { seat.new.table_id ≡ seat.old.table_id }
+        ensures event { Happened (machines_of self.now.board.shared.key) receiver.0 (the_part receiver.0 seat.old.me.0.parts).history (got_act sender.0 parcel.now) }
+        ensures given { IsAfter receiver.0 (getting sender.0 parcel.now next (the_part receiver.0 seat.old.me.0.parts)) seat.old.me.0 seat.new.me }
+    {
+        self.give_as::<Brand>(seat, receiver, sender, got, parcel, next)
+    }
+
+    pub fn look_take(
+        &self,
+        seat: &mut RingSeat,
+        receiver: Role,
+        sender: Role,
+        state: u32,
+        got: u64,
+    ) -> Took
+        requires table { seat.old.table_id ≡ self.now.board.shared.table_id }
+        requires ring { (sender.0 < self.now.layout.roles) × (receiver.0 < self.now.layout.roles) × (sender.0 ≢ receiver.0) }
+        requires speaks { speaks receiver.0 seat.old.me.0.parts ≡ true }
+        requires idle { ((the_part receiver.0 seat.old.me.0.parts).middle ≡ Idle) × (seat.old.me.1 ≡ []) }
+        requires state { (state ≡ (the_part receiver.0 seat.old.me.0.parts).state) × TakesFrom (state_of (slice_get (machines_of self.now.board.shared.key) receiver.0) state) sender.0 }
+        requires got { got ≡ length (parcels_got sender.0 (the_part receiver.0 seat.old.me.0.parts).history) }
+        requires acts { got < 2 ^ 63 }
+        ensures table { seat.new.table_id ≡ seat.old.table_id }
+        ensures taken { HasTaken (machines_of self.now.board.shared.key) sender.0 receiver.0 got (the_part receiver.0 seat.old.me.0.parts) seat.old.me.0 seat.new.me result }
+    {
+        let arms = self.arms_of(receiver, state);
+        match self.look(seat, receiver, sender, got, arms) {
+            Looked::Nothing { seen } => Took::Nothing { seen },
+            Looked::Found { seen: _, parcel } => {
+                let next = next_of(arms, parcel.label);
+                self.give(seat, receiver, sender, got, &parcel, next);
+                Took::One { parcel, next }
+            }
+        }
+    }
+
+    pub fn arms_of(&self, role: Role, state: u32) -> &[Arm]
+        requires { IsSome (state_of (slice_get (machines_of self.now.board.shared.key) role.0) state) }
+        ensures { IfSome (state_of (slice_get (machines_of self.now.board.shared.key) role.0) state) (λ s. result.now ≡ arms_in s) }
+    {
+        match &self.machines[role.0 as usize].states[state as usize] {
+            State::Done => &[],
+            State::Puts { arms, .. } => arms.as_slice(),
+            State::Takes { arms, .. } => arms.as_slice(),
+        }
+    }
+}
+
+// the state to which the arm with that label leads
+pub fn next_of(arms: &[Arm], label: Label) -> u32
+    requires { IsSome (arm_with arms.now label) }
+    ensures { IfSome (arm_with arms.now label) (λ a. result ≡ a.next) }
+{
+    for arm in arms {
+        if arm.label.0 == label.0 {
+            return arm.next;
+        }
+    }
+    unreachable!()
+}
