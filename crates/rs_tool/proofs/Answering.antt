@@ -1,6 +1,6 @@
 -- What an answer that was made says of its document, and a call that wrote it of its source and sink.
 use Rattle.std.proofs.Common.{◌≡◌, ℕ, ◌≤◌, ◌<◌, ◌⊎◌, List, length, true, false, Option, Some, None, Result, Ok, Err, refl, sym, ap, subst, ◌∙◌, inl, inr}
-use Rattle.std.specs.Prelude.{IfOk, IfSome, codes}
+use Rattle.std.specs.Prelude.{IfOk, IfErr, IsErrAnd, IfSome, codes}
 use Rattle.std.specs.Io.KnownBytes.{Appends, Keeps, IsAtEnd}
 use Rattle.rs_io.specs.Prefix.{AppendsPrefix}
 use Rattle.rs_model.specs.Data.{Machine_data}
@@ -28,13 +28,17 @@ use Rattle.rs_tool.specs.declared.words.Task.{Task}
 use Rattle.rs_tool.specs.Answers.{Answers, CarriesOut, AnswersText, IsTooLong, IsFaulty, IsDocument, AnswersDocument}
 use Rattle.rs_tool.specs.Calls.{Ends, IsStopped, Tells, TellsAll, TellsPart}
 use Rattle.rs_tool.specs.Checks as checks
-use Rattle.rs_tool.specs.Checks.{Checks, HasMachines}
+use Rattle.rs_tool.specs.Checks.{Checks}
 use Rattle.rs_documents.specs.Data.{Document_data}
 use Rattle.rs_tool.specs.Data.{Answer_data}
 use Rattle.rs_documents.specs.Reading.{IsContent}
-use Rattle.rs_tool.specs.RefusalTexts.{too_large, fault_answer, wf_answer, proj_answer, machine_answer, search_answer}
+use Rattle.rs_tool.specs.RefusalTexts.{too_large, fault_answer, wf_answer, proj_answer}
+use Rattle.rs_tool.specs.Refusals.{HasNoDerivations, HasNoSession, IsIllFormed, HasNoProjection, HasIllMachine, IsWithoutSession, HasNoDerivation, of_projecting, of_searching, refusal_answer}
+use Rattle.rs_tool.specs.declared.derivations.Underivable.{Underivable}
+use Rattle.rs_tool.specs.declared.refusals.Refusal.{Refusal}
+use Rattle.rs_tool.specs.declared.refusals.Refusal.TheVariants as refusal
 use Rattle.rs_tool.specs.Report.{report}
-use Rattle.rs_tool.specs.Sessions.{Refuses, first_refusal, machines_of}
+use Rattle.rs_tool.specs.Sessions.{HasMachines, Refuses, first_refusal, machines_of}
 use Rattle.rs_tool.specs.Statuses.{status_of}
 use Rattle.rs_tool.specs.Tables as tables
 use Rattle.rs_tool.specs.Tables.{Projects}
@@ -50,33 +54,67 @@ made : (P Q : Answer_data → Type 0) (r : Result Answer_data NoMemory) → IfOk
 made P Q (Ok m) p h = h m p
 made P Q (Err e) p h = tt
 
-pub ill_formed : (d : Document_data) (f : WfFault) (r : Result Answer_data NoMemory) → first_fault d.protocol ≡ Some f → IfOk r (λ a. a ≡ wf_answer d.names f) → IfOk r (Checks d)
-ill_formed d f r e is = meant (Checks d) r (wf_answer d.names f) is (λ m x. checks.IsIllFormed f e x)
+-- the document is refused
+pub refused : (bound : ℕ) (d : Document_data) (why : Refusal) (r : Result Answer_data NoMemory) → (why ≡ refusal.NoMemory) ⊎ HasNoDerivations bound d why → IfOk r (λ a. a ≡ refusal_answer d.names why) → IfOk r (λ a. why ≡ refusal.NoMemory → ⊥)
+    → IfOk r (Checks bound d)
+refused bound d why (Err e) h is never = tt
+refused bound d why (Ok m) (inl memory) is never = absurd (never memory)
+refused bound d why (Ok m) (inr h) is never = checks.IsRefused why h is
 
-pub no_projection : (d : Document_data) (f : ProjFault) (r : Result Answer_data NoMemory) → first_fault d.protocol ≡ None → (f ≡ proj.NoMemory) ⊎ Refuses d.protocol f
-    → IfOk r (λ a. a ≡ proj_answer d.names f) → IfOk r (λ a. f ≡ proj.NoMemory → ⊥) → IfOk r (Checks d)
-no_projection d f (Err e) none why is never = tt
-no_projection d f (Ok m) none (inl memory) is never = absurd (never memory)
-no_projection d f (Ok m) none (inr refused) is never = checks.HasNoProjection none refused.0 f refused.1 is
+pub accepted : (bound : ℕ) (d : Document_data) (ps : List Projection_data) (ms : List Machine_data) (ds : List Derivation_data) (r : Result Answer_data NoMemory) → HasMachines d ps ms → AreCanonical bound ms ps ds
+    → IfOk r (λ a. a ≡ report d.names.roles ds) → IfOk r (Checks bound d)
+accepted bound d ps ms ds r h found is = meant (Checks bound d) r (report d.names.roles ds) is (λ m x. checks.IsAccepted ps ms ds h found x)
 
-pub ill_machine : (d : Document_data) (ps : List Projection_data) (ms : List Machine_data) (role : Role) (f : MachineFault) (r : Result Answer_data NoMemory) → first_fault d.protocol ≡ None → AreNumberedProjections d.protocol ps
-    → ms ≡ machines_of d.machines ps → first_refusal d.protocol.roles ms ≡ Some (record { role = role; fault = f }) → IfOk r (λ a. a ≡ machine_answer d.names role f) → IfOk r (Checks d)
-ill_machine d ps ms role f r none h e s is =
-    meant (Checks d) r (machine_answer d.names role f) is
-    (λ m x. checks.HasIllMachine ps (record { well_formed = none; projected = h }) (record { role = role; fault = f }) (subst (λ z. first_refusal d.protocol.roles z ≡ Some (record { role = role; fault = f })) e s) x)
+-- why there is no session, or no derivation
+pub no_projection : (d : Document_data) (f : ProjFault) → first_fault d.protocol ≡ None → (f ≡ proj.NoMemory) ⊎ Refuses d.protocol f → (of_projecting f ≡ refusal.NoMemory) ⊎ HasNoSession d (of_projecting f)
+no_projection d proj.NoMemory none why = inl refl
+no_projection d (proj.Unmergeable role a b) none (inl memory) = absurd cc
+no_projection d (proj.Unmergeable role a b) none (inr u) = inr (HasNoProjection none u.0 (proj.Unmergeable role a b) u.1)
+no_projection d (proj.Unreached role node) none (inl memory) = absurd cc
+no_projection d (proj.Unreached role node) none (inr u) = inr (HasNoProjection none u.0 (proj.Unreached role node) u.1)
+no_projection d (proj.TooManyStates role) none (inl memory) = absurd cc
+no_projection d (proj.TooManyStates role) none (inr u) = inr (HasNoProjection none u.0 (proj.TooManyStates role) u.1)
+
+pub ill_machine : (d : Document_data) (ps : List Projection_data) (ms : List Machine_data) (role : Role) (f : MachineFault) → first_fault d.protocol ≡ None → AreNumberedProjections d.protocol ps
+    → ms ≡ machines_of d.machines ps → first_refusal d.protocol.roles ms ≡ Some (record { role = role; fault = f }) → HasNoSession d (refusal.IllMachine role f)
+ill_machine d ps ms role f none h e s =
+    HasIllMachine ps (record { well_formed = none; projected = h }) (record { role = role; fault = f }) (subst (λ z. first_refusal d.protocol.roles z ≡ Some (record { role = role; fault = f })) e s)
 
 pub has_machines : (d : Document_data) (ps : List Projection_data) (ms : List Machine_data) → first_fault d.protocol ≡ None → AreNumberedProjections d.protocol ps → ms ≡ machines_of d.machines ps → first_refusal d.protocol.roles ms ≡ None → HasMachines d ps ms
 has_machines d ps ms none h e s = record { projections_are = record { well_formed = none; projected = h }; machines_are = e; well_formed = s }
 
-pub no_derivation : (d : Document_data) (ps : List Projection_data) (ms : List Machine_data) (role : Role) (f : SearchFault) (r : Result Answer_data NoMemory) → HasMachines d ps ms
-    → (f ≡ search.NoMemory) ⊎ IsUnderivable ms ps role f → IfOk r (λ a. a ≡ search_answer d.names role f) → IfOk r (λ a. f ≡ search.NoMemory → ⊥) → IfOk r (Checks d)
-no_derivation d ps ms role f (Err e) h why is never = tt
-no_derivation d ps ms role f (Ok m) h (inl memory) is never = absurd (never memory)
-no_derivation d ps ms role f (Ok m) h (inr u) is never = checks.HasNoDerivation ps ms h role f u is
+pub no_derivation : (bound : ℕ) (d : Document_data) (ps : List Projection_data) (ms : List Machine_data) (u : Underivable) → HasMachines d ps ms → (u.fault ≡ search.NoMemory) ⊎ IsUnderivable bound ms ps u.role u.fault
+    → (of_searching u.role u.fault ≡ refusal.NoMemory) ⊎ HasNoDerivations bound d (of_searching u.role u.fault)
+no_derivation bound d ps ms u h why = go u.fault why
+  where
+    go : (f : SearchFault) → (f ≡ search.NoMemory) ⊎ IsUnderivable bound ms ps u.role f → (of_searching u.role f ≡ refusal.NoMemory) ⊎ HasNoDerivations bound d (of_searching u.role f)
+    go search.NoMemory w = inl refl
+    go (search.NotFound cut) (inl memory) = absurd cc
+    go (search.NotFound cut) (inr w) = inr (HasNoDerivation ps ms h u.role (search.NotFound cut) w)
+    go (search.Forgets node) (inl memory) = absurd cc
+    go (search.Forgets node) (inr w) = inr (HasNoDerivation ps ms h u.role (search.Forgets node) w)
+    go search.TooLarge (inl memory) = absurd cc
+    go search.TooLarge (inr w) = inr (HasNoDerivation ps ms h u.role search.TooLarge w)
 
-pub accepted : (d : Document_data) (ps : List Projection_data) (ms : List Machine_data) (ds : List Derivation_data) (r : Result Answer_data NoMemory) → HasMachines d ps ms → AreCanonical ms ps ds
-    → IfOk r (λ a. a ≡ report d.names.roles ds) → IfOk r (Checks d)
-accepted d ps ms ds r h found is = meant (Checks d) r (report d.names.roles ds) is (λ m x. checks.IsAccepted ps ms ds h found x)
+-- the reason that is told, where one is
+of_err : {A : Type 0} (r : Result A Refusal) (why : Refusal) (P : Refusal → Type 0) → IsErrAnd r (λ e. e ≡ why) → P why → IfErr r P
+of_err (Ok a) why P is h = tt
+of_err (Err e) why P is h = subst P (sym is) h
+
+pub tells_ill_formed : {A : Type 0} (d : Document_data) (f : WfFault) (r : Result A Refusal) → IsErrAnd r (λ e. e ≡ refusal.IllFormed f) → first_fault d.protocol ≡ Some f → IfErr r (λ why. (why ≡ refusal.NoMemory) ⊎ HasNoSession d why)
+tells_ill_formed d f r is e = of_err r (refusal.IllFormed f) (λ why. (why ≡ refusal.NoMemory) ⊎ HasNoSession d why) is (inr (IsIllFormed f e))
+
+pub tells_no_projection : {A : Type 0} (d : Document_data) (f : ProjFault) (r : Result A Refusal) → IsErrAnd r (λ e. e ≡ of_projecting f) → first_fault d.protocol ≡ None → (f ≡ proj.NoMemory) ⊎ Refuses d.protocol f
+    → IfErr r (λ why. (why ≡ refusal.NoMemory) ⊎ HasNoSession d why)
+tells_no_projection d f r is none why = of_err r (of_projecting f) (λ w. (w ≡ refusal.NoMemory) ⊎ HasNoSession d w) is (no_projection d f none why)
+
+pub tells_no_session : {A : Type 0} (bound : ℕ) (d : Document_data) (f : Refusal) (r : Result A Refusal) → IsErrAnd r (λ e. e ≡ f) → (f ≡ refusal.NoMemory) ⊎ HasNoSession d f → IfErr r (λ why. (why ≡ refusal.NoMemory) ⊎ HasNoDerivations bound d why)
+tells_no_session bound d f r is (inl memory) = of_err r f (λ w. (w ≡ refusal.NoMemory) ⊎ HasNoDerivations bound d w) is (inl memory)
+tells_no_session bound d f r is (inr h) = of_err r f (λ w. (w ≡ refusal.NoMemory) ⊎ HasNoDerivations bound d w) is (inr (IsWithoutSession f h))
+
+pub tells_no_derivation : {A : Type 0} (bound : ℕ) (d : Document_data) (ps : List Projection_data) (ms : List Machine_data) (u : Underivable) (r : Result A Refusal) → IsErrAnd r (λ e. e ≡ of_searching u.role u.fault) → HasMachines d ps ms
+    → (u.fault ≡ search.NoMemory) ⊎ IsUnderivable bound ms ps u.role u.fault → IfErr r (λ why. (why ≡ refusal.NoMemory) ⊎ HasNoDerivations bound d why)
+tells_no_derivation bound d ps ms u r is h why = of_err r (of_searching u.role u.fault) (λ w. (w ≡ refusal.NoMemory) ⊎ HasNoDerivations bound d w) is (no_derivation bound d ps ms u h why)
 
 pub ill_formed_tables : (d : Document_data) (f : WfFault) (r : Result Answer_data NoMemory) → first_fault d.protocol ≡ Some f → IfOk r (λ a. a ≡ wf_answer d.names f) → IfOk r (Projects d)
 ill_formed_tables d f r e is = meant (Projects d) r (wf_answer d.names f) is (λ m x. tables.IsIllFormed f e x)

@@ -25,11 +25,10 @@ use Rattle.rs_search.specs.declared.faults.SearchFault.TheVariants as search
 use Rattle.rs_wellformed.specs.Faults as of_protocols
 use Rattle.rs_wellformed.proofs.Faults as well_formed_protocols
 use Rattle.rs_documents.specs.Data.{Document_data}
-use Rattle.rs_tool.specs.Derivations.{AreCanonical, AreFirstCanonical, IsUnderivable}
+use Rattle.rs_tool.specs.Derivations.{AreCanonical, AreFirstCanonical, IsBound, IsUnderivable}
 use Rattle.rs_documents.specs.Reading.{AreInPlace, IsReady}
-use Rattle.rs_tool.specs.Sessions.{MachineRefusal, first_refusal, refusal_or}
+use Rattle.rs_tool.specs.Sessions.{HasMachines, MachineRefusal, first_refusal, refusal_or}
 use Rattle.rs_tool.specs.Machines.{machine_or, machines_of}
-use Rattle.rs_tool.specs.declared.derivations.TheConstants.{DEFAULT_BOUND}
 use Rattle.rs_documents.proofs.SpeltSessions.{IsSpeltSession}
 
 -- where no machine is refused each is well formed
@@ -95,14 +94,13 @@ session_of d ps ms spelt none h e fine =
 pub ready_session : (d : Document_data) → IsReady d → length d.names.roles ≡ d.protocol.roles → IsSpeltSession d
 ready_session d ready roles = record { two = ready.two; few = ready.roles; roles = roles; one_each = ready.one_each; in_place = ready.in_place }
 
--- .. as the program has it
-pub session_by : (d now : Document_data) (ps : List Projection_data) (ms : List Machine_data) → d ≡ now → IsReady now → length now.names.roles ≡ now.protocol.roles → of_protocols.first_fault d.protocol ≡ None → AreNumberedProjections d.protocol ps
-    → ms ≡ machines_of d.machines ps → first_refusal d.protocol.roles ms ≡ None → IsSession d.protocol ps ms
-session_by d now ps ms is ready roles none h e fine = session_of d ps ms (subst IsSpeltSession (sym is) (ready_session now ready roles)) none h e fine
+-- .. of machines that the document has
+pub session_has : (d : Document_data) (ps : List Projection_data) (ms : List Machine_data) → IsReady d → length d.names.roles ≡ d.protocol.roles → HasMachines d ps ms → IsSession d.protocol ps ms
+session_has d ps ms ready roles h = session_of d ps ms (ready_session d ready roles) h.projections_are.well_formed h.projections_are.projected h.machines_are h.well_formed
 
 -- no role is there yet
-pub none_canonical : (ms : List Machine_data) (ps : List Projection_data) → AreFirstCanonical ms ps 0 []
-none_canonical ms ps = record { many = refl; each = λ p m j d hm hj hd. absurd (cc (hd)) }
+pub none_canonical : (bound : ℕ) (ms : List Machine_data) (ps : List Projection_data) → AreFirstCanonical bound ms ps 0 []
+none_canonical bound ms ps = record { many = refl; each = λ p m j d hm hj hd. absurd (cc (hd)) }
 
 last_or_before : (xs : List Derivation_data) (y : Derivation_data) (q : ℕ) (x : Derivation_data) → slice_get (xs ++ y ∷ []) q ≡ Some x → (slice_get xs q ≡ Some x) ⊎ ((q ≡ length xs) × (y ≡ x))
 last_or_before [] y zero x e = inr (refl, cc)
@@ -114,9 +112,9 @@ last_or_before (z ∷ zs) y (suc q) x e = elim (last_or_before zs y q x e) [
 ]
 
 -- one role more
-pub next_canonical : (ms : List Machine_data) (ps : List Projection_data) (count : ℕ) (ds : List Derivation_data) (m : Machine_data) (j : Projection_data) (d : Derivation_data) → AreFirstCanonical ms ps count ds
-    → slice_get ms count ≡ Some m → slice_get ps count ≡ Some j → IsFound m j.machine DEFAULT_BOUND d → AreFirstCanonical ms ps (count + 1) (ds ++ d ∷ [])
-next_canonical ms ps count ds m j d h am aj found =
+pub next_canonical : (bound : ℕ) (ms : List Machine_data) (ps : List Projection_data) (count : ℕ) (ds : List Derivation_data) (m : Machine_data) (j : Projection_data) (d : Derivation_data) → AreFirstCanonical bound ms ps count ds
+    → slice_get ms count ≡ Some m → slice_get ps count ≡ Some j → IsFound m j.machine bound d → AreFirstCanonical bound ms ps (count + 1) (ds ++ d ∷ [])
+next_canonical bound ms ps count ds m j d h am aj found =
     let size = length-append ds (d ∷ []) in
     let many = h.many in
     record {
@@ -127,64 +125,64 @@ next_canonical ms ps count ds m j d h am aj found =
             let place : p ≡ count = last.0 ∙ many in
             let em : m ≡ m' = same_Some m m' (sym am ∙ ap (λ z. slice_get ms z) (sym place) ∙ hm) in
             let ej : j ≡ j' = same_Some j j' (sym aj ∙ ap (λ z. slice_get ps z) (sym place) ∙ hj) in
-            let P : Machine_data → Type 0 = λ z. IsFound z j.machine DEFAULT_BOUND d in
-            let Q : Projection_data → Type 0 = λ z. IsFound m' z.machine DEFAULT_BOUND d in
-            let R : Derivation_data → Type 0 = λ z. IsFound m' j'.machine DEFAULT_BOUND z in
+            let P : Machine_data → Type 0 = λ z. IsFound z j.machine bound d in
+            let Q : Projection_data → Type 0 = λ z. IsFound m' z.machine bound d in
+            let R : Derivation_data → Type 0 = λ z. IsFound m' j'.machine bound z in
             subst R last.1 (subst Q ej (subst P em found)))
       ];
     }
 
 -- .. or none for it
-pub underivable : (ms : List Machine_data) (ps : List Projection_data) (role : Role) (ds : List Derivation_data) (m : Machine_data) (j : Projection_data) (fault : SearchFault) → AreFirstCanonical ms ps role.0 ds
-    → slice_get ms role.0 ≡ Some m → slice_get ps role.0 ≡ Some j → Refuses m j.machine DEFAULT_BOUND fault → (fault ≡ search.NoMemory) ⊎ IsUnderivable ms ps role fault
-underivable ms ps role ds m j search.NoMemory h am aj r = inl refl
-underivable ms ps role ds m j (search.NotFound cut) h am aj r = inr record { machine = m; projection = j; runs = am; projects = aj; earlier = ds; derived = h; refused = r; cause = λ e. cc (e) }
-underivable ms ps role ds m j (search.Forgets node) h am aj r = inr record { machine = m; projection = j; runs = am; projects = aj; earlier = ds; derived = h; refused = r; cause = λ e. cc (e) }
-underivable ms ps role ds m j search.TooLarge h am aj r = inr record { machine = m; projection = j; runs = am; projects = aj; earlier = ds; derived = h; refused = r; cause = λ e. cc (e) }
+pub underivable : (bound : ℕ) (ms : List Machine_data) (ps : List Projection_data) (role : Role) (ds : List Derivation_data) (m : Machine_data) (j : Projection_data) (fault : SearchFault) → AreFirstCanonical bound ms ps role.0 ds
+    → slice_get ms role.0 ≡ Some m → slice_get ps role.0 ≡ Some j → Refuses m j.machine bound fault → (fault ≡ search.NoMemory) ⊎ IsUnderivable bound ms ps role fault
+underivable bound ms ps role ds m j search.NoMemory h am aj r = inl refl
+underivable bound ms ps role ds m j (search.NotFound cut) h am aj r = inr record { machine = m; projection = j; runs = am; projects = aj; earlier = ds; derived = h; refused = r; cause = λ e. cc (e) }
+underivable bound ms ps role ds m j (search.Forgets node) h am aj r = inr record { machine = m; projection = j; runs = am; projects = aj; earlier = ds; derived = h; refused = r; cause = λ e. cc (e) }
+underivable bound ms ps role ds m j search.TooLarge h am aj r = inr record { machine = m; projection = j; runs = am; projects = aj; earlier = ds; derived = h; refused = r; cause = λ e. cc (e) }
 
 -- what was found at a place
-record FoundAt (ms : List Machine_data) (ps : List Projection_data) (p : ℕ) (d : Derivation_data) : Type 0 where
+record FoundAt (bound : ℕ) (ms : List Machine_data) (ps : List Projection_data) (p : ℕ) (d : Derivation_data) : Type 0 where
   pub machine : Machine_data
   pub projection : Projection_data
   pub runs : slice_get ms p ≡ Some machine
-  pub found : IsFound machine projection.machine DEFAULT_BOUND d
+  pub found : IsFound machine projection.machine bound d
 
-found_at : (pr : Protocol_data) (ps : List Projection_data) (ms : List Machine_data) (ds : List Derivation_data) → IsSession pr ps ms → AreCanonical ms ps ds → (p : ℕ) (d : Derivation_data) → slice_get ds p ≡ Some d → FoundAt ms ps p d
-found_at pr ps ms ds s h p d at =
+found_at : (bound : ℕ) (pr : Protocol_data) (ps : List Projection_data) (ms : List Machine_data) (ds : List Derivation_data) → IsSession pr ps ms → AreCanonical bound ms ps ds → (p : ℕ) (d : Derivation_data) → slice_get ds p ≡ Some d → FoundAt bound ms ps p d
+found_at bound pr ps ms ds s h p d at =
     let w = slice_get_within ds p d at in
     let hm = slice_get-get_or ms p no-machine (omega (arith, w, h.many)) in
     let hj = slice_get-get_or ps p no-projection (omega (arith, w, h.many, s.a_machine_each, s.projected.many)) in
     record { machine = get_or ms p no-machine; projection = get_or ps p no-projection; runs = hm; found = h.each p (get_or ms p no-machine) (get_or ps p no-projection) d hm hj at }
 
 -- each of them is a derivation that remembers
-pub derivations_are : (pr : Protocol_data) (ps : List Projection_data) (ms : List Machine_data) (ds : List Derivation_data) → IsSession pr ps ms → AreCanonical ms ps ds → AreDerivations ms ps ds
-derivations_are pr ps ms ds s h = record {
+pub derivations_are : (bound : ℕ) (pr : Protocol_data) (ps : List Projection_data) (ms : List Machine_data) (ds : List Derivation_data) → IsSession pr ps ms → AreCanonical bound ms ps ds → AreDerivations ms ps ds
+derivations_are bound pr ps ms ds s h = record {
   many = h.many;
   is = λ p m j d hm hj hd. (
       let f = h.each p m j d hm hj hd in
       let ours = machine-proper pr ps ms s p m hm in
       let theirs = projection-proper pr ps ms s p j hj in
-      (derives m j.machine DEFAULT_BOUND d ours theirs f.canonical, remembers m j.machine DEFAULT_BOUND d f));
+      (derives m j.machine bound d ours theirs f.canonical, remembers m j.machine bound d f));
 }
 
 -- what was found for the roles can be tested
-pub one_each : (pr : Protocol_data) (ps : List Projection_data) (ms : List Machine_data) (ds : List Derivation_data) → IsSession pr ps ms → AreCanonical ms ps ds → AreOneEach pr.roles ds
-one_each pr ps ms ds s h = record {
+pub one_each : (bound : ℕ) → IsBound bound → (pr : Protocol_data) (ps : List Projection_data) (ms : List Machine_data) (ds : List Derivation_data) → IsSession pr ps ms → AreCanonical bound ms ps ds → AreOneEach pr.roles ds
+one_each bound within pr ps ms ds s h = record {
   many = h.many ∙ s.a_machine_each;
-  role = λ p d at. (let f = found_at pr ps ms ds s h p d at in ap (λ (z : Role). z.0) f.found.canonical.role ∙ s.machines_fit.role p f.machine f.runs);
-  bound = λ p d at. (let f = found_at pr ps ms ds s h p d at in let b = f.found.canonical.bound' in (omega (arith, b), omega (arith, b)));
-  few = λ p d at. (let f = found_at pr ps ms ds s h p d at in let k = few_nodes f.machine f.projection.machine DEFAULT_BOUND d f.found in omega (arith, k));
+  role = λ p d at. (let f = found_at bound pr ps ms ds s h p d at in ap (λ (z : Role). z.0) f.found.canonical.role ∙ s.machines_fit.role p f.machine f.runs);
+  bound = λ p d at. (let f = found_at bound pr ps ms ds s h p d at in let b = f.found.canonical.bound' in (let w = within.0 in omega (arith, b, w), let w = within.1 in omega (arith, b, w)));
+  few = λ p d at. (let f = found_at bound pr ps ms ds s h p d at in let k = few_nodes f.machine f.projection.machine bound d f.found in omega (arith, k));
 }
 
 -- what is accepted is safe
-pub canonical_safe : (pr : Protocol_data) (ps : List Projection_data) (ms : List Machine_data) (ds : List Derivation_data) → IsSession pr ps ms → AreCanonical ms ps ds → IsSafe ms
-canonical_safe pr ps ms ds s h = accepted-safe pr ps ms ds s (derivations_are pr ps ms ds s h)
+pub canonical_safe : (bound : ℕ) (pr : Protocol_data) (ps : List Projection_data) (ms : List Machine_data) (ds : List Derivation_data) → IsSession pr ps ms → AreCanonical bound ms ps ds → IsSafe ms
+canonical_safe bound pr ps ms ds s h = accepted-safe pr ps ms ds s (derivations_are bound pr ps ms ds s h)
 
 -- and is refused nowhere
-pub never_refused : (pr : Protocol_data) (ps : List Projection_data) (ms : List Machine_data) (ds : List Derivation_data) (place : ℕ) (cause : DeriveFault) → IsSession pr ps ms → AreCanonical ms ps ds → FirstRefused ms ps ds place cause → ⊥
-never_refused pr ps ms ds place cause s h r =
+pub never_refused : (bound : ℕ) (pr : Protocol_data) (ps : List Projection_data) (ms : List Machine_data) (ds : List Derivation_data) (place : ℕ) (cause : DeriveFault) → IsSession pr ps ms → AreCanonical bound ms ps ds → FirstRefused ms ps ds place cause → ⊥
+never_refused bound pr ps ms ds place cause s h r =
     let f = h.each place r.machine r.projection r.derivation r.runs r.projects r.derives in
-    let none = accepted r.machine r.projection.machine DEFAULT_BOUND r.derivation (machine-proper pr ps ms s place r.machine r.runs) (projection-proper pr ps ms s place r.projection r.projects) f in
+    let none = accepted r.machine r.projection.machine bound r.derivation (machine-proper pr ps ms s place r.machine r.runs) (projection-proper pr ps ms s place r.projection r.projects) f in
     let fault = r.fault in
     cc (none, fault)
 

@@ -2,7 +2,6 @@
 use Rattle.std.proofs.Common.{◌≡◌, ℕ, List, Bool, true, Option, Some, None, refl, sym, ap, subst, ◌∙◌, if◌then◌else◌}
 use Rattle.std.specs.Prelude.{IfSome}
 use Rattle.rs_core.specs.Safety.{IsSafe}
-use Rattle.rs_model.specs.Data.{Names_data}
 use Rattle.rs_project.specs.declared.projecting.ProjFault.{ProjFault}
 use Rattle.rs_project.specs.declared.projecting.ProjFault.TheVariants as proj
 use Rattle.rs_model.specs.declared.graph.Role.{Role}
@@ -23,11 +22,20 @@ use Rattle.rs_tool.specs.declared.statuses.Verdict.TheVariants as verdict
 use Rattle.rs_tool.specs.declared.statuses.Verdict.TheVariants.{Fine}
 use Rattle.rs_tool.specs.Answers.{Answers, NoCommand, NoSuchCommand, CarriesOut, AnswersText, IsTooLong, IsFaulty, IsDerived, IsDocument}
 use Rattle.rs_tool.specs.Calls.{Tells, TellsAll, TellsPart, TellsReadFault, TellsNoMemory}
-use Rattle.rs_tool.specs.Checks.{Checks, IsIllFormed, HasNoProjection, HasIllMachine, HasNoDerivation, IsAccepted}
+use Rattle.rs_tool.specs.Checks.{Checks, IsRefused, IsAccepted}
 use Rattle.rs_documents.specs.Data.{Document_data}
 use Rattle.rs_tool.specs.Data.{Answer_data}
 use Rattle.rs_tool.specs.RefusalTexts.{fault_answer, wf_answer, proj_answer, search_answer}
+use Rattle.rs_tool.specs.Derivations.{AreCanonical}
 use Rattle.rs_documents.specs.Documents.{SpellsDocument}
+use Rattle.rs_tool.specs.Refusals.{refusal_answer}
+use Rattle.rs_tool.specs.Sessions.{HasMachines}
+use Rattle.rs_tool.specs.declared.derivations.TheConstants.{DEFAULT_BOUND}
+use Rattle.rs_tool.specs.declared.refusals.Refusal.{Refusal}
+use Rattle.rs_tool.specs.declared.refusals.Refusal.TheVariants as refusal
+use Rattle.rs_derive.specs.Data.{Derivation_data}
+use Rattle.rs_model.specs.Data.{Machine_data, Names_data}
+use Rattle.rs_project.specs.Data.{Projection_data}
 use Rattle.rs_tool.specs.Headline.{SpellsSafeMachines}
 use Rattle.rs_tool.specs.Words.{is_check, is_show, is_project, task_of}
 use Rattle.rs_tool.specs.declared.words.Task.{Task}
@@ -73,12 +81,17 @@ search-is-no-fine names role (search.Forgets n) e = cc
 search-is-no-fine names role search.TooLarge e = cc
 search-is-no-fine names role search.NoMemory e = cc
 
-checked-is-safe : (bytes : List ℕ) (d : Document_data) (a : Answer_data) → SpellsDocument bytes d → Checks d a → a.verdict ≡ Fine → SpellsSafeMachines bytes
-checked-is-safe bytes d a doc (IsIllFormed f e is) fine = absurd (no-fine a _ is (wf-is-no-fine d.names f) fine)
-checked-is-safe bytes d a doc (HasNoProjection none role f h is) fine = absurd (no-fine a _ is (proj-is-no-fine d.names f) fine)
-checked-is-safe bytes d a doc (HasIllMachine projections h r e is) fine = absurd (no-fine a _ is (λ e. cc) fine)
-checked-is-safe bytes d a doc (HasNoDerivation projections machines h role f u is) fine = absurd (no-fine a _ is (search-is-no-fine d.names role f) fine)
-checked-is-safe bytes d a doc (IsAccepted projections machines derivations h found is) fine =
+refusal-is-no-fine : (names : Names_data) (r : Refusal) → IsNoFine (refusal_answer names r)
+refusal-is-no-fine names (refusal.IllFormed f) e = wf-is-no-fine names f e
+refusal-is-no-fine names (refusal.Unprojectable f) e = proj-is-no-fine names f e
+refusal-is-no-fine names (refusal.IllMachine role f) e = cc
+refusal-is-no-fine names (refusal.Underivable u) e = search-is-no-fine names u.role u.fault e
+refusal-is-no-fine names refusal.NoMemory e = cc
+
+-- machines that have derivations are safe
+derived-is-safe : (bound : ℕ) (bytes : List ℕ) (d : Document_data) (projections : List Projection_data) (machines : List Machine_data) (derivations : List Derivation_data) → SpellsDocument bytes d → HasMachines d projections machines
+    → AreCanonical bound machines projections derivations → SpellsSafeMachines bytes
+derived-is-safe bound bytes d projections machines derivations doc h found =
     let spelt = spelt_session bytes d doc in
     let session = session_of d projections machines spelt h.projections_are.well_formed h.projections_are.projected h.machines_are h.well_formed in
     record {
@@ -88,8 +101,12 @@ checked-is-safe bytes d a doc (IsAccepted projections machines derivations h fou
       well_formed = session.well_formed;
       projected = h.projections_are.projected;
       one_each = one_place_each bytes d doc;
-      safe = subst IsSafe h.machines_are (canonical_safe d.protocol projections machines derivations session found);
+      safe = subst IsSafe h.machines_are (canonical_safe bound d.protocol projections machines derivations session found);
     }
+
+checked-is-safe : (bytes : List ℕ) (d : Document_data) (a : Answer_data) → SpellsDocument bytes d → Checks DEFAULT_BOUND d a → a.verdict ≡ Fine → SpellsSafeMachines bytes
+checked-is-safe bytes d a doc (IsRefused r h is) fine = absurd (no-fine a _ is (refusal-is-no-fine d.names r) fine)
+checked-is-safe bytes d a doc (IsAccepted projections machines derivations h found is) fine = derived-is-safe DEFAULT_BOUND bytes d projections machines derivations doc h found
 
 text-is-safe : (bytes : List ℕ) (a : Answer_data) → AnswersText task.Check bytes a → a.verdict ≡ Fine → SpellsSafeMachines bytes
 text-is-safe bytes a (IsDocument short d h answers) fine = checked-is-safe bytes d a h answers fine

@@ -17,10 +17,11 @@ use Rattle.rs_derive.specs.Data.{Derivation_data}
 use Rattle.rs_safety.specs.Sessions.{IsSession}
 use Rattle.rs_safety.proofs.Accepts.{machine-proper, projection-proper}
 use Rattle.rs_safety.proofs.Sessions.{no-machine, no-projection}
+use Rattle.rs_search.proofs.Deciding as searching
 use Rattle.rs_search.specs.Canonical.{IsFound, Refuses}
 use Rattle.rs_search.specs.declared.faults.SearchFault.{SearchFault}
 use Rattle.rs_search.specs.declared.faults.SearchFault.TheVariants as search
-use Rattle.rs_tool.specs.Derivations.{AreFirstCanonical, AreSearchable, IsUnderivable}
+use Rattle.rs_tool.specs.Derivations.{AreCanonical, AreFirstCanonical, IsUnderivable}
 use Rattle.rs_tool.specs.declared.derivations.TheConstants.{DEFAULT_BOUND}
 use Rattle.rs_tool.proofs.Derivings.{next_canonical, none_canonical, session_of}
 use Rattle.rs_documents.proofs.SpeltSessions.{spelt_session}
@@ -35,14 +36,16 @@ use Rattle.rs_tool.specs.declared.words.Task.{Task}
 use Rattle.rs_tool.specs.declared.words.Task.TheVariants as task
 use Rattle.rs_tool.specs.Answers.{Answers, NoCommand, NoSuchCommand, CarriesOut, AnswersText, IsTooLong, IsFaulty, IsDerived, IsDocument, AnswersDocument}
 use Rattle.rs_tool.specs.Checks as checks
-use Rattle.rs_tool.specs.Checks.{Checks, HasMachines}
 use Rattle.rs_documents.specs.Data.{Document_data}
 use Rattle.rs_tool.specs.Data.{Answer_data}
 use Rattle.rs_documents.specs.Documents.{SpellsDocument}
 use Rattle.rs_documents.specs.Reading.{IsContent}
-use Rattle.rs_tool.specs.RefusalTexts.{usage, not_built, too_large, fault_answer, wf_answer, proj_answer, machine_answer, search_answer}
+use Rattle.rs_tool.specs.RefusalTexts.{usage, not_built, too_large, fault_answer, wf_answer, proj_answer}
+use Rattle.rs_tool.specs.Refusals.{HasNoDerivations, IsIllFormed, HasNoProjection, HasIllMachine, IsWithoutSession, HasNoDerivation, refusal_answer}
+use Rattle.rs_tool.specs.declared.refusals.Refusal.{Refusal}
+use Rattle.rs_tool.specs.declared.refusals.Refusal.TheVariants as refusal
 use Rattle.rs_tool.specs.Report.{report}
-use Rattle.rs_tool.specs.Sessions.{HasProjections, IsUnprojectable, MachineRefusal, first_refusal, machines_of}
+use Rattle.rs_tool.specs.Sessions.{HasMachines, HasProjections, IsUnprojectable, MachineRefusal, first_refusal, machines_of}
 use Rattle.rs_documents.specs.Canonical.{AreShown, AreCanonicalMachines}
 use Rattle.rs_tool.specs.Tables as tables
 use Rattle.rs_tool.specs.Tables.{Projects, tables_text}
@@ -72,56 +75,65 @@ first_ones protocol wf (suc count) le = go (first_ones protocol wf count (omega 
     go (AllProject projections h) (inr f) = OneDoesnt (record { 0 = count }) f.0 (record { known = omega arith; earlier = projections; projected = h; refused = f.1 })
 
 -- what the search finds for the first so many roles
-data Searched (ms : List Machine_data) (ps : List Projection_data) (count : ℕ) : Type 0 where
-  AllFound : (derivations : List Derivation_data) → AreFirstCanonical ms ps count derivations → Searched ms ps count
-  OneIsnt : (role : Role) (fault : SearchFault) → IsUnderivable ms ps role fault → Searched ms ps count
+data Searched (bound : ℕ) (ms : List Machine_data) (ps : List Projection_data) (count : ℕ) : Type 0 where
+  AllFound : (derivations : List Derivation_data) → AreFirstCanonical bound ms ps count derivations → Searched bound ms ps count
+  OneIsnt : (role : Role) (fault : SearchFault) → IsUnderivable bound ms ps role fault → Searched bound ms ps count
 
-found_next : (ms : List Machine_data) (ps : List Projection_data) (count : ℕ) (m : Machine_data) (j : Projection_data) (ds : List Derivation_data) → slice_get ms count ≡ Some m → slice_get ps count ≡ Some j → AreFirstCanonical ms ps count ds
-    → ((d : Derivation_data) × IsFound m j.machine DEFAULT_BOUND d) ⊎ ((f : SearchFault) × (f ≢ search.NoMemory) × Refuses m j.machine DEFAULT_BOUND f) → Searched ms ps (suc count)
-found_next ms ps count m j ds hm hj h (inl d) =
+found_next : (bound : ℕ) (ms : List Machine_data) (ps : List Projection_data) (count : ℕ) (m : Machine_data) (j : Projection_data) (ds : List Derivation_data) → slice_get ms count ≡ Some m → slice_get ps count ≡ Some j → AreFirstCanonical bound ms ps count ds
+    → ((d : Derivation_data) × IsFound m j.machine bound d) ⊎ ((f : SearchFault) × (f ≢ search.NoMemory) × Refuses m j.machine bound f) → Searched bound ms ps (suc count)
+found_next bound ms ps count m j ds hm hj h (inl d) =
     let one : count + 1 ≡ suc count = omega arith in
-    AllFound (ds ++ d.0 ∷ []) (subst (λ (n : ℕ). AreFirstCanonical ms ps n (ds ++ d.0 ∷ [])) one (next_canonical ms ps count ds m j d.0 h hm hj d.1))
-found_next ms ps count m j ds hm hj h (inr f) =
+    AllFound (ds ++ d.0 ∷ []) (subst (λ (n : ℕ). AreFirstCanonical bound ms ps n (ds ++ d.0 ∷ [])) one (next_canonical bound ms ps count ds m j d.0 h hm hj d.1))
+found_next bound ms ps count m j ds hm hj h (inr f) =
     OneIsnt (record { 0 = count }) f.0 record { machine = m; projection = j; runs = hm; projects = hj; earlier = ds; derived = h; refused = f.2; cause = f.1 }
 
-found_first : (pr : Protocol_data) (ps : List Projection_data) (ms : List Machine_data) → IsSession pr ps ms → AreSearchable → (count : ℕ) → count ≤ length ms → Searched ms ps count
-found_first pr ps ms s any zero le = AllFound [] (none_canonical ms ps)
-found_first pr ps ms s any (suc count) le =
+found_first : (bound : ℕ) (pr : Protocol_data) (ps : List Projection_data) (ms : List Machine_data) → IsSession pr ps ms → (count : ℕ) → count ≤ length ms → Searched bound ms ps count
+found_first bound pr ps ms s zero le = AllFound [] (none_canonical bound ms ps)
+found_first bound pr ps ms s (suc count) le =
     let m = get_or ms count no-machine in
     let j = get_or ps count no-projection in
     let hm : slice_get ms count ≡ Some m = slice_get-get_or ms count no-machine (omega (arith, le)) in
     let hj : slice_get ps count ≡ Some j = slice_get-get_or ps count no-projection (omega (arith, le, s.a_machine_each, s.projected.many)) in
-    go m j hm hj (found_first pr ps ms s any count (omega (arith, le)))
+    go m j hm hj (found_first bound pr ps ms s count (omega (arith, le)))
   where
-    go : (m : Machine_data) (j : Projection_data) → slice_get ms count ≡ Some m → slice_get ps count ≡ Some j → Searched ms ps count → Searched ms ps (suc count)
+    go : (m : Machine_data) (j : Projection_data) → slice_get ms count ≡ Some m → slice_get ps count ≡ Some j → Searched bound ms ps count → Searched bound ms ps (suc count)
     go m j hm hj (OneIsnt role fault u) = OneIsnt role fault u
-    go m j hm hj (AllFound ds h) = found_next ms ps count m j ds hm hj h (any m j.machine (machine-proper pr ps ms s count m hm) (projection-proper pr ps ms s count j hj))
+    go m j hm hj (AllFound ds h) = found_next bound ms ps count m j ds hm hj h (searching.decided m j.machine bound (machine-proper pr ps ms s count m hm) (projection-proper pr ps ms s count j hj))
 
-searched : (d : Document_data) (projections : List Projection_data) (machines : List Machine_data) → HasMachines d projections machines → Searched machines projections (length machines) → Some_for task.Check d
-searched d projections machines h (AllFound derivations found) = record { answer = report d.names.roles derivations; answers = checks.IsAccepted projections machines derivations h found refl }
-searched d projections machines h (OneIsnt role fault u) = record { answer = search_answer d.names role fault; answers = checks.HasNoDerivation projections machines h role fault u refl }
+-- the session of a document and its derivations, or why there are none
+data Prepared (bound : ℕ) (d : Document_data) : Type 0 where
+  NotSo : (why : Refusal) → HasNoDerivations bound d why → Prepared bound d
+  Derived : (projections : List Projection_data) (machines : List Machine_data) (derivations : List Derivation_data) → HasMachines d projections machines → AreCanonical bound machines projections derivations → Prepared bound d
 
-of_machines_of : (bytes : List ℕ) (d : Document_data) (projections : List Projection_data) → SpellsDocument bytes d → AreSearchable → HasProjections d projections → (o : Option MachineRefusal) → first_refusal d.protocol.roles (machines_of d.machines projections) ≡ o → Some_for task.Check d
-of_machines_of bytes d projections doc any h (Some r) e = record { answer = machine_answer d.names r.role r.fault; answers = checks.HasIllMachine projections h r e refl }
-of_machines_of bytes d projections doc any h None e =
+searched : (bound : ℕ) (d : Document_data) (projections : List Projection_data) (machines : List Machine_data) → HasMachines d projections machines → Searched bound machines projections (length machines) → Prepared bound d
+searched bound d projections machines h (AllFound derivations found) = Derived projections machines derivations h found
+searched bound d projections machines h (OneIsnt role fault u) = NotSo (refusal.Underivable (record { role = role; fault = fault })) (HasNoDerivation projections machines h role fault u)
+
+of_machines_of : (bound : ℕ) (bytes : List ℕ) (d : Document_data) (projections : List Projection_data) → SpellsDocument bytes d → HasProjections d projections → (o : Option MachineRefusal) → first_refusal d.protocol.roles (machines_of d.machines projections) ≡ o → Prepared bound d
+of_machines_of bound bytes d projections doc h (Some r) e = NotSo (refusal.IllMachine r.role r.fault) (IsWithoutSession _ (HasIllMachine projections h r e))
+of_machines_of bound bytes d projections doc h None e =
     let machines = machines_of d.machines projections in
     let has : HasMachines d projections machines = record { projections_are = h; machines_are = refl; well_formed = e } in
     let session = session_of d projections machines (spelt_session bytes d doc) h.well_formed h.projected refl e in
-    searched d projections machines has (found_first d.protocol projections machines session any (length machines) (omega arith))
+    searched bound d projections machines has (found_first bound d.protocol projections machines session (length machines) (omega arith))
 
-checked : (bytes : List ℕ) (d : Document_data) → SpellsDocument bytes d → AreSearchable → first_fault d.protocol ≡ None → Decision d.protocol d.protocol.roles → Some_for task.Check d
-checked bytes d doc any none (OneDoesnt role fault h) = record { answer = proj_answer d.names fault; answers = checks.HasNoProjection none role fault h refl }
-checked bytes d doc any none (AllProject projections h) =
-    of_machines_of bytes d projections doc any (record { well_formed = none; projected = h }) (first_refusal d.protocol.roles (machines_of d.machines projections)) refl
+prepared_by : (bound : ℕ) (bytes : List ℕ) (d : Document_data) → SpellsDocument bytes d → first_fault d.protocol ≡ None → Decision d.protocol d.protocol.roles → Prepared bound d
+prepared_by bound bytes d doc none (OneDoesnt role fault h) = NotSo (refusal.Unprojectable fault) (IsWithoutSession _ (HasNoProjection none role fault h))
+prepared_by bound bytes d doc none (AllProject projections h) =
+    of_machines_of bound bytes d projections doc (record { well_formed = none; projected = h }) (first_refusal d.protocol.roles (machines_of d.machines projections)) refl
+
+prepared : (bound : ℕ) (bytes : List ℕ) (d : Document_data) → SpellsDocument bytes d → (o : Option WfFault) → first_fault d.protocol ≡ o → Prepared bound d
+prepared bound bytes d doc (Some f) e = NotSo (refusal.IllFormed f) (IsWithoutSession _ (IsIllFormed f e))
+prepared bound bytes d doc None e = prepared_by bound bytes d doc e (first_ones d.protocol (no_fault d.protocol e) d.protocol.roles (omega arith))
+
+checked : (d : Document_data) → Prepared DEFAULT_BOUND d → Some_for task.Check d
+checked d (NotSo why h) = record { answer = refusal_answer d.names why; answers = checks.IsRefused why h refl }
+checked d (Derived projections machines derivations h found) = record { answer = report d.names.roles derivations; answers = checks.IsAccepted projections machines derivations h found refl }
 
 tabled : (d : Document_data) → first_fault d.protocol ≡ None → Decision d.protocol d.protocol.roles → Some_for task.Project d
 tabled d none (OneDoesnt role fault h) = record { answer = proj_answer d.names fault; answers = tables.HasNoProjection none role fault h refl }
 tabled d none (AllProject projections h) =
     record { answer = record { text = tables_text d.names projections; verdict = Fine }; answers = tables.HasTables projections (record { well_formed = none; projected = h }) refl }
-
-some_check : (bytes : List ℕ) (d : Document_data) → SpellsDocument bytes d → AreSearchable → (o : Option WfFault) → first_fault d.protocol ≡ o → Some_for task.Check d
-some_check bytes d doc any (Some f) e = record { answer = wf_answer d.names f; answers = checks.IsIllFormed f e refl }
-some_check bytes d doc any None e = checked bytes d doc any e (first_ones d.protocol (no_fault d.protocol e) d.protocol.roles (omega arith))
 
 some_tables : (d : Document_data) → (o : Option WfFault) → first_fault d.protocol ≡ o → Some_for task.Project d
 some_tables d (Some f) e = record { answer = wf_answer d.names f; answers = tables.IsIllFormed f e refl }
@@ -149,30 +161,30 @@ shown bytes d h =
       };
     }
 
-document_answer : (t : Task) (bytes : List ℕ) (d : Document_data) → SpellsDocument bytes d → AreSearchable → Some_for t d
-document_answer task.Check bytes d h any = some_check bytes d h any (first_fault d.protocol) refl
-document_answer task.Show bytes d h any = shown bytes d h
-document_answer task.Project bytes d h any = some_tables d (first_fault d.protocol) refl
+document_answer : (t : Task) (bytes : List ℕ) (d : Document_data) → SpellsDocument bytes d → Some_for t d
+document_answer task.Check bytes d h = checked d (prepared DEFAULT_BOUND bytes d h (first_fault d.protocol) refl)
+document_answer task.Show bytes d h = shown bytes d h
+document_answer task.Project bytes d h = some_tables d (first_fault d.protocol) refl
 
 record Some_text (t : Task) (bytes : List ℕ) : Type 0 where
   answer : Answer_data
   answers : AnswersText t bytes answer
 
-of_content : (t : Task) (bytes : List ℕ) → length bytes ≤ MOST_BYTES → AreSearchable → (what : Content) → IsContent bytes what → Some_text t bytes
-of_content t bytes short any (content.Document d) h = let a = document_answer t bytes d h any in record { answer = a.answer; answers = IsDocument short d h a.answers }
-of_content t bytes short any content.Derivations h = record { answer = not_built; answers = IsDerived short h refl }
-of_content t bytes short any (content.Fault f) h = record { answer = fault_answer bytes f.kind f.at; answers = IsFaulty short f.kind f.at h refl }
+of_content : (t : Task) (bytes : List ℕ) → length bytes ≤ MOST_BYTES → (what : Content) → IsContent bytes what → Some_text t bytes
+of_content t bytes short (content.Document d) h = let a = document_answer t bytes d h in record { answer = a.answer; answers = IsDocument short d h a.answers }
+of_content t bytes short content.Derivations h = record { answer = not_built; answers = IsDerived short h refl }
+of_content t bytes short (content.Fault f) h = record { answer = fault_answer bytes f.kind f.at; answers = IsFaulty short f.kind f.at h refl }
 
-of_text : (t : Task) (bytes : List ℕ) → AreSearchable → Some_text t bytes
-of_text t bytes any = elim (leb_tells (length bytes) MOST_BYTES) [
-  | inl short ↦ let f = some_found bytes in of_content t bytes short.1 any f.what f.is
+of_text : (t : Task) (bytes : List ℕ) → Some_text t bytes
+of_text t bytes = elim (leb_tells (length bytes) MOST_BYTES) [
+  | inl short ↦ let f = some_found bytes in of_content t bytes short.1 f.what f.is
   | inr long ↦ record { answer = too_large (codes "text"); answers = IsTooLong long.1 refl }
 ]
 
-pub some_answer : (words : List (List ℕ)) (bytes : List ℕ) → AreSearchable → (a : Answer_data) × Answers words bytes a
-some_answer words bytes any = go (task_of words) (names_command words) refl refl
+pub some_answer : (words : List (List ℕ)) (bytes : List ℕ) → (a : Answer_data) × Answers words bytes a
+some_answer words bytes = go (task_of words) (names_command words) refl refl
   where
     go : (o : Option Task) (command : Bool) → task_of words ≡ o → names_command words ≡ command → (a : Answer_data) × Answers words bytes a
-    go (Some t) command is _ = let a = of_text t bytes any in (a.answer, CarriesOut t is a.answers)
+    go (Some t) command is _ = let a = of_text t bytes in (a.answer, CarriesOut t is a.answers)
     go None true is named = (not_built, NoSuchCommand named is refl)
     go None false is named = (usage, NoCommand named refl)

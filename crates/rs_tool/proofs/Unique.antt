@@ -30,14 +30,16 @@ use Rattle.rs_documents.specs.declared.documents.Content.TheVariants as content
 use Rattle.rs_tool.specs.declared.words.Task.{Task}
 use Rattle.rs_tool.specs.declared.words.Task.TheVariants as task
 use Rattle.rs_tool.specs.Answers.{Answers, NoCommand, NoSuchCommand, CarriesOut, AnswersText, IsTooLong, IsFaulty, IsDerived, IsDocument, AnswersDocument}
-use Rattle.rs_tool.specs.Checks as checks
-use Rattle.rs_tool.specs.Checks.{Checks}
+use Rattle.rs_tool.specs.Checks.{Checks, IsRefused, IsAccepted}
 use Rattle.rs_documents.specs.Data.{Document_data}
 use Rattle.rs_tool.specs.Data.{Answer_data}
 use Rattle.rs_documents.specs.Documents.{SpellsDocument}
-use Rattle.rs_tool.specs.RefusalTexts.{fault_answer, wf_answer, proj_answer, machine_answer, search_answer}
+use Rattle.rs_tool.specs.RefusalTexts.{fault_answer, wf_answer, proj_answer}
+use Rattle.rs_tool.specs.Refusals.{HasNoDerivations, HasNoSession, IsIllFormed, HasNoProjection, HasIllMachine, IsWithoutSession, HasNoDerivation, refusal_answer}
+use Rattle.rs_tool.specs.declared.refusals.Refusal.{Refusal}
+use Rattle.rs_tool.specs.declared.refusals.Refusal.TheVariants as refusal
 use Rattle.rs_tool.specs.Report.{report}
-use Rattle.rs_tool.specs.Sessions.{HasProjections, IsUnprojectable, MachineRefusal, first_refusal, machines_of}
+use Rattle.rs_tool.specs.Sessions.{HasMachines, HasProjections, IsUnprojectable, MachineRefusal, first_refusal, machines_of}
 use Rattle.rs_documents.specs.Canonical.{AreCanonicalMachines, AreShown}
 use Rattle.rs_tool.specs.Shown.{Shows}
 use Rattle.rs_tool.specs.Tables as tables
@@ -103,77 +105,74 @@ one_unprojectable protocol r s f g w h k = elim (leb_tells (suc r.0) s.0) [
   ]
 ]
 
--- the refusals that hang on the protocol alone
-data Refused (d : Document_data) (a : Answer_data) : Type 0 where
-  ByShape : (f : WfFault) → first_fault d.protocol ≡ Some f → a ≡ wf_answer d.names f → Refused d a
-  ByProjection : first_fault d.protocol ≡ None → (role : Role) (f : ProjFault) → IsUnprojectable d.protocol role f → a ≡ proj_answer d.names f → Refused d a
-
--- .. and what hangs on the machines
-data Judged (d : Document_data) (projections : List Projection_data) (machines : List Machine_data) (a : Answer_data) : Type 0 where
-  Ill : (r : MachineRefusal) → first_refusal d.protocol.roles machines ≡ Some r → a ≡ machine_answer d.names r.role r.fault → Judged d projections machines a
-  Underived : first_refusal d.protocol.roles machines ≡ None → (role : Role) (f : SearchFault) → IsUnderivable machines projections role f
-      → a ≡ search_answer d.names role f → Judged d projections machines a
-  Well : first_refusal d.protocol.roles machines ≡ None → (derivations : List Derivation_data) → AreCanonical machines projections derivations
-      → a ≡ report d.names.roles derivations → Judged d projections machines a
-
--- an answer comes of the protocol alone, or of its projections
-data Staged (d : Document_data) (P : List Projection_data → Answer_data → Type 0) (a : Answer_data) : Type 0 where
-  Early : Refused d a → Staged d P a
-  Late : (projections : List Projection_data) → HasProjections d projections → P projections a → Staged d P a
-
-abbrev JudgedOf : Document_data → List Projection_data → Answer_data → Type 0
-JudgedOf d projections a = Judged d projections (machines_of d.machines projections) a
-
-abbrev TabledOf : Document_data → List Projection_data → Answer_data → Type 0
-TabledOf d projections a = a ≡ record { text = tables_text d.names projections; verdict = Fine }
-
-staged_check : (d : Document_data) (a : Answer_data) → Checks d a → Staged d (JudgedOf d) a
-staged_check d a (checks.IsIllFormed f e x) = Early (ByShape f e x)
-staged_check d a (checks.HasNoProjection none r f u x) = Early (ByProjection none r f u x)
-staged_check d a (checks.HasIllMachine ps h r e x) = Late ps h (Ill r e x)
-staged_check d a (checks.HasNoDerivation ps ms h r f u x) = Late ps h.projections_are (subst (λ z. Judged d ps z a) h.machines_are (Underived h.well_formed r f u x))
-staged_check d a (checks.IsAccepted ps ms ds h found x) = Late ps h.projections_are (subst (λ z. Judged d ps z a) h.machines_are (Well h.well_formed ds found x))
-
-staged_tables : (d : Document_data) (a : Answer_data) → Projects d a → Staged d (TabledOf d) a
-staged_tables d a (tables.IsIllFormed f e x) = Early (ByShape f e x)
-staged_tables d a (tables.HasNoProjection none r f u x) = Early (ByProjection none r f u x)
-staged_tables d a (tables.HasTables ps h x) = Late ps h x
-
-one_refusal : (d : Document_data) (a b : Answer_data) → Refused d a → Refused d b → a ≡ b
-one_refusal d a b (ByShape f e x) (ByShape g h y) = let same : Some f ≡ Some g = sym e ∙ h in let is : f ≡ g = cc in x ∙ ap (wf_answer d.names) is ∙ sym y
-one_refusal d a b (ByShape f e x) (ByProjection none s g h y) = absurd cc
-one_refusal d a b (ByProjection none r f e x) (ByShape g h y) = absurd cc
-one_refusal d a b (ByProjection none r f e x) (ByProjection other s g h y) = x ∙ ap (proj_answer d.names) (one_unprojectable d.protocol r s f g (no_fault d.protocol none) e h) ∙ sym y
-
-not_refused : (d : Document_data) (projections : List Projection_data) (a : Answer_data) → HasProjections d projections → Refused d a → ⊥
-not_refused d projections a h (ByShape f e x) = let none = h.well_formed in cc
-not_refused d projections a h (ByProjection none r f e x) = not_earlier d.protocol r d.protocol.roles projections f (no_fault d.protocol none) h.projected e.known e
-
+-- a protocol has one list of projections
 one_projection_list : (d : Document_data) (xs ys : List Projection_data) → HasProjections d xs → HasProjections d ys → xs ≡ ys
 one_projection_list d xs ys h k = one_list d.protocol xs ys (no_fault d.protocol h.well_formed) h.projected k.projected
 
-one_staged : (d : Document_data) (P : List Projection_data → Answer_data → Type 0) (a b : Answer_data) → ((ps : List Projection_data) → P ps a → P ps b → a ≡ b) → Staged d P a → Staged d P b → a ≡ b
-one_staged d P a b one (Late xs h x) (Late ys k y) = one ys (subst (λ z. P z a) (one_projection_list d xs ys h k) x) y
-one_staged d P a b one (Late xs h x) (Early r) = absurd (not_refused d xs b h r)
-one_staged d P a b one (Early r) (Late ys k y) = absurd (not_refused d ys a k r)
-one_staged d P a b one (Early r) (Early s) = one_refusal d a b r s
+-- a protocol that has projections onto all roles has one onto each
+not_unprojectable : (d : Document_data) (projections : List Projection_data) (role : Role) (fault : ProjFault) → HasProjections d projections → IsUnprojectable d.protocol role fault → ⊥
+not_unprojectable d projections role fault h u = not_earlier d.protocol role d.protocol.roles projections fault (no_fault d.protocol h.well_formed) h.projected u.known u
+
+-- there is one reason why a document has no session
+pub one_reason : (d : Document_data) (r s : Refusal) → HasNoSession d r → HasNoSession d s → r ≡ s
+one_reason d r s (IsIllFormed f e) (IsIllFormed g h) = let same : Some f ≡ Some g = sym e ∙ h in let is : f ≡ g = cc in ap refusal.IllFormed is
+one_reason d r s (IsIllFormed f e) (HasNoProjection none role g u) = absurd cc
+one_reason d r s (IsIllFormed f e) (HasIllMachine ps h i g) = let none = h.well_formed in absurd cc
+one_reason d r s (HasNoProjection none role f u) (IsIllFormed g h) = absurd cc
+one_reason d r s (HasNoProjection none role f u) (HasNoProjection other place g v) =
+    ap refusal.Unprojectable (one_unprojectable d.protocol role place f g (no_fault d.protocol none) u v)
+one_reason d r s (HasNoProjection none role f u) (HasIllMachine ps h i g) = absurd (not_unprojectable d ps role f h u)
+one_reason d r s (HasIllMachine ps h i e) (IsIllFormed g f) = let none = h.well_formed in absurd cc
+one_reason d r s (HasIllMachine ps h i e) (HasNoProjection none role g u) = absurd (not_unprojectable d ps role g h u)
+one_reason d r s (HasIllMachine ps h i e) (HasIllMachine qs k j f) =
+    let projections = one_projection_list d ps qs h k in
+    let same : Some i ≡ Some j = sym e ∙ ap (λ z. first_refusal d.protocol.roles (machines_of d.machines z)) projections ∙ f in
+    let is : i ≡ j = cc in
+    ap (λ (z : MachineRefusal). refusal.IllMachine z.role z.fault) is
+
+-- a document that has a session isn't one that has none
+pub has_a_session : (d : Document_data) (projections : List Projection_data) (machines : List Machine_data) (r : Refusal) → HasMachines d projections machines → HasNoSession d r → ⊥
+has_a_session d ps ms r h (IsIllFormed f e) = let none = h.projections_are.well_formed in cc
+has_a_session d ps ms r h (HasNoProjection none role f u) = not_unprojectable d ps role f h.projections_are u
+has_a_session d ps ms r h (HasIllMachine qs k i e) =
+    let machines : ms ≡ machines_of d.machines qs = h.machines_are ∙ ap (machines_of d.machines) (one_projection_list d ps qs h.projections_are k) in
+    let none : first_refusal d.protocol.roles (machines_of d.machines qs) ≡ None = subst (λ z. first_refusal d.protocol.roles z ≡ None) machines h.well_formed in
+    cc (none, e)
+
+-- a document has one session
+pub same_session : (d : Document_data) (ps qs : List Projection_data) (ms ns : List Machine_data) → HasMachines d ps ms → HasMachines d qs ns → (ps ≡ qs) × (ms ≡ ns)
+same_session d ps qs ms ns h k =
+    let projections = one_projection_list d ps qs h.projections_are k.projections_are in
+    (projections, h.machines_are ∙ ap (machines_of d.machines) projections ∙ sym k.machines_are)
+
+one_tables : (d : Document_data) (a b : Answer_data) → Projects d a → Projects d b → a ≡ b
+one_tables d a b (tables.IsIllFormed f e x) (tables.IsIllFormed g h y) = let same : Some f ≡ Some g = sym e ∙ h in let is : f ≡ g = cc in x ∙ ap (wf_answer d.names) is ∙ sym y
+one_tables d a b (tables.IsIllFormed f e x) (tables.HasNoProjection none s g h y) = absurd cc
+one_tables d a b (tables.IsIllFormed f e x) (tables.HasTables ps h y) = let none = h.well_formed in absurd cc
+one_tables d a b (tables.HasNoProjection none r f e x) (tables.IsIllFormed g h y) = absurd cc
+one_tables d a b (tables.HasNoProjection none r f e x) (tables.HasNoProjection other s g h y) =
+    x ∙ ap (proj_answer d.names) (one_unprojectable d.protocol r s f g (no_fault d.protocol none) e h) ∙ sym y
+one_tables d a b (tables.HasNoProjection none r f e x) (tables.HasTables ps h y) = absurd (not_unprojectable d ps r f h e)
+one_tables d a b (tables.HasTables ps h x) (tables.IsIllFormed g e y) = let none = h.well_formed in absurd cc
+one_tables d a b (tables.HasTables ps h x) (tables.HasNoProjection none s g e y) = absurd (not_unprojectable d ps s g h e)
+one_tables d a b (tables.HasTables ps h x) (tables.HasTables qs k y) = x ∙ ap (λ z. record { text = tables_text d.names z; verdict = Fine }) (one_projection_list d ps qs h k) ∙ sym y
 
 -- a role whose machine has a derivation isn't one whose machine has none
-derived_before : (ms : List Machine_data) (ps : List Projection_data) (count : ℕ) (ds : List Derivation_data) (role : Role) (fault : SearchFault) → AreFirstCanonical ms ps count ds → role.0 < count → IsUnderivable ms ps role fault → ⊥
-derived_before ms ps count ds role fault h lt u =
+derived_before : (bound : ℕ) (ms : List Machine_data) (ps : List Projection_data) (count : ℕ) (ds : List Derivation_data) (role : Role) (fault : SearchFault) → AreFirstCanonical bound ms ps count ds → role.0 < count → IsUnderivable bound ms ps role fault → ⊥
+derived_before bound ms ps count ds role fault h lt u =
     let many = h.many in
     let d = get_some ds role.0 (omega (arith, many, lt)) in
     let found = h.each role.0 u.machine u.projection d.0 u.runs u.projects d.1 in
-    u.cause (not_both_ways u.machine u.projection.machine DEFAULT_BOUND d.0 fault found u.refused)
+    u.cause (not_both_ways u.machine u.projection.machine bound d.0 fault found u.refused)
 
-not_derived : (ms : List Machine_data) (ps : List Projection_data) (ds : List Derivation_data) (role : Role) (fault : SearchFault) → AreCanonical ms ps ds → IsUnderivable ms ps role fault → ⊥
-not_derived ms ps ds role fault h u = derived_before ms ps (length ms) ds role fault h (slice_get_within ms role.0 u.machine u.runs) u
+not_derived : (bound : ℕ) (ms : List Machine_data) (ps : List Projection_data) (ds : List Derivation_data) (role : Role) (fault : SearchFault) → AreCanonical bound ms ps ds → IsUnderivable bound ms ps role fault → ⊥
+not_derived bound ms ps ds role fault h u = derived_before bound ms ps (length ms) ds role fault h (slice_get_within ms role.0 u.machine u.runs) u
 
-one_underivable : (ms : List Machine_data) (ps : List Projection_data) (r s : Role) (f g : SearchFault) → IsUnderivable ms ps r f → IsUnderivable ms ps s g → (r ≡ s) × (f ≡ g)
-one_underivable ms ps r s f g u v = elim (leb_tells (suc r.0) s.0) [
-  | inl less ↦ absurd (derived_before ms ps s.0 v.earlier r f v.derived less.1 u)
+one_underivable : (bound : ℕ) (ms : List Machine_data) (ps : List Projection_data) (r s : Role) (f g : SearchFault) → IsUnderivable bound ms ps r f → IsUnderivable bound ms ps s g → (r ≡ s) × (f ≡ g)
+one_underivable bound ms ps r s f g u v = elim (leb_tells (suc r.0) s.0) [
+  | inl less ↦ absurd (derived_before bound ms ps s.0 v.earlier r f v.derived less.1 u)
   | inr more ↦ elim (leb_tells (suc s.0) r.0) [
-    | inl less ↦ absurd (derived_before ms ps r.0 u.earlier s g u.derived less.1 v)
+    | inl less ↦ absurd (derived_before bound ms ps r.0 u.earlier s g u.derived less.1 v)
     | inr other ↦
         let m1 = more.1 in
         let m2 = other.1 in
@@ -181,44 +180,71 @@ one_underivable ms ps r s f g u v = elim (leb_tells (suc r.0) s.0) [
         let same : r ≡ s = same_role r s place in
         let machine : u.machine ≡ v.machine = same_Some u.machine v.machine (sym u.runs ∙ ap (λ z. slice_get ms z) place ∙ v.runs) in
         let projection : u.projection ≡ v.projection = same_Some u.projection v.projection (sym u.projects ∙ ap (λ z. slice_get ps z) place ∙ v.projects) in
-        let P : Machine_data → Type 0 = λ z. Refuses z u.projection.machine DEFAULT_BOUND f in
-        let Q : Projection_data → Type 0 = λ z. Refuses v.machine z.machine DEFAULT_BOUND f in
-        let refused : Refuses v.machine v.projection.machine DEFAULT_BOUND f = subst Q projection (subst P machine u.refused) in
-        (same, searched.one_refusal v.machine v.projection.machine DEFAULT_BOUND f g u.cause v.cause refused v.refused)
+        let P : Machine_data → Type 0 = λ z. Refuses z u.projection.machine bound f in
+        let Q : Projection_data → Type 0 = λ z. Refuses v.machine z.machine bound f in
+        let refused : Refuses v.machine v.projection.machine bound f = subst Q projection (subst P machine u.refused) in
+        (same, searched.one_refusal v.machine v.projection.machine bound f g u.cause v.cause refused v.refused)
   ]
 ]
 
 -- the session's derivations are one list
-one_derived : (ms : List Machine_data) (ps : List Projection_data) (ds es : List Derivation_data) → length ms ≤ length ps → AreCanonical ms ps ds → AreCanonical ms ps es → ds ≡ es
-one_derived ms ps ds es few h k =
+one_derived : (bound : ℕ) (ms : List Machine_data) (ps : List Projection_data) (ds es : List Derivation_data) → length ms ≤ length ps → AreCanonical bound ms ps ds → AreCanonical bound ms ps es → ds ≡ es
+one_derived bound ms ps ds es few h k =
     same_list ds es (h.many ∙ sym k.many) (λ p d e hd he.
     let within = slice_get_within ds p d hd in
     let many = h.many in
     let m = get_some ms p (omega (arith, within, many)) in
     let j = get_some ps p (omega (arith, within, many, few)) in
-    searched.one_answer m.0 j.0.machine DEFAULT_BOUND d e (h.each p m.0 j.0 d m.1 j.1 hd) (k.each p m.0 j.0 e m.1 j.1 he))
-
-one_judgement : (d : Document_data) (ps : List Projection_data) (ms : List Machine_data) (a b : Answer_data) → length ms ≤ length ps → Judged d ps ms a → Judged d ps ms b → a ≡ b
-one_judgement d ps ms a b few (Ill r e x) (Ill s f y) =
-    let same : Some r ≡ Some s = sym e ∙ f in
-    let is : r ≡ s = cc in
-    x ∙ ap (λ (z : MachineRefusal). machine_answer d.names z.role z.fault) is ∙ sym y
-one_judgement d ps ms a b few (Ill r e x) (Underived f s g u y) = absurd cc
-one_judgement d ps ms a b few (Ill r e x) (Well f ds g y) = absurd cc
-one_judgement d ps ms a b few (Underived e r f u x) (Ill s g y) = absurd cc
-one_judgement d ps ms a b few (Underived e r f u x) (Underived h s g v y) =
-    let same = one_underivable ms ps r s f g u v in
-    x ∙ ap (λ z. search_answer d.names z f) same.0 ∙ ap (λ z. search_answer d.names s z) same.1 ∙ sym y
-one_judgement d ps ms a b few (Underived e r f u x) (Well h ds g y) = absurd (not_derived ms ps ds r f g u)
-one_judgement d ps ms a b few (Well e ds g x) (Ill s h y) = absurd cc
-one_judgement d ps ms a b few (Well e ds g x) (Underived h s f u y) = absurd (not_derived ms ps ds s f g u)
-one_judgement d ps ms a b few (Well e ds g x) (Well h ds' k y) = x ∙ ap (λ z. report d.names.roles z) (one_derived ms ps ds ds' few g k) ∙ sym y
+    searched.one_answer m.0 j.0.machine bound d e (h.each p m.0 j.0 d m.1 j.1 hd) (k.each p m.0 j.0 e m.1 j.1 he))
 
 few_machines : (own : List (Option Machine_data)) (ps : List Projection_data) → length (machines_of own ps) ≤ length ps
 few_machines [] [] = omega arith
 few_machines [] (j ∷ js) = omega arith
 few_machines (x ∷ xs) [] = omega arith
 few_machines (x ∷ xs) (j ∷ js) = let few = few_machines xs js in omega (arith, few)
+
+-- of a session there is one list of derivations, or one reason why there is none
+one_session_derived : (bound : ℕ) (d : Document_data) (ps qs : List Projection_data) (ms ns : List Machine_data) (ds es : List Derivation_data) → HasMachines d ps ms → HasMachines d qs ns → AreCanonical bound ms ps ds → AreCanonical bound ns qs es → ds ≡ es
+one_session_derived bound d ps qs ms ns ds es h k f g =
+    let same = same_session d ps qs ms ns h k in
+    let P : List Projection_data → Type 0 = λ z. AreCanonical bound ms z ds in
+    let Q : List Machine_data → Type 0 = λ z. AreCanonical bound z qs ds in
+    let few : length ns ≤ length qs = subst (λ (z : List Machine_data). length z ≤ length qs) (sym k.machines_are) (few_machines d.machines qs) in
+    one_derived bound ns qs ds es few (subst Q same.1 (subst P same.0 f)) g
+
+not_session_derived : (bound : ℕ) (d : Document_data) (ps qs : List Projection_data) (ms ns : List Machine_data) (ds : List Derivation_data) (role : Role) (fault : SearchFault) → HasMachines d ps ms → HasMachines d qs ns → AreCanonical bound ms ps ds
+    → IsUnderivable bound ns qs role fault → ⊥
+not_session_derived bound d ps qs ms ns ds role fault h k f u =
+    let same = same_session d ps qs ms ns h k in
+    let P : List Projection_data → Type 0 = λ z. AreCanonical bound ms z ds in
+    let Q : List Machine_data → Type 0 = λ z. AreCanonical bound z qs ds in
+    not_derived bound ns qs ds role fault (subst Q same.1 (subst P same.0 f)) u
+
+one_session_underivable : (bound : ℕ) (d : Document_data) (ps qs : List Projection_data) (ms ns : List Machine_data) (r s : Role) (f g : SearchFault) → HasMachines d ps ms → HasMachines d qs ns → IsUnderivable bound ms ps r f → IsUnderivable bound ns qs s g
+    → refusal.Underivable (record { role = r; fault = f }) ≡ refusal.Underivable (record { role = s; fault = g })
+one_session_underivable bound d ps qs ms ns r s f g h k u v =
+    let same = same_session d ps qs ms ns h k in
+    let P : List Projection_data → Type 0 = λ z. IsUnderivable bound ms z r f in
+    let Q : List Machine_data → Type 0 = λ z. IsUnderivable bound z qs r f in
+    let one = one_underivable bound ns qs r s f g (subst Q same.1 (subst P same.0 u)) v in
+    ap (λ z. refusal.Underivable (record { role = z; fault = f })) one.0 ∙ ap (λ z. refusal.Underivable (record { role = s; fault = z })) one.1
+
+-- there is one reason why no derivations are found, and none where they are
+pub one_refusal : (bound : ℕ) (d : Document_data) (r s : Refusal) → HasNoDerivations bound d r → HasNoDerivations bound d s → r ≡ s
+one_refusal bound d r s (IsWithoutSession p h) (IsWithoutSession q k) = one_reason d r s h k
+one_refusal bound d r s (IsWithoutSession p h) (HasNoDerivation qs ns k role f u) = absurd (has_a_session d qs ns r k h)
+one_refusal bound d r s (HasNoDerivation ps ms h role f u) (IsWithoutSession q k) = absurd (has_a_session d ps ms s h k)
+one_refusal bound d r s (HasNoDerivation ps ms h role f u) (HasNoDerivation qs ns k place g v) = one_session_underivable bound d ps qs ms ns role place f g h k u v
+
+pub not_refused : (bound : ℕ) (d : Document_data) (ps : List Projection_data) (ms : List Machine_data) (ds : List Derivation_data) (r : Refusal) → HasMachines d ps ms → AreCanonical bound ms ps ds → HasNoDerivations bound d r → ⊥
+not_refused bound d ps ms ds r h f (IsWithoutSession q k) = has_a_session d ps ms r h k
+not_refused bound d ps ms ds r h f (HasNoDerivation qs ns k role g u) = not_session_derived bound d ps qs ms ns ds role g h k f u
+
+one_check : (bound : ℕ) (d : Document_data) (a b : Answer_data) → Checks bound d a → Checks bound d b → a ≡ b
+one_check bound d a b (IsRefused r h x) (IsRefused s k y) = x ∙ ap (refusal_answer d.names) (one_refusal bound d r s h k) ∙ sym y
+one_check bound d a b (IsRefused r h x) (IsAccepted ps ms ds k f y) = absurd (not_refused bound d ps ms ds r k f h)
+one_check bound d a b (IsAccepted ps ms ds h f x) (IsRefused s k y) = absurd (not_refused bound d ps ms ds s h f k)
+one_check bound d a b (IsAccepted ps ms ds h f x) (IsAccepted qs ns es k g y) = x ∙ ap (report d.names.roles) (one_session_derived bound d ps qs ms ns ds es h k f g) ∙ sym y
 
 one_lines : (names : Names_data) (machines : List (Option Machine_data)) (x y : List ℕ) → AreShown names machines → AreCanonicalMachines names machines x → AreCanonicalMachines names machines y → x ≡ y
 one_lines names [] x y s h k = h ∙ sym k
@@ -235,9 +261,9 @@ one_show bytes d a b doc h k =
     ap (λ z. record { text = z; verdict = a.verdict }) text ∙ ap (λ z. record { text = b.text; verdict = z }) (h.fine ∙ sym k.fine)
 
 one_of_document : (t : Task) (bytes : List ℕ) (d : Document_data) (a b : Answer_data) → SpellsDocument bytes d → AnswersDocument t d a → AnswersDocument t d b → a ≡ b
-one_of_document task.Check bytes d a b doc h k = one_staged d (JudgedOf d) a b (λ ps x y. one_judgement d ps (machines_of d.machines ps) a b (few_machines d.machines ps) x y) (staged_check d a h) (staged_check d b k)
+one_of_document task.Check bytes d a b doc h k = one_check DEFAULT_BOUND d a b h k
 one_of_document task.Show bytes d a b doc h k = one_show bytes d a b doc h k
-one_of_document task.Project bytes d a b doc h k = one_staged d (TabledOf d) a b (λ ps x y. x ∙ sym y) (staged_tables d a h) (staged_tables d b k)
+one_of_document task.Project bytes d a b doc h k = one_tables d a b h k
 
 one_text : (t : Task) (bytes : List ℕ) (a b : Answer_data) → AnswersText t bytes a → AnswersText t bytes b → a ≡ b
 one_text t bytes a b (IsTooLong l x) (IsTooLong m y) = x ∙ sym y

@@ -10,12 +10,13 @@ use Rattle.rs_tool.specs.RefusalTexts.{usage, not_built, too_large, fault_answer
 use Rattle.rs_tool.specs.Shown.{Shows}
 use Rattle.rs_tool.specs.Tables.{Projects}
 use Rattle.rs_tool.specs.Words.{names_command, task_of}
+use Rattle.rs_tool.specs.declared.derivations.TheConstants.{DEFAULT_BOUND}
 use Rattle.rs_tool.specs.declared.words.Task.{Task}
 use Rattle.rs_tool.specs.declared.words.Task.TheVariants as task
 
 -- the answer of the task to a document
 abbrev pub AnswersDocument : Task → Document_data → Answer_data → Type 0
-AnswersDocument task.Check d answer = Checks d answer
+AnswersDocument task.Check d answer = Checks DEFAULT_BOUND d answer
 AnswersDocument task.Show d answer = Shows d answer
 AnswersDocument task.Project d answer = Projects d answer
 

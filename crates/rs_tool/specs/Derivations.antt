@@ -1,37 +1,35 @@
 -- Believed: the derivations of a session: those that the search finds for its machines.
-use Rattle.std.specs.Prelude.{◌≡◌, ◌≢◌, ◌⊎◌, ℕ, List, Some, length, slice_get}
+use Rattle.std.specs.Prelude.{◌≡◌, ◌≢◌, ◌≤◌, ℕ, List, Some, length, slice_get}
 use Rattle.rs_derive.specs.Data.{Derivation_data}
-use Rattle.rs_derive.specs.Derivations.{IsProper}
 use Rattle.rs_model.specs.Data.{Machine_data}
 use Rattle.rs_model.specs.declared.graph.Role.{Role}
+use Rattle.rs_model.specs.declared.limits.TheConstants.{MOST_BOUND}
 use Rattle.rs_project.specs.Data.{Projection_data}
 use Rattle.rs_search.specs.Canonical.{IsFound, Refuses}
 use Rattle.rs_search.specs.declared.faults.SearchFault.{SearchFault}
 use Rattle.rs_search.specs.declared.faults.SearchFault.TheVariants as search
-use Rattle.rs_tool.specs.declared.derivations.TheConstants.{DEFAULT_BOUND}
 
--- the canonical derivations of the first so many roles' machines from their projections, in role order
-pub record AreFirstCanonical (machines : List Machine_data) (projections : List Projection_data) (count : ℕ) (derivations : List Derivation_data) : Type 0 where
+-- what the search can be bounded by
+abbrev pub IsBound : ℕ → Type 0
+IsBound bound = (1 ≤ bound) × (bound ≤ MOST_BOUND)
+
+-- the canonical derivations within the bound of the first so many roles' machines from their projections, in role order
+pub record AreFirstCanonical (bound : ℕ) (machines : List Machine_data) (projections : List Projection_data) (count : ℕ) (derivations : List Derivation_data) : Type 0 where
   pub many : length derivations ≡ count
   pub each : (p : ℕ) (m : Machine_data) (j : Projection_data) (d : Derivation_data) → slice_get machines p ≡ Some m → slice_get projections p ≡ Some j
-      → slice_get derivations p ≡ Some d → IsFound m j.machine DEFAULT_BOUND d
+      → slice_get derivations p ≡ Some d → IsFound m j.machine bound d
 
 -- .. of all roles
-abbrev pub AreCanonical : List Machine_data → List Projection_data → List Derivation_data → Type 0
-AreCanonical machines projections derivations = AreFirstCanonical machines projections (length machines) derivations
+abbrev pub AreCanonical : ℕ → List Machine_data → List Projection_data → List Derivation_data → Type 0
+AreCanonical bound machines projections derivations = AreFirstCanonical bound machines projections (length machines) derivations
 
--- the first role for whose machine there is no canonical derivation, and why
-pub record IsUnderivable (machines : List Machine_data) (projections : List Projection_data) (role : Role) (fault : SearchFault) : Type 0 where
+-- the first role for whose machine there is no canonical derivation within the bound, and why
+pub record IsUnderivable (bound : ℕ) (machines : List Machine_data) (projections : List Projection_data) (role : Role) (fault : SearchFault) : Type 0 where
   pub machine : Machine_data
   pub projection : Projection_data
   pub runs : slice_get machines role.0 ≡ Some machine
   pub projects : slice_get projections role.0 ≡ Some projection
   pub earlier : List Derivation_data
-  pub derived : AreFirstCanonical machines projections role.0 earlier
-  pub refused : Refuses machine projection.machine DEFAULT_BOUND fault
+  pub derived : AreFirstCanonical bound machines projections role.0 earlier
+  pub refused : Refuses machine projection.machine bound fault
   pub cause : fault ≢ search.NoMemory
-
--- well-formed machines have a canonical derivation, or there is a reason why they have none
-abbrev pub AreSearchable : Type 0
-AreSearchable = (sub above : Machine_data) → IsProper sub → IsProper above
-    → ((d : Derivation_data) × IsFound sub above DEFAULT_BOUND d) ⊎ ((fault : SearchFault) × (fault ≢ search.NoMemory) × Refuses sub above DEFAULT_BOUND fault)

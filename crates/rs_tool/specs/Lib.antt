@@ -7,6 +7,7 @@ pub mod Derivations
 pub mod Headline
 pub mod Machines
 pub mod RefusalTexts
+pub mod Refusals
 pub mod Report
 pub mod Sessions
 pub mod Shown

@@ -40,3 +40,9 @@ refusal_or None role later = later
 abbrev pub first_refusal : ℕ → List Machine_data → Option MachineRefusal
 first_refusal roles [] = None
 first_refusal roles (machine ∷ machines) = refusal_or (first_fault machine roles) machine.role (first_refusal roles machines)
+
+-- these are the document's projections, and its machines are well formed
+pub record HasMachines (d : Document_data) (projections : List Projection_data) (machines : List Machine_data) : Type 0 where
+  pub projections_are : HasProjections d projections
+  pub machines_are : machines ≡ machines_of d.machines projections
+  pub well_formed : first_refusal d.protocol.roles machines ≡ None

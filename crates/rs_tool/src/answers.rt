@@ -5,12 +5,13 @@ ghost use Rattle.rs_tool.specs.Answers.{Answers, AnswersText};
 ghost use Rattle.rs_tool.specs.Words.{bytes_of_words, task_of};
 
 use crate::checks::check;
+use crate::derivations::DEFAULT_BOUND;
+use rs_documents::{Content, read_document};
 use crate::refusal_texts::{fault_answer, not_built, usage};
 use crate::shown::show;
 use crate::statuses::Verdict;
 use crate::tables::project_all;
 use crate::words::{Task, names_command};
-use rs_documents::{Content, read_document};
 use rs_model::{MOST_BYTES, NoMemory};
 use rs_text::Text;
 use std::alloc::Global;
@@ -42,7 +43,7 @@ pub fn answer_to_text(alloc: Global, task: Task, bytes: &[u8]) -> Result<Answer,
         Content::Fault(fault) => return fault_answer(alloc, bytes, fault),
     };
     match task {
-        Task::Check => check(alloc, &document),
+        Task::Check => check(alloc, &document, DEFAULT_BOUND),
         Task::Show => show(alloc, &document),
         Task::Project => project_all(alloc, &document),
     }

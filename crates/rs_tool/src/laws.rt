@@ -3,14 +3,12 @@
 ghost use Rattle.std.specs.Prelude.{◌≡◌, ℕ, List, length};
 ghost use Rattle.rs_tool.specs.Answers.{Answers};
 ghost use Rattle.rs_tool.specs.Data.{Answer_data};
-ghost use Rattle.rs_tool.specs.Derivations.{AreSearchable};
 ghost use Rattle.rs_tool.specs.Headline.{SpellsSafeMachines};
 ghost use Rattle.rs_tool.specs.Machines.{machines_of};
 
-/// There is an answer to all words and bytes, where well-formed machines have a canonical derivation or a reason why they
-/// have none.
+/// There is an answer to all words and bytes.
 pub fn all_have_an_answer()
-    ensures { AreSearchable → (words : List (List ℕ)) (bytes : List ℕ) → (a : Answer_data) × Answers words bytes a }
+    ensures { (words : List (List ℕ)) (bytes : List ℕ) → (a : Answer_data) × Answers words bytes a }
 {}
 
 /// No words and bytes have two answers.

@@ -7,6 +7,7 @@ mod checks;
 mod derivations;
 pub mod laws;
 mod refusal_texts;
+mod refusals;
 mod report;
 mod sessions;
 mod shown;
@@ -16,9 +17,12 @@ mod texts;
 mod words;
 
 pub use calls::{command, command_serial};
-pub use derivations::{DEFAULT_BOUND, Underivable, derivations_of};
+pub use derivations::{
+    DEFAULT_BOUND, DerivedSession, Underivable, accept_derived, derivations_of, derived_session,
+};
+pub use refusals::Refusal;
 pub use rs_documents::{Content, Document, print_document, read_document};
-pub use sessions::{first_refusal, machines_of, projections_of};
+pub use sessions::{Session, first_refusal, machines_of, projections_of, session_of};
 pub use statuses::{Reply, Serial, Status};
 
 #[cfg(test)]

@@ -1,15 +1,26 @@
 //! The session of a document: its projections and its machines.
 
-ghost use Rattle.std.specs.Prelude.{◌≡◌, ◌≤◌, ◌<◌, ◌⊎◌, ◌^◌, length, IfOk, IfErr, IfSome, IfNone, Some, None};
+ghost use Rattle.std.specs.Prelude.{◌≡◌, ◌<◌, ◌⊎◌, ◌^◌, length, IfOk, IfErr, IfSome, IfNone, Some, None};
 ghost use Rattle.std.specs.List.{All};
-ghost use Rattle.rs_documents.specs.Reading.{AreShort};
 ghost use Rattle.rs_project.specs.Numbered.{AreNumberedProjections};
-ghost use Rattle.rs_tool.specs.Sessions.{Refuses, first_refusal, machine_or, machines_of};
+ghost use Rattle.rs_documents.specs.Reading.{IsReady};
+ghost use Rattle.rs_tool.specs.Refusals.{HasNoSession};
+ghost use Rattle.rs_tool.specs.Sessions.{HasMachines, Refuses, first_refusal, machine_or, machines_of};
 ghost use Rattle.rs_wellformed.specs.WellFormed.{IsWellFormed};
 
+use rs_documents::Document;
+use crate::refusals::Refusal;
 use rs_model::{Machine, MachineFault, NoMemory, Protocol, Role};
 use rs_project::{ProjFault, Projection, project};
+use rs_wellformed::well_formed;
 use std::alloc::Global;
+
+/// The session of a document: a projection and a machine for each role, in role order.
+#[derive(Drop)]
+pub struct Session {
+    pub projections: Vec<Projection>,
+    pub machines: Vec<Machine>,
+}
 
 /// The projections of the protocol onto its roles, in their order; or why there is none onto the first role onto which
 /// there is none.
@@ -71,4 +82,23 @@ pub fn first_refusal(machines: &[Machine], roles: u8) -> Option<(Role, MachineFa
         }
     }
     None
+}
+
+/// The session of the document; or the first reason why it has none.
+pub fn session_of(alloc: Global, document: &Document) -> Result<Session, Refusal>
+    requires { IsReady document.now }
+    ensures ok { IfOk result (λ s. HasMachines document.now s.projections.items s.machines.items) }
+    ensures err { IfErr result (λ r. (r ≡ Refusal.NoMemory) ⊎ HasNoSession document.now r) }
+{
+    let protocol = &document.protocol;
+    well_formed(protocol)?;
+    let projections = projections_of(alloc, protocol)?;
+    let machines = machines_of(alloc, document.machines.as_slice(), projections.as_slice())?;
+    match first_refusal(machines.as_slice(), protocol.roles) {
+        Some((role, fault)) => Err(Refusal::IllMachine { role, fault }),
+        None => Ok(Session {
+            projections,
+            machines,
+        }),
+    }
 }
