@@ -1,33 +1,71 @@
--- A text whose machines have derivations is accepted.
-use Rattle.std.proofs.Common.{◌≡◌, ◌⊎◌, inl, inr, ℕ, List, Bool, true, Option, Some, None, ap, ◌∙◌, if◌then◌else◌, refl}
+-- A text whose machines may be derived is accepted.
+use Rattle.std.proofs.Common.{◌≡◌, ◌⊎◌, inl, inr, ℕ, zero, suc, List, [], ◌∷◌, length, Bool, true, Option, Some, None, ap, ◌∙◌, if◌then◌else◌, refl, arith}
+use Rattle.rs_derive.specs.Data.{Derivation_data}
+use Rattle.rs_documents.proofs.SpeltSessions.{spelt_session}
+use Rattle.rs_model.proofs.Faults as of_machines
+use Rattle.rs_model.specs.Data.{Machine_data}
+use Rattle.rs_search.proofs.Deciding.{not_refused}
+use Rattle.rs_wellformed.proofs.Faults as of_protocols
 use Rattle.rs_tool.specs.Answers.{Answers, CarriesOut, IsDocument}
 use Rattle.rs_tool.specs.Calls.{Ends, Tells, TellsAll, TellsPart, TellsReadFault, TellsNoMemory}
 use Rattle.rs_tool.specs.Checks.{IsAccepted}
-use Rattle.rs_tool.specs.Completeness.{IsComplete, SpellsDerivedSession}
+use Rattle.rs_tool.specs.Completeness.{AllFit, IsComplete, SpellsDerivableSession}
 use Rattle.rs_tool.specs.Data.{Answer_data}
+use Rattle.rs_tool.specs.Derivations.{AreCanonical}
+use Rattle.rs_tool.specs.Machines.{machines_of}
 use Rattle.rs_tool.specs.Report.{report}
+use Rattle.rs_tool.specs.Sessions.{HasMachines, first_refusal}
 use Rattle.rs_tool.specs.Statuses.{status_of}
 use Rattle.rs_tool.specs.Words.{is_check, is_show, is_project, task_of}
 use Rattle.rs_tool.specs.declared.derivations.TheConstants.{DEFAULT_BOUND}
 use Rattle.rs_tool.specs.declared.statuses.Status.{Status}
 use Rattle.rs_tool.specs.declared.statuses.Status.TheVariants as status
 use Rattle.rs_tool.specs.declared.words.Task.TheVariants as task
+use Rattle.rs_tool.proofs.Derivings.{session_of}
+use Rattle.rs_tool.proofs.SomeAnswer.{Searched, AllFound, OneIsnt, found_first}
 use Rattle.rs_tool.proofs.Unique.{one_answer}
 
 check_is_a_task : (words : List (List ℕ)) → is_check words ≡ true → task_of words ≡ Some task.Check
 check_is_a_task words e = ap (λ (b : Bool). if b then Some task.Check else if is_show words then Some task.Show else if is_project words then Some task.Project else None) e
 
+-- where each machine is well formed none is refused
+none_refused : (roles : ℕ) (machines : List Machine_data) → AllFit roles machines → first_refusal roles machines ≡ None
+none_refused roles [] fit = refl
+none_refused roles (m ∷ machines) fit = rw (of_machines.right m roles (fit zero m refl), none_refused roles machines (λ p n at. fit (suc p) n at)) refl
+
+-- .. so the document has its machines
+has_machines : (bound : ℕ) (bytes : List ℕ) (s : SpellsDerivableSession bound bytes) → HasMachines s.document s.projections (machines_of s.document.machines s.projections)
+has_machines bound bytes s = record {
+  projections_are = record { well_formed = of_protocols.right s.document.protocol s.well_formed; projected = s.projected };
+  machines_are = refl;
+  well_formed = none_refused s.document.protocol.roles (machines_of s.document.machines s.projections) s.machines_fit;
+}
+
+-- .. and their derivations
+derived : (bound : ℕ) (bytes : List ℕ) (s : SpellsDerivableSession bound bytes) → (derivations : List Derivation_data) × AreCanonical bound (machines_of s.document.machines s.projections) s.projections derivations
+derived bound bytes s =
+    let ms = machines_of s.document.machines s.projections in
+    let h = has_machines bound bytes s in
+    let session = session_of s.document s.projections ms (spelt_session bytes s.document s.spells) h.projections_are.well_formed s.projected refl h.well_formed in
+    go (found_first bound s.document.protocol s.projections ms session (length ms) (omega arith))
+  where
+    go : Searched bound (machines_of s.document.machines s.projections) s.projections (length (machines_of s.document.machines s.projections)) → (derivations : List Derivation_data) × AreCanonical bound (machines_of s.document.machines s.projections) s.projections derivations
+    go (AllFound derivations found) = (derivations, found)
+    go (OneIsnt role fault u) = absurd (not_refused u.machine u.projection.machine bound (s.derivable role.0 u.machine u.projection u.runs u.projects) fault u.cause u.refused)
+
 -- the answer to such a text
-abbrev answer_of : (bytes : List ℕ) → SpellsDerivedSession DEFAULT_BOUND bytes → Answer_data
-answer_of bytes s = report s.document.names.roles s.derivations
+abbrev answer_of : (bytes : List ℕ) → SpellsDerivableSession DEFAULT_BOUND bytes → Answer_data
+answer_of bytes s = report s.document.names.roles (derived DEFAULT_BOUND bytes s).0
 
-answers : (words : List (List ℕ)) (bytes : List ℕ) (s : SpellsDerivedSession DEFAULT_BOUND bytes) → is_check words ≡ true → Answers words bytes (answer_of bytes s)
-answers words bytes s e = CarriesOut task.Check (check_is_a_task words e) (IsDocument s.short s.document s.spells (IsAccepted s.projections s.machines s.derivations s.has s.derived refl))
+answers : (words : List (List ℕ)) (bytes : List ℕ) (s : SpellsDerivableSession DEFAULT_BOUND bytes) → is_check words ≡ true → Answers words bytes (answer_of bytes s)
+answers words bytes s e =
+    let d = derived DEFAULT_BOUND bytes s in
+    CarriesOut task.Check (check_is_a_task words e) (IsDocument s.short s.document s.spells (IsAccepted s.projections (machines_of s.document.machines s.projections) d.0 (has_machines DEFAULT_BOUND bytes s) d.1 refl))
 
-is_fine : (words : List (List ℕ)) (bytes : List ℕ) (s : SpellsDerivedSession DEFAULT_BOUND bytes) (a : Answer_data) → is_check words ≡ true → Answers words bytes a → status_of a.verdict ≡ status.Fine
+is_fine : (words : List (List ℕ)) (bytes : List ℕ) (s : SpellsDerivableSession DEFAULT_BOUND bytes) (a : Answer_data) → is_check words ≡ true → Answers words bytes a → status_of a.verdict ≡ status.Fine
 is_fine words bytes s a e h = ap (λ (z : Answer_data). status_of z.verdict) (one_answer words bytes a (answer_of bytes s) h (answers words bytes s e))
 
-told : (words : List (List ℕ)) (bytes : List ℕ) (old new : Option (List ℕ)) (state : Status) (s : SpellsDerivedSession DEFAULT_BOUND bytes) → is_check words ≡ true → Tells words bytes old new state
+told : (words : List (List ℕ)) (bytes : List ℕ) (old new : Option (List ℕ)) (state : Status) (s : SpellsDerivableSession DEFAULT_BOUND bytes) → is_check words ≡ true → Tells words bytes old new state
     → (state ≡ status.ReadFault → ⊥) → (state ≡ status.WriteFault → ⊥) → (state ≡ status.Fine) ⊎ (state ≡ status.NoMemory)
 told words bytes old new state s e (TellsAll a h text is) no_read no_write = inl (is ∙ is_fine words bytes s a e h)
 told words bytes old new state s e (TellsPart a h text is) no_read no_write = absurd (no_write is)

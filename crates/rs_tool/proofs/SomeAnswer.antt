@@ -75,7 +75,7 @@ first_ones protocol wf (suc count) le = go (first_ones protocol wf count (omega 
     go (AllProject projections h) (inr f) = OneDoesnt (record { 0 = count }) f.0 (record { known = omega arith; earlier = projections; projected = h; refused = f.1 })
 
 -- what the search finds for the first so many roles
-data Searched (bound : ℕ) (ms : List Machine_data) (ps : List Projection_data) (count : ℕ) : Type 0 where
+pub data Searched (bound : ℕ) (ms : List Machine_data) (ps : List Projection_data) (count : ℕ) : Type 0 where
   AllFound : (derivations : List Derivation_data) → AreFirstCanonical bound ms ps count derivations → Searched bound ms ps count
   OneIsnt : (role : Role) (fault : SearchFault) → IsUnderivable bound ms ps role fault → Searched bound ms ps count
 
@@ -87,7 +87,7 @@ found_next bound ms ps count m j ds hm hj h (inl d) =
 found_next bound ms ps count m j ds hm hj h (inr f) =
     OneIsnt (record { 0 = count }) f.0 record { machine = m; projection = j; runs = hm; projects = hj; earlier = ds; derived = h; refused = f.2; cause = f.1 }
 
-found_first : (bound : ℕ) (pr : Protocol_data) (ps : List Projection_data) (ms : List Machine_data) → IsSession pr ps ms → (count : ℕ) → count ≤ length ms → Searched bound ms ps count
+pub found_first : (bound : ℕ) (pr : Protocol_data) (ps : List Projection_data) (ms : List Machine_data) → IsSession pr ps ms → (count : ℕ) → count ≤ length ms → Searched bound ms ps count
 found_first bound pr ps ms s zero le = AllFound [] (none_canonical bound ms ps)
 found_first bound pr ps ms s (suc count) le =
     let m = get_or ms count no-machine in

@@ -18,9 +18,7 @@ use Rattle.rs_search.proofs.Determined.{not_both_ways}
 use Rattle.rs_search.proofs.Determined as searched
 use Rattle.rs_tool.specs.Derivations.{AreCanonical, AreFirstCanonical, IsUnderivable}
 use Rattle.rs_tool.specs.declared.derivations.TheConstants.{DEFAULT_BOUND}
-use Rattle.rs_wellformed.specs.Faults.{first_fault}
 use Rattle.rs_wellformed.specs.WellFormed.{IsWellFormed}
-use Rattle.rs_wellformed.specs.declared.checks.WfFault.{WfFault}
 use Rattle.rs_wellformed.proofs.Faults.{no_fault}
 use Rattle.rs_text.specs.declared.faults.TextKind.{TextKind}
 use Rattle.rs_text.specs.declared.faults.TextKind.TheVariants as kind
