@@ -1,11 +1,11 @@
 -- Numbers in the buckets of their items.
-use Rattle.std.proofs.Common.{◌≡◌, ◌≢◌, ◌⊎◌, inl, inr, ℕ, ◌<◌, ◌≤◌, List, [], ◌∷◌, ◌++◌, length, refl, sym, ap, ◌∙◌, subst, arith, ◌+◌, suc, zero, Some, slice_get, get_or, set, length-append, replicate, take, map, Bool}
-use Rattle.std.proofs.lemmas.List.{get_or-set_same, get_or-set_other, length-set, get_or_default, get_or-replicate, get_or_past, length-replicate}
+use Rattle.std.proofs.Common.{◌≡◌, ◌≢◌, ◌⊎◌, inl, inr, ℕ, ◌<◌, List, [], ◌∷◌, ◌++◌, length, refl, sym, ap, ◌∙◌, subst, arith, suc, zero, Some, slice_get, get_or, set, length-append, replicate}
+use Rattle.std.proofs.lemmas.List.{get_or-set_same, get_or-set_other, get_or_default, get_or-replicate, get_or_past, length-replicate}
 use Rattle.std.proofs.lemmas.Bool.Decides.{eqb_tells}
 use Rattle.std.proofs.lemmas.Bool.{cases_lt}
 use Rattle.rs_graph.specs.Lists.{Among}
 use Rattle.rs_graph.specs.Discovery.{Filed}
-use Rattle.rs_graph.proofs.Growth.{at_in, at_short, at_within, push_is}
+use Rattle.rs_graph.proofs.Growth.{at_in, push_is}
 
 has-place : (xs : List ℕ) (n : ℕ) → Among xs n → (k : ℕ) × (k < length xs) × (get_or xs k 0 ≡ n)
 has-place [] n h = elim h [ ]

@@ -1,15 +1,15 @@
 -- A graph that is built move by move.
-use Rattle.std.proofs.Common.{◌≡◌, ◌≢◌, ◌⊎◌, inl, inr, ℕ, ◌<◌, ◌≤◌, Bool, true, false, List, [], ◌∷◌, ◌++◌, length, get_or, set, refl, sym, ap, ◌∙◌, subst, arith, ◌+◌, suc, zero, Some, slice_get, length-append, take, map, replicate, cond, if◌then◌else◌}
+use Rattle.std.proofs.Common.{◌≡◌, ◌≢◌, ◌⊎◌, inl, inr, ℕ, ◌<◌, Bool, true, false, List, [], ◌∷◌, ◌++◌, length, get_or, set, refl, sym, ap, ◌∙◌, subst, arith, ◌+◌, suc, zero, Some, slice_get, length-append, take, map, replicate}
 use Rattle.std.proofs.lemmas.Bool.Decides.{eqb_tells}
 use Rattle.std.proofs.lemmas.Bool.{cases_lt}
-use Rattle.std.proofs.lemmas.List.{get_or-set_same, get_or-set_other, length-set, get_or_default, get_or_past, get_or-replicate, length-replicate}
+use Rattle.std.proofs.lemmas.List.{get_or-set_same, get_or-set_other, length-set, get_or_past, get_or-replicate, length-replicate}
 use Rattle.rs_graph.specs.Built.{IsBuilt, IsFilled}
 use Rattle.rs_graph.specs.Graphs.{Graph_data, with_end, with_move, with_result}
 use Rattle.rs_graph.specs.Lists.{Among, Names}
 use Rattle.std.specs.List.{sum_by}
 use Rattle.std.proofs.lemmas.List.Folds.{sum_by-replicate}
 use Rattle.std.proofs.lemmas.List.Sums.{sum_by-set, sum_by_push}
-use Rattle.rs_graph.specs.Removal.{IsInto, Leads, edges_in, moves_at}
+use Rattle.rs_graph.specs.Removal.{IsInto, Leads, edges_in}
 use Rattle.rs_graph.specs.Graphs.{moves_of}
 use Rattle.rs_graph.specs.declared.graph.Move.{Move}
 use Rattle.rs_graph.proofs.Growth.{take_on, at_short, at_within}

@@ -1,7 +1,6 @@
 -- The steps of the removal and of the numbering together.
-use Rattle.std.proofs.Common.{◌≡◌, ◌⊎◌, inl, inr, ℕ, ◌<◌, ◌≤◌, ◌+◌, ◌*◌, List, [], ◌∷◌, ◌++◌, length, get_or, refl, sym, ap, ◌∙◌, subst, arith, suc, zero, Some, slice_get, length-append, map, Bool, true, false}
+use Rattle.std.proofs.Common.{◌≡◌, ◌⊎◌, inl, inr, ℕ, ◌<◌, ◌≤◌, ◌+◌, ◌*◌, List, [], ◌∷◌, ◌++◌, length, get_or, refl, ap, arith, suc, zero, Some, slice_get, length-append, map, Bool, true, false}
 use Rattle.std.specs.List.{sum_by}
-use Rattle.std.proofs.lemmas.Bool.{cases_lt}
 use Rattle.std.proofs.lemmas.List.{get_or_past}
 use Rattle.std.proofs.lemmas.List.Sums.{sum_by-cons}
 use Rattle.rs_graph.specs.Discovery.{IsDiscovery}
@@ -10,7 +9,7 @@ use Rattle.rs_graph.specs.Lists.{Among, Once}
 use Rattle.rs_graph.specs.Places.{next_of}
 use Rattle.rs_graph.specs.Removal.{IsInto, IsRemoval, at, cost_of, edges_in, moves_at}
 use Rattle.rs_graph.specs.declared.graph.Move.{Move}
-use Rattle.rs_graph.proofs.Growth.{at_in, at_short, in_at, no_more}
+use Rattle.rs_graph.proofs.Growth.{at_in, in_at, no_more}
 use Rattle.rs_graph.proofs.Placing.{moves_within}
 use Rattle.rs_graph.proofs.Removed.{sum-less, upto, upto_has, upto_length}
 

@@ -1,19 +1,24 @@
 -- Where no number is on a cycle, all are removed, and the ranks are right.
-use Rattle.std.proofs.Common.{◌≡◌, ◌≢◌, ◌⊎◌, inl, inr, ℕ, ◌<◌, ◌≤◌, Bool, true, false, List, [], ◌∷◌, ◌++◌, length, get_or, refl, sym, ap, ◌∙◌, subst, arith, ◌+◌, suc, zero, Some, slice_get, map, replicate}
+use Rattle.std.proofs.Common.{◌≡◌, inl, inr, ℕ, ◌<◌, ◌≤◌, Bool, true, false, List, [], ◌∷◌, length, get_or, refl, sym, ap, ◌∙◌, subst, arith, suc, zero, Some, slice_get, map, replicate}
 use Rattle.std.proofs.lemmas.Bool.{cases_lt}
 use Rattle.std.proofs.lemmas.List.{get_or_past, get_or-replicate}
 use Rattle.rs_graph.specs.Built.{IsBuilt}
 use Rattle.rs_graph.specs.Graphs.{Graph_data}
 use Rattle.rs_graph.specs.Lists.{Among, Once}
 use Rattle.rs_graph.specs.Ranks.{Edge, IsOrdered, Ranked}
-use Rattle.rs_graph.specs.Removal.{IsRemoval, Leads, at, moves_at}
+use Rattle.rs_graph.specs.Removal.{IsRemoval, at, moves_at}
 use Rattle.rs_graph.specs.Graphs.{moves_of}
 use Rattle.rs_graph.specs.Walks.{Walk, Here, Further, IsOnCycle, IsRank}
 use Rattle.rs_graph.proofs.Buckets.{got, place_in}
-use Rattle.rs_graph.proofs.Growth.{at_in, at_short, in_at, no_more, at_within}
+use Rattle.rs_graph.proofs.Growth.{at_in, at_short, no_more}
 use Rattle.rs_graph.proofs.Ranking.{all_ranked, fit_ranks}
 use Rattle.rs_graph.proofs.Removed.{upto, upto_length, upto_has}
-use Rattle.rs_graph.proofs.Round.{Endless}
+
+-- each number that stays leads to one that stays
+pub record Endless (E : ℕ → ℕ → Type 0) (Stays : ℕ → Type 0) : Type 0 where
+  pub next : (n : ℕ) → Stays n → ℕ
+  pub goes : (n : ℕ) (s : Stays n) → E n (next n s)
+  pub stays : (n : ℕ) (s : Stays n) → Stays (next n s)
 
 abbrev trail : (E : ℕ → ℕ → Type 0) (Stays : ℕ → Type 0) → Endless E Stays → (k n : ℕ) → Stays n → List ℕ
 trail E Stays e zero n s = []

@@ -1,7 +1,6 @@
 -- What is found grows item by item.
-use Rattle.std.proofs.Common.{◌≡◌, ◌≢◌, ◌⊎◌, inl, inr, ℕ, ◌<◌, ◌≤◌, Bool, true, false, List, [], ◌∷◌, ◌++◌, length, refl, sym, ap, ◌∙◌, subst, arith, ◌+◌, suc, zero, Some, None, slice_get, get_or, take, drop, length-append, map, ◌||◌}
+use Rattle.std.proofs.Common.{◌≡◌, ◌≢◌, ◌⊎◌, inl, inr, ℕ, ◌<◌, ◌≤◌, Bool, true, false, List, [], ◌∷◌, ◌++◌, length, refl, sym, ap, ◌∙◌, subst, arith, ◌+◌, suc, zero, Some, slice_get, get_or, take, drop, length-append, map, ◌||◌}
 use Rattle.std.specs.List.{list_any}
-use Rattle.std.proofs.lemmas.Bool.Decides.{eqb_tells}
 use Rattle.std.proofs.lemmas.Option.{none-some, same_Some}
 use Rattle.rs_graph.specs.Lists.{Among, Once, Names}
 use Rattle.rs_graph.specs.Discovery.{Reached, Begin, Step, Numbered, NoMore, Known, New, Worked, AllDone, Next, IsDiscovery, MoreThan, Adds, Grown, Growing}

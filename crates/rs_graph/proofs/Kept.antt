@@ -1,9 +1,8 @@
 -- What is left of the numbered graph of the candidates is what survives.
-use Rattle.std.proofs.Common.{◌≡◌, ◌≢◌, ◌⊎◌, inl, inr, ℕ, ◌<◌, ◌≤◌, Bool, true, false, List, [], ◌∷◌, ◌++◌, length, get_or, refl, sym, ap, ◌∙◌, subst, arith, ◌+◌, suc, zero, Some, None, slice_get, map, cond, if◌then◌else◌, nat_lt}
-use Rattle.std.proofs.lemmas.Bool.{cases_lt, ltb-true, lt-ltb}
-use Rattle.std.proofs.lemmas.List.{get_or_past}
-use Rattle.rs_graph.specs.Lists.{Among, Once, Names}
-use Rattle.rs_graph.specs.Removal.{moves_at, Leads, at, Behind, IsRemoval}
+use Rattle.std.proofs.Common.{◌≡◌, ◌⊎◌, inl, inr, ℕ, ◌<◌, ◌≤◌, Bool, true, false, List, [], ◌∷◌, length, get_or, refl, ap, ◌∙◌, subst, arith, ◌+◌, suc, zero, Some, slice_get, if◌then◌else◌, nat_lt}
+use Rattle.std.proofs.lemmas.Bool.{ltb-true, lt-ltb}
+use Rattle.rs_graph.specs.Lists.{Among, Names}
+use Rattle.rs_graph.specs.Removal.{moves_at, at, IsRemoval}
 use Rattle.rs_graph.proofs.Growth.{in_at, at_in, at_short, at_within}
 
 -- the moves of each item are named, in order

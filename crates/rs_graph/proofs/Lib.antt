@@ -2,9 +2,9 @@ pub mod Buckets
 pub mod Building
 pub mod Counting
 pub mod Endless
+pub mod Following
 pub mod Growth
 pub mod Kept
 pub mod Placing
 pub mod Ranking
 pub mod Removed
-pub mod Round

@@ -1,14 +1,13 @@
 -- Numbers by first discovery.
-use Rattle.std.proofs.Common.{◌≡◌, ◌≢◌, ◌⊎◌, inl, inr, ℕ, ◌<◌, ◌≤◌, List, [], ◌∷◌, ◌++◌, length, get_or, set, refl, sym, ap, ◌∙◌, subst, arith, ◌+◌, suc, zero, Option, Some, None, slice_get, replicate, take}
+use Rattle.std.proofs.Common.{◌≡◌, ◌≢◌, ◌⊎◌, inl, inr, ℕ, ◌<◌, ◌≤◌, List, [], ◌∷◌, ◌++◌, length, set, refl, sym, ap, ◌∙◌, subst, arith, ◌+◌, suc, zero, Option, Some, None, slice_get, replicate}
 use Rattle.std.proofs.lemmas.Bool.Decides.{eqb_tells}
 use Rattle.std.proofs.lemmas.Bool.{cases_lt}
 use Rattle.std.proofs.lemmas.Option.{none-some, same_Some}
 use Rattle.std.proofs.lemmas.List.{get_or_past}
 use Rattle.rs_graph.specs.Lists.{Among, Once}
-use Rattle.rs_graph.specs.Places.{IsPlaced, next_of}
-use Rattle.rs_graph.specs.Removal.{IsInto, IsRemoval, at, moves_at}
-use Rattle.rs_graph.specs.declared.graph.Move.{Move}
-use Rattle.rs_graph.proofs.Growth.{at_in, in_at, at_short, at_within, no_more, push_is, push_at, push_new, reads_at}
+use Rattle.rs_graph.specs.Places.{IsPlaced}
+use Rattle.rs_graph.specs.Removal.{moves_at}
+use Rattle.rs_graph.proofs.Growth.{at_in, in_at, at_short, no_more, push_is, push_at, push_new}
 
 set-get-same : (xs : List (Option ℕ)) (i : ℕ) (v : Option ℕ) → i < length xs → slice_get (set xs i v) i ≡ Some v
 set-get-same [] i v h = let bad : ⊥ = omega arith in absurd bad

@@ -1,13 +1,12 @@
 -- Ranks are the greatest lengths of walks.
-use Rattle.std.proofs.Common.{◌≡◌, ◌≢◌, ◌⊎◌, inl, inr, ℕ, ◌<◌, ◌≤◌, Bool, true, false, List, [], ◌∷◌, ◌++◌, length, get_or, set, refl, sym, ap, ◌∙◌, subst, arith, ◌+◌, suc, zero, Some, slice_get, take, max}
-use Rattle.std.proofs.lemmas.Bool.Decides.{eqb_tells}
+use Rattle.std.proofs.Common.{◌≡◌, ◌≢◌, ◌⊎◌, inl, inr, ℕ, ◌<◌, ◌≤◌, List, [], length, get_or, set, refl, sym, ap, ◌∙◌, subst, arith, ◌+◌, suc, zero, Some, slice_get, max}
 use Rattle.std.proofs.lemmas.Bool.{cases_lt}
-use Rattle.std.proofs.lemmas.List.{get_or-set_same, get_or-set_other, length-set, get_or_default, get_or_past}
-use Rattle.rs_graph.specs.Lists.{Among, Once}
-use Rattle.rs_graph.specs.Ranks.{Edge, Earlier, Fits, IsOrdered, Ranked}
+use Rattle.std.proofs.lemmas.List.{get_or-set_same, get_or-set_other, length-set, get_or_past}
+use Rattle.rs_graph.specs.Lists.{Among}
+use Rattle.rs_graph.specs.Ranks.{Edge, Fits, IsOrdered, Ranked}
 use Rattle.rs_graph.specs.Walks.{Walk, Here, Further, IsRank, IsOnCycle, RanksFit}
 use Rattle.rs_graph.proofs.Buckets.{got, place_in}
-use Rattle.rs_graph.proofs.Growth.{at_in, in_at, at_short, no_more, take_on}
+use Rattle.rs_graph.proofs.Growth.{at_in, at_short}
 
 -- no walk is longer than the rank
 pub at_most : (E : ℕ → ℕ → Type 0) (rank : ℕ → ℕ) → RanksFit E rank → (i n k : ℕ) → Walk E i n k → n ≤ rank i

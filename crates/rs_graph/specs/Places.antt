@@ -1,5 +1,5 @@
 -- Believed: numbers of nodes by first discovery.
-use Rattle.std.specs.Prelude.{◌≡◌, ◌<◌, ◌≤◌, ℕ, List, [], length, slice_get, slice_index_or, Option, Some}
+use Rattle.std.specs.Prelude.{◌≡◌, ℕ, List, [], slice_get, slice_index_or, Option, Some}
 use Rattle.rs_graph.specs.Removal.{at}
 
 -- what the move at which a node stays leads to

@@ -1,5 +1,5 @@
 -- Believed: the removal of nodes that have no move left: a graph whose nodes have moves, and of each move the results.
-use Rattle.std.specs.Prelude.{◌≡◌, ◌≢◌, ◌⊎◌, ℕ, suc, ◌+◌, ◌<◌, ◌≤◌, Bool, true, false, List, [], ◌∷◌, length, map, replicate, ◌==◌, if◌then◌else◌, Some, slice_get, slice_index_or}
+use Rattle.std.specs.Prelude.{◌≡◌, ◌⊎◌, ℕ, suc, ◌+◌, ◌<◌, ◌≤◌, Bool, true, false, List, [], ◌∷◌, length, map, replicate, ◌==◌, if◌then◌else◌, Some, slice_get, slice_index_or}
 use Rattle.std.specs.List.{sum_by}
 use Rattle.rs_graph.specs.Lists.{Among, Once}
 use Rattle.rs_graph.specs.declared.graph.Move.{Move}

@@ -1,81 +1,209 @@
-//! The least node on a cycle.
-ghost use Rattle.std.specs.Prelude.{◌≡◌, ◌<◌, ◌≤◌, ◌+◌, ◌^◌, [], ◌∷◌, List, ℕ, IfOk, OnOk, MatchOption, length, slice_get, slice_index_or, Some, true, false};
+//! The least node on a cycle: a path is followed, whose parts go round or are one node. A part of which each edge was
+//! looked at is left, and then it is known of its nodes whether they are on a cycle. Each edge is looked at twice at most.
+ghost use Rattle.std.specs.Prelude.{◌≡◌, ◌≢◌, ◌<◌, ◌≤◌, ◌+◌, ◌^◌, [], ◌∷◌, ◌++◌, List, ℕ, IfOk, OnOk, MatchOption, length, replicate, slice_get, Some, true, false};
 ghost use Rattle.rs_graph.specs.Lists.{Among};
-ghost use Rattle.rs_graph.specs.Ranks.{Edge, IsOrdered, IsSpread, Spreading, left_to_do};
-ghost use Rattle.rs_graph.specs.Walks.{IsLeastOnCycle, IsOnCycle};
+ghost use Rattle.rs_graph.specs.Paths.{AreRight, GoesOn, Joining, Leaving, Searching, TakenOff, ahead, to_do};
+ghost use Rattle.rs_graph.specs.Ranks.{Edge, IsOrdered};
+ghost use Rattle.rs_graph.specs.Walks.{IsLeastOnCycle, IsOnCycle, Walk};
+ghost use Rattle.rs_graph.specs.declared.cycles.Mark.{Mark};
+ghost use Rattle.rs_graph.specs.declared.cycles.Mark.TheVariants.{Ahead, On};
 
 use crate::graph::Row;
 use rs_model::NoMemory;
 use std::alloc::Global;
 
-fn mark_one(y: u32, seen: &mut Vec<bool>, todo: &mut Vec<u32>) -> Result<(), NoMemory>
-    requires there { y < length seen.old.items }
-    ensures spreads { OnOk result ((rows : List (List ℕ)) (v : ℕ) (soon : List ℕ) → Spreading rows v seen.old.items todo.old.items (y ∷ soon) → Spreading rows v seen.new.items todo.new.items soon) }
-    ensures less { OnOk result (left_to_do seen.new.items todo.new.items ≤ left_to_do seen.old.items todo.old.items) }
-    ensures size { OnOk result (length seen.new.items ≡ length seen.old.items) }
+/// What is known of a node.
+#[derive(Clone, Copy, Debug)]
+pub enum Mark {
+    /// The search hasn't come to it.
+    Ahead,
+    /// It stands on the path, at this place.
+    On { place: u32 },
+    /// Whether it is on a cycle.
+    Known { round: bool },
+}
+
+/// A part of the path.
+#[derive(Clone, Copy, Debug)]
+pub struct Part {
+    /// The place of its first node.
+    pub start: usize,
+    /// The place of its first edge that is still to be looked at.
+    pub edges: usize,
+    /// Whether it goes round.
+    pub round: bool,
+}
+
+// The search for cycles.
+#[derive(Drop, Debug)]
+struct Search {
+    marks: Vec<Mark>,
+    path: Vec<u32>,
+    edges: Vec<u32>,
+    parts: Vec<Part>,
+}
+
+// The node becomes a part of its own, with all its edges.
+fn enter(rows: &[Row], search: &mut Search, y: u32) -> Result<(), NoMemory>
+    requires nodes { length rows.now < 2 ^ 32 }
+    requires new { slice_get search.old.marks.items y ≡ Some Ahead }
+    requires led { (x : ℕ) → Among search.old.path.items x → (n : ℕ) × Walk (Edge rows.now) x n y }
+    requires searching { Searching rows.now search.old.marks.items search.old.path.items search.old.edges.items search.old.parts.items }
+    ensures searching { OnOk result (Searching rows.now search.new.marks.items search.new.path.items search.new.edges.items search.new.parts.items) }
+    ensures less { OnOk result (to_do rows.now search.new.marks.items search.new.edges.items search.new.parts.items < to_do rows.now search.old.marks.items search.old.edges.items search.old.parts.items) }
+    ensures on { OnOk result (GoesOn search.old.marks.items search.new.marks.items) }
+    ensures here { OnOk result (slice_get search.new.marks.items y ≢ Some Ahead) }
 {
-    if seen[y as usize] {
+    let start = search.path.len();
+    let edges = search.edges.len();
+    search.marks[y as usize] = Mark::On {
+        place: start as u32,
+    };
+    search.path.push(y)?;
+    search.edges.extend_from_slice(rows[y as usize].as_slice())?;
+    search.parts.push(Part {
+        start,
+        edges,
+        round: false,
+    })?;
+    Ok(())
+}
+
+// The last nodes of the path leave it: of each it is known whether it is on a cycle.
+fn leave(marks: &mut Vec<Mark>, path: &mut Vec<u32>, start: usize, round: bool)
+    requires start { start ≤ length path.old.items }
+    requires on { (i x : ℕ) → slice_get path.old.items i ≡ Some x → slice_get marks.old.items x ≡ Some (On i) }
+    ensures leaving { Leaving marks.old.items path.old.items marks.new.items path.new.items round }
+    ensures start { length path.new.items ≡ start }
+    ensures ahead { ahead marks.new.items ≡ ahead marks.old.items }
+{
+    while path.len() > start {
+        let Some(x) = path.pop() else { return };
+        marks[x as usize] = Mark::Known { round };
+    }
+}
+
+// The last parts become one that goes round: those behind the place and the one that has it.
+fn join(parts: &mut Vec<Part>, last: Part, place: u32) -> Result<(), NoMemory>
+    ensures joined { OnOk result ((rows : List (List ℕ)) (marks : List Mark) (path edges : List ℕ) (y : ℕ) → AreRight rows marks path → slice_get marks y ≡ Some (On place)
+        → Joining rows marks path edges parts.old.items last.start last.edges y → Searching rows marks path edges parts.new.items) }
+    ensures less { OnOk result (length parts.new.items ≤ length parts.old.items + 1) }
+{
+    let mut joined = last;
+    while joined.start > place as usize {
+        match parts.pop() {
+            Some(before) => joined = before,
+            None => return Ok(()),
+        }
+    }
+    parts.push(Part {
+        start: joined.start,
+        edges: joined.edges,
+        round: true,
+    })?;
+    Ok(())
+}
+
+// Looks at one edge of the part that was taken off the path, or leaves it where there is none.
+fn look(rows: &[Row], search: &mut Search, part: Part) -> Result<(), NoMemory>
+    requires nodes { length rows.now < 2 ^ 32 }
+    requires within { (x y : ℕ) → Edge rows.now x y → y < length rows.now }
+    requires right { AreRight rows.now search.old.marks.items search.old.path.items }
+    requires off { TakenOff rows.now search.old.marks.items search.old.path.items search.old.edges.items search.old.parts.items part }
+    ensures searching { OnOk result (Searching rows.now search.new.marks.items search.new.path.items search.new.edges.items search.new.parts.items) }
+    ensures less { OnOk result (to_do rows.now search.new.marks.items search.new.edges.items search.new.parts.items < to_do rows.now search.old.marks.items search.old.edges.items search.old.parts.items + 1) }
+    ensures on { OnOk result (GoesOn search.old.marks.items search.new.marks.items) }
+{
+    let count = search.edges.len();
+    if count == part.edges {
+        leave(&mut search.marks, &mut search.path, part.start, part.round);
         return Ok(());
     }
-    seen[y as usize] = true;
-    todo.push(y)?;
+    let y = search.edges[count - 1];
+    match search.marks[y as usize] {
+        Mark::Ahead => {
+            search.parts.push(part)?;
+            enter(rows, search, y)
+        }
+        Mark::On { place } => {
+            search.edges.pop();
+            join(&mut search.parts, part, place)
+        }
+        Mark::Known { .. } => {
+            search.edges.pop();
+            search.parts.push(part)?;
+            Ok(())
+        }
+    }
+}
+
+// Follows the path until it is left.
+fn follow(rows: &[Row], search: &mut Search) -> Result<(), NoMemory>
+    requires nodes { length rows.now < 2 ^ 32 }
+    requires within { (x y : ℕ) → Edge rows.now x y → y < length rows.now }
+    requires searching { Searching rows.now search.old.marks.items search.old.path.items search.old.edges.items search.old.parts.items }
+    ensures searching { OnOk result (Searching rows.now search.new.marks.items search.new.path.items search.new.edges.items search.new.parts.items) }
+    ensures on { OnOk result (GoesOn search.old.marks.items search.new.marks.items) }
+    ensures none { OnOk result (search.new.path.items ≡ []) }
+{
+    while let Some(part) = search.parts.pop() {
+        look(rows, search, part)?;
+    }
     Ok(())
 }
 
-// Marks the numbers of the row, and notes those that weren't marked.
-fn mark(row: &[u32], seen: &mut Vec<bool>, todo: &mut Vec<u32>) -> Result<(), NoMemory>
-    requires within { (y : ℕ) → Among row.now y → y < length seen.old.items }
-    ensures spreads { OnOk result ((rows : List (List ℕ)) (v : ℕ) → Spreading rows v seen.old.items todo.old.items row.now → Spreading rows v seen.new.items todo.new.items []) }
-    ensures less { OnOk result (left_to_do seen.new.items todo.new.items ≤ left_to_do seen.old.items todo.old.items) }
-    ensures size { OnOk result (length seen.new.items ≡ length seen.old.items) }
-{
-    for i in 0..row.len() {
-        mark_one(row[i], seen, todo)?;
-    }
-    Ok(())
-}
-
-// What is reached from the number by some steps.
-fn spread(alloc: Global, rows: &[Row], v: u32) -> Result<Vec<bool>, NoMemory>
+// Goes on until it is known whether the number is on a cycle.
+fn come_to(rows: &[Row], search: &mut Search, v: u32) -> Result<(), NoMemory>
+    requires nodes { length rows.now < 2 ^ 32 }
     requires there { v < length rows.now }
     requires within { (x y : ℕ) → Edge rows.now x y → y < length rows.now }
-    ensures { IfOk result (λ s. IsSpread rows.now v s.items) }
+    requires searching { Searching rows.now search.old.marks.items search.old.path.items search.old.edges.items search.old.parts.items }
+    requires none { search.old.path.items ≡ [] }
+    ensures searching { OnOk result (Searching rows.now search.new.marks.items search.new.path.items search.new.edges.items search.new.parts.items) }
+    ensures none { OnOk result (search.new.path.items ≡ []) }
+    ensures come { OnOk result (slice_get search.new.marks.items v ≢ Some Ahead) }
 {
-    let mut seen: Vec<bool> = vec![in alloc; false; rows.len()]?;
-    let mut todo: Vec<u32> = Vec::new(alloc);
-    mark(rows[v as usize].as_slice(), &mut seen, &mut todo)?;
-    while let Some(x) = todo.pop() {
-        mark(rows[x as usize].as_slice(), &mut seen, &mut todo)?;
+    match search.marks[v as usize] {
+        Mark::Ahead => {
+            enter(rows, search, v)?;
+            follow(rows, search)?;
+            Ok(())
+        }
+        Mark::On { .. } | Mark::Known { .. } => Ok(()),
     }
-    Ok(seen)
 }
 
-// The nodes that aren't in the order.
-fn rest(alloc: Global, count: usize, order: &[u32]) -> Result<Vec<bool>, NoMemory>
-    requires { (n : ℕ) → Among order.now n → n < count }
-    ensures size { IfOk result (λ g. length g.items ≡ count) }
-    ensures told { IfOk result (λ g. (n : ℕ) → slice_index_or g.items n false ≡ true → Among order.now n) }
-{
-    let mut gone: Vec<bool> = vec![in alloc; false; count]?;
-    for i in 0..order.len() {
-        gone[order[i] as usize] = true;
-    }
-    Ok(gone)
-}
-
-// Whether the number is on a cycle; one that is gone is on none.
-fn is_on_cycle(alloc: Global, rows: &[Row], gone: bool, v: u32) -> Result<bool, NoMemory>
+// Whether the number is on a cycle.
+fn is_on_cycle(rows: &[Row], search: &mut Search, v: u32) -> Result<bool, NoMemory>
+    requires nodes { length rows.now < 2 ^ 32 }
     requires there { v < length rows.now }
     requires within { (x y : ℕ) → Edge rows.now x y → y < length rows.now }
-    requires gone { gone ≡ true → IsOnCycle (Edge rows.now) v → ⊥ }
+    requires searching { Searching rows.now search.old.marks.items search.old.path.items search.old.edges.items search.old.parts.items }
+    requires none { search.old.path.items ≡ [] }
+    ensures searching { OnOk result (Searching rows.now search.new.marks.items search.new.path.items search.new.edges.items search.new.parts.items) }
+    ensures none { OnOk result (search.new.path.items ≡ []) }
     ensures yes { IfOk result (λ b. b ≡ true → IsOnCycle (Edge rows.now) v) }
     ensures no { IfOk result (λ b. b ≡ false → IsOnCycle (Edge rows.now) v → ⊥) }
 {
-    if gone {
-        return Ok(false);
+    come_to(rows, search, v)?;
+    match search.marks[v as usize] {
+        Mark::Known { round } => Ok(round),
+        Mark::Ahead | Mark::On { .. } => unreachable!(),
     }
-    let seen = spread(alloc, rows, v)?;
-    Ok(seen[v as usize])
+}
+
+fn begin(alloc: Global, count: usize) -> Result<Search, NoMemory>
+    ensures marks { IfOk result (λ s. s.marks.items ≡ replicate count Ahead) }
+    ensures path { IfOk result (λ s. s.path.items ≡ []) }
+    ensures edges { IfOk result (λ s. s.edges.items ≡ []) }
+    ensures parts { IfOk result (λ s. s.parts.items ≡ []) }
+{
+    Ok(Search {
+        marks: vec![in alloc; Mark::Ahead; count]?,
+        path: Vec::new(alloc),
+        edges: Vec::new(alloc),
+        parts: Vec::new(alloc),
+    })
 }
 
 /// The least number on a cycle, none of which stands in the order.
@@ -85,9 +213,12 @@ pub fn least_on_cycle(alloc: Global, rows: &[Row], order: &[u32]) -> Result<Opti
     requires within { (x y : ℕ) → Edge rows.now x y → y < length rows.now }
     ensures { IfOk result (λ o. MatchOption o ((k : ℕ) → IsOnCycle (Edge rows.now) k → ⊥) (λ v. IsLeastOnCycle (Edge rows.now) v)) }
 {
-    let gone = rest(alloc, rows.len(), order)?;
+    if order.len() == rows.len() {
+        return Ok(None);
+    }
+    let mut search = begin(alloc, rows.len())?;
     for v in 0..rows.len() {
-        if is_on_cycle(alloc, rows, gone[v], v as u32)? {
+        if is_on_cycle(rows, &mut search, v as u32)? {
             return Ok(Some(v as u32));
         }
     }

@@ -1,4 +1,4 @@
-use Rattle.std.proofs.Common.{◌≡◌, [], List, ℕ, replicate}
+use Rattle.std.proofs.Common.{◌≡◌, [], replicate}
 use Rattle.rs_graph.proofs.build.bare.Given as goal
 
 abbrev pub invariant-loop-i : goal.invariant-loop-i

@@ -1,4 +1,4 @@
-use Rattle.std.proofs.Common.{rules, arith, ◌≡◌, ◌<◌, ◌≤◌, ◌+◌, [], ◌∷◌, ℕ, List, length, slice_index_or, slice_get, Some, refl, sym, ap, ◌∙◌, take}
+use Rattle.std.proofs.Common.{arith, ◌≡◌, slice_index_or, slice_get, Some, refl}
 use Rattle.rs_graph.proofs.Buckets.{place_in}
 use Rattle.rs_graph.proofs.Growth.{reads_at}
 use Rattle.rs_graph.proofs.Building.{all_on, all_begin}

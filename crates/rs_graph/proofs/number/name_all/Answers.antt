@@ -1,6 +1,5 @@
-use Rattle.std.proofs.Common.{rules, arith, ◌≡◌, ℕ, List, [], ◌∷◌, ◌++◌, ◌<◌, ◌≤◌, ◌+◌, length, slice_get, Some, slice_index_or, take, sym, refl, ◌∙◌, subst}
-use Rattle.rs_graph.specs.Discovery.{Grown, Numbered, NoMore}
-use Rattle.rs_graph.specs.Lists.{Names}
+use Rattle.std.proofs.Common.{arith, slice_index_or, refl, ◌∙◌}
+use Rattle.rs_graph.specs.Discovery.{NoMore}
 use Rattle.rs_graph.proofs.Buckets.{place_in}
 use Rattle.rs_graph.proofs.Growth.{grown_none, grown_on, named_on, reads_at}
 use Rattle.rs_graph.proofs.number.name_all.Goals as goal

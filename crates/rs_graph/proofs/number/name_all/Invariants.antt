@@ -1,4 +1,4 @@
-use Rattle.std.proofs.Common.{◌≡◌, ℕ, ◌≤◌, length, take}
+use Rattle.std.proofs.Common.{◌≡◌, ◌≤◌, length, take}
 use Rattle.rs_graph.specs.Discovery.{Grown, Numbered}
 use Rattle.rs_graph.specs.Lists.{Names}
 use Rattle.rs_graph.specs.Places.{IsPlaced}

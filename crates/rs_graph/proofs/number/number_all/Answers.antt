@@ -1,6 +1,5 @@
-use Rattle.std.proofs.Common.{rules, arith, inl, inr, ◌≡◌, ◌<◌, ◌≤◌, ◌+◌, ◌-◌, [], ◌∷◌, ◌++◌, ℕ, List, Option, None, length, slice_get, slice_index_or, Some, sym, ◌∙◌, ap, refl, subst, take, length-append, replicate}
-use Rattle.std.specs.List.{sum_by}
-use Rattle.rs_graph.specs.Discovery.{Grown, Growing}
+use Rattle.std.proofs.Common.{rules, arith, inl, inr, ◌≡◌, ◌<◌, ◌+◌, [], ◌∷◌, ℕ, List, length, slice_get, slice_index_or, Some, sym, ◌∙◌, ap, subst, length-append}
+use Rattle.rs_graph.specs.Discovery.{Grown}
 use Rattle.rs_graph.specs.Lists.{Among, Names}
 use Rattle.rs_graph.specs.Places.{next_of}
 use Rattle.rs_graph.specs.Removal.{at, moves_at}

@@ -1,4 +1,4 @@
-use Rattle.std.proofs.Common.{◌≡◌, ℕ, ◌<◌, ◌≤◌, ◌+◌, ◌-◌, length, take, slice_get, Some}
+use Rattle.std.proofs.Common.{◌≡◌, ℕ, ◌<◌, ◌+◌, ◌-◌, length, take, slice_get, Some}
 use Rattle.std.specs.List.{sum_by}
 use Rattle.rs_graph.specs.Discovery.{Growing}
 use Rattle.rs_graph.specs.Places.{IsPlaced, next_of}

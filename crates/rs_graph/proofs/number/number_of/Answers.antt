@@ -1,5 +1,5 @@
-use Rattle.std.proofs.Common.{rules, arith, inl, inr, ◌≡◌, ◌<◌, ◌≤◌, ◌+◌, [], ◌∷◌, ◌++◌, ℕ, List, Option, Some, None, length, slice_get, sym, ◌∙◌, ap, refl}
-use Rattle.rs_graph.proofs.Growth.{reads_at, at_short, push_new, push_new_at}
+use Rattle.std.proofs.Common.{rules, arith, inr, ◌≡◌, [], ◌∷◌, ◌++◌, Some, None, length, slice_get, sym, ◌∙◌, ap}
+use Rattle.rs_graph.proofs.Growth.{reads_at, at_short, push_new_at}
 use Rattle.rs_graph.proofs.Placing.{placed_not, placed_on, placed_fewer}
 use Rattle.rs_graph.proofs.number.number_of.Goals as goal
 

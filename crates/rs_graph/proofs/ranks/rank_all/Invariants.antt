@@ -1,4 +1,3 @@
-use Rattle.std.proofs.Common.{◌≡◌}
 use Rattle.rs_graph.specs.Ranks.{Ranked}
 use Rattle.rs_graph.proofs.ranks.rank_all.Given as goal
 

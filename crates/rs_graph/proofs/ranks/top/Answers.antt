@@ -1,4 +1,4 @@
-use Rattle.std.proofs.Common.{rules, arith, ◌≡◌, ◌<◌, ◌≤◌, ◌+◌, ℕ, List, length, slice_index_or, max}
+use Rattle.std.proofs.Common.{arith, slice_index_or}
 use Rattle.rs_graph.proofs.Buckets.{place_in}
 use Rattle.rs_graph.proofs.Ranking.{topped_none, topped_on, topped_all}
 use Rattle.rs_graph.proofs.ranks.top.Goals as goal

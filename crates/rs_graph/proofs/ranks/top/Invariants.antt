@@ -1,4 +1,4 @@
-use Rattle.std.proofs.Common.{◌≡◌, ◌≤◌, ℕ, length}
+use Rattle.std.proofs.Common.{◌≤◌, length}
 use Rattle.rs_graph.proofs.Ranking.{Topped}
 use Rattle.rs_graph.proofs.ranks.top.Given as goal
 

@@ -1,4 +1,4 @@
-use Rattle.std.proofs.Common.{◌≡◌, ◌<◌, ◌≤◌, ◌+◌, ◌-◌, [], List, ℕ, length, slice_get, slice_index_or, Some, drop}
+use Rattle.std.proofs.Common.{◌≡◌, ◌≤◌, ◌+◌, ◌-◌, [], ℕ, length, slice_get, slice_index_or, Some, drop}
 use Rattle.rs_graph.specs.Removal.{Going, Rest}
 use Rattle.rs_graph.proofs.removal.hand_on.Given as goal
 

@@ -1,6 +1,6 @@
-use Rattle.std.proofs.Common.{rules, arith, ◌≡◌, ◌≢◌, ◌<◌, ◌≤◌, [], ◌∷◌, ◌++◌, List, ℕ, length, slice_get, slice_index_or, slice_set, Bool, true, false, sym, ◌∙◌, ap, subst, refl}
+use Rattle.std.proofs.Common.{rules, arith, List, length, Bool, sym, ◌∙◌, ap, subst}
 use Rattle.rs_graph.specs.Removal.{Next}
-use Rattle.rs_graph.proofs.Removed.{skipped, lose_flag, lose_on, lose_last, pushed_kept, raised, index_at, same_row}
+use Rattle.rs_graph.proofs.Removed.{lose_flag, lose_on, lose_last, pushed_kept, raised, index_at, same_row}
 use Rattle.rs_graph.proofs.removal.lose.Goals as goal
 
 pub returns-then-place-m-clause-keeps : goal.returns-then-place-m-clause-keeps

@@ -1,6 +1,5 @@
-use Rattle.std.proofs.Common.{rules, arith, ◌≡◌, ◌<◌, ◌≤◌, ◌+◌, [], ◌∷◌, List, ℕ, length, slice_get, slice_index_or, Some, sym, ◌∙◌, ap, subst, drop, take, replicate}
-use Rattle.std.specs.List.{sum_by}
-use Rattle.rs_graph.specs.Removal.{Going, From, cost_of}
+use Rattle.std.proofs.Common.{rules, arith, ◌<◌, ◌+◌, ℕ, length}
+use Rattle.rs_graph.specs.Removal.{From, cost_of}
 use Rattle.rs_graph.proofs.Growth.{at_within, at_short}
 use Rattle.rs_graph.proofs.Removed.{begins, order_few, cost_on, finish}
 use Rattle.rs_graph.proofs.removal.remove.Goals as goal

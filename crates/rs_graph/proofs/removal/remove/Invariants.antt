@@ -1,4 +1,4 @@
-use Rattle.std.proofs.Common.{◌≡◌, ◌<◌, ◌≤◌, ◌+◌, ◌-◌, ℕ, length, take}
+use Rattle.std.proofs.Common.{◌≡◌, ◌≤◌, ◌+◌, ◌-◌, ℕ, length, take}
 use Rattle.std.specs.List.{sum_by}
 use Rattle.rs_graph.specs.Removal.{Going, From, cost_of}
 use Rattle.rs_graph.proofs.removal.remove.Given as goal

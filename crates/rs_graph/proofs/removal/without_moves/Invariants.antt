@@ -1,4 +1,4 @@
-use Rattle.std.proofs.Common.{◌≡◌, ◌++◌, ℕ, drop}
+use Rattle.std.proofs.Common.{◌≡◌, ◌++◌, drop}
 use Rattle.rs_graph.specs.Removal.{moveless}
 use Rattle.rs_graph.proofs.removal.without_moves.Given as goal
 

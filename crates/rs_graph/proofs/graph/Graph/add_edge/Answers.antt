@@ -1,5 +1,5 @@
-use Rattle.std.proofs.Common.{rules, arith, ◌≡◌, ◌<◌, ◌∷◌, [], ◌++◌, List, ℕ, length, slice_index_or, slice_set, refl, sym, ap, ◌∙◌, suc, zero}
-use Rattle.std.proofs.lemmas.List.{get_or_default, get_or-set_same}
+use Rattle.std.proofs.Common.{rules, arith, ◌≡◌, ◌<◌, ◌∷◌, [], ◌++◌, List, ℕ, length, slice_index_or, slice_set, refl, ap, ◌∙◌, suc, zero}
+use Rattle.std.proofs.lemmas.List.{get_or-set_same}
 use Rattle.rs_graph.specs.Graphs.{Graph_data}
 use Rattle.rs_graph.specs.declared.graph.Move.{Move}
 use Rattle.rs_graph.proofs.graph.Graph.add_edge.Goals as goal
