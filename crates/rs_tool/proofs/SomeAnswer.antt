@@ -22,7 +22,11 @@ use Rattle.rs_search.specs.Canonical.{IsFound, Refuses}
 use Rattle.rs_search.specs.declared.faults.SearchFault.{SearchFault}
 use Rattle.rs_search.specs.declared.faults.SearchFault.TheVariants as search
 use Rattle.rs_tool.specs.Derivations.{AreCanonical, AreFirstCanonical, IsUnderivable}
-use Rattle.rs_tool.specs.declared.derivations.TheConstants.{DEFAULT_BOUND}
+use Rattle.rs_pipeline.specs.Pipelines.{pipeline_text, pipeline_of, pipeline_summary}
+use Rattle.rs_words.specs.declared.limits.TheConstants.{DEFAULT_BOUND}
+use Rattle.rs_words.specs.Meaning.{IsInRange, IsMeaning}
+use Rattle.rs_words.proofs.Exact.{words_mean_something}
+use Rattle.rs_words.proofs.Ranges.{spelt_numbers_are_in_range}
 use Rattle.rs_tool.proofs.Derivings.{next_canonical, none_canonical, session_of}
 use Rattle.rs_documents.proofs.SpeltSessions.{spelt_session}
 use Rattle.rs_wellformed.specs.Faults.{first_fault}
@@ -32,9 +36,9 @@ use Rattle.rs_wellformed.proofs.Faults.{no_fault}
 use Rattle.rs_documents.specs.declared.documents.Content.{Content}
 use Rattle.rs_documents.specs.declared.documents.Content.TheVariants as content
 use Rattle.rs_tool.specs.declared.statuses.Verdict.TheVariants.{Fine}
-use Rattle.rs_tool.specs.declared.words.Task.{Task}
-use Rattle.rs_tool.specs.declared.words.Task.TheVariants as task
-use Rattle.rs_tool.specs.Answers.{Answers, NoCommand, NoSuchCommand, CarriesOut, AnswersText, IsTooLong, IsFaulty, IsDerived, IsDocument, AnswersDocument}
+use Rattle.rs_words.specs.declared.tasks.Task.{Task}
+use Rattle.rs_words.specs.declared.tasks.Task.TheVariants as task
+use Rattle.rs_tool.specs.Answers.{Answers, SpellsNothing, CarriesOut, AnswersText, IsTooLong, IsFaulty, IsDerived, IsDocument, AnswersDocument, AnswersTask, IsNotBuilt, ReadsInput, MakesPipeline}
 use Rattle.rs_tool.specs.Checks as checks
 use Rattle.rs_documents.specs.Data.{Document_data}
 use Rattle.rs_tool.specs.Data.{Answer_data}
@@ -49,7 +53,7 @@ use Rattle.rs_tool.specs.Sessions.{HasMachines, HasProjections, IsUnprojectable,
 use Rattle.rs_documents.specs.Canonical.{AreShown, AreCanonicalMachines}
 use Rattle.rs_tool.specs.Tables as tables
 use Rattle.rs_tool.specs.Tables.{Projects, tables_text}
-use Rattle.rs_tool.specs.Words.{names_command, task_of}
+use Rattle.rs_tool.specs.Tasks.{is_built, reads_input}
 use Rattle.rs_documents.proofs.CanShow.{role_names}
 use Rattle.rs_tool.proofs.EachRole.{next_projection, no_projections}
 use Rattle.rs_machines.proofs.Existence as of_machines
@@ -126,9 +130,9 @@ prepared : (bound : ℕ) (bytes : List ℕ) (d : Document_data) → SpellsDocume
 prepared bound bytes d doc (Some f) e = NotSo (refusal.IllFormed f) (IsWithoutSession _ (IsIllFormed f e))
 prepared bound bytes d doc None e = prepared_by bound bytes d doc e (first_ones d.protocol (no_fault d.protocol e) d.protocol.roles (omega arith))
 
-checked : (d : Document_data) → Prepared DEFAULT_BOUND d → Some_for task.Check d
-checked d (NotSo why h) = record { answer = refusal_answer d.names why; answers = checks.IsRefused why h refl }
-checked d (Derived projections machines derivations h found) = record { answer = report d.names.roles derivations; answers = checks.IsAccepted projections machines derivations h found refl }
+checked : (bound : ℕ) (d : Document_data) → Prepared bound d → Some_for (task.Check bound false) d
+checked bound d (NotSo why h) = record { answer = refusal_answer d.names why; answers = checks.IsRefused why h refl }
+checked bound d (Derived projections machines derivations h found) = record { answer = report d.names.roles derivations; answers = checks.IsAccepted projections machines derivations h found refl }
 
 tabled : (d : Document_data) → first_fault d.protocol ≡ None → Decision d.protocol d.protocol.roles → Some_for task.Project d
 tabled d none (OneDoesnt role fault h) = record { answer = proj_answer d.names fault; answers = tables.HasNoProjection none role fault h refl }
@@ -161,30 +165,60 @@ shown bytes d h =
       };
     }
 
-document_answer : (t : Task) (bytes : List ℕ) (d : Document_data) → SpellsDocument bytes d → Some_for t d
-document_answer task.Check bytes d h = checked d (prepared DEFAULT_BOUND bytes d h (first_fault d.protocol) refl)
-document_answer task.Show bytes d h = shown bytes d h
-document_answer task.Project bytes d h = some_tables d (first_fault d.protocol) refl
+document_answer : (t : Task) (bytes : List ℕ) (d : Document_data) → IsInRange t → reads_input t ≡ true → SpellsDocument bytes d → Some_for t d
+document_answer (task.Check bound false) bytes d range reads h = checked bound d (prepared bound bytes d h (first_fault d.protocol) refl)
+document_answer (task.Check bound true) bytes d range reads h = absurd cc
+document_answer task.Verify bytes d range reads h = absurd cc
+document_answer task.Show bytes d range reads h = shown bytes d h
+document_answer task.Project bytes d range reads h = some_tables d (first_fault d.protocol) refl
+document_answer (task.Run bound ring workers limit seed) bytes d range reads h = absurd cc
+document_answer (task.Demo kind ring workers) bytes d range reads h = absurd cc
+document_answer (task.Gen number) bytes d range reads h = absurd cc
 
 record Some_text (t : Task) (bytes : List ℕ) : Type 0 where
   answer : Answer_data
   answers : AnswersText t bytes answer
 
-of_content : (t : Task) (bytes : List ℕ) → length bytes ≤ MOST_BYTES → (what : Content) → IsContent bytes what → Some_text t bytes
-of_content t bytes short (content.Document d) h = let a = document_answer t bytes d h in record { answer = a.answer; answers = IsDocument short d h a.answers }
-of_content t bytes short content.Derivations h = record { answer = not_built; answers = IsDerived short h refl }
-of_content t bytes short (content.Fault f) h = record { answer = fault_answer bytes f.kind f.at; answers = IsFaulty short f.kind f.at h refl }
+of_content : (t : Task) (bytes : List ℕ) → IsInRange t → reads_input t ≡ true → length bytes ≤ MOST_BYTES → (what : Content) → IsContent bytes what → Some_text t bytes
+of_content t bytes range reads short (content.Document d) h = let a = document_answer t bytes d range reads h in record { answer = a.answer; answers = IsDocument short d h a.answers }
+of_content t bytes range reads short content.Derivations h = record { answer = not_built; answers = IsDerived short h refl }
+of_content t bytes range reads short (content.Fault f) h = record { answer = fault_answer bytes f.kind f.at; answers = IsFaulty short f.kind f.at h refl }
 
-of_text : (t : Task) (bytes : List ℕ) → Some_text t bytes
-of_text t bytes = elim (leb_tells (length bytes) MOST_BYTES) [
-  | inl short ↦ let f = some_found bytes in of_content t bytes short.1 f.what f.is
+of_text : (t : Task) (bytes : List ℕ) → IsInRange t → reads_input t ≡ true → Some_text t bytes
+of_text t bytes range reads = elim (leb_tells (length bytes) MOST_BYTES) [
+  | inl short ↦ let f = some_found bytes in of_content t bytes range reads short.1 f.what f.is
   | inr long ↦ record { answer = too_large (codes "text"); answers = IsTooLong long.1 refl }
 ]
 
+record Some_task (t : Task) (bytes : List ℕ) : Type 0 where
+  answer : Answer_data
+  answers : AnswersTask t bytes answer
+
+of_input : (t : Task) (bytes : List ℕ) → IsInRange t → reads_input t ≡ true → Some_task t bytes
+of_input t bytes range reads = let a = of_text t bytes range reads in record { answer = a.answer; answers = ReadsInput reads a.answers }
+
+not_yet : (t : Task) (bytes : List ℕ) → is_built t ≡ false → Some_task t bytes
+not_yet t bytes not = record { answer = not_built; answers = IsNotBuilt not refl }
+
+of_pipeline : (number : ℕ) (bytes : List ℕ) → Some_task (task.Gen number) bytes
+of_pipeline number bytes =
+    let c = of_text (task.Check DEFAULT_BOUND false) (pipeline_text (pipeline_of number)) (omega arith, omega arith) refl in
+    let a : Answer_data = record { text = pipeline_summary (pipeline_of number) ++ c.answer.text; verdict = c.answer.verdict } in
+    record { answer = a; answers = MakesPipeline number refl (record { checked = c.answer; checks = c.answers; is = refl }) }
+
+of_task : (t : Task) (bytes : List ℕ) → IsInRange t → Some_task t bytes
+of_task (task.Check bound false) bytes range = of_input (task.Check bound false) bytes range refl
+of_task (task.Check bound true) bytes range = not_yet (task.Check bound true) bytes refl
+of_task task.Verify bytes range = not_yet task.Verify bytes refl
+of_task task.Show bytes range = of_input task.Show bytes range refl
+of_task task.Project bytes range = of_input task.Project bytes range refl
+of_task (task.Run bound ring workers limit seed) bytes range = not_yet (task.Run bound ring workers limit seed) bytes refl
+of_task (task.Demo kind ring workers) bytes range = not_yet (task.Demo kind ring workers) bytes refl
+of_task (task.Gen number) bytes range = of_pipeline number bytes
+
 pub some_answer : (words : List (List ℕ)) (bytes : List ℕ) → (a : Answer_data) × Answers words bytes a
-some_answer words bytes = go (task_of words) (names_command words) refl refl
+some_answer words bytes = let m = words_mean_something words in of_meaning m.0 m.1
   where
-    go : (o : Option Task) (command : Bool) → task_of words ≡ o → names_command words ≡ command → (a : Answer_data) × Answers words bytes a
-    go (Some t) command is _ = let a = of_text t bytes in (a.answer, CarriesOut t is a.answers)
-    go None true is named = (not_built, NoSuchCommand named is refl)
-    go None false is named = (usage, NoCommand named refl)
+    of_meaning : (o : Option Task) → IsMeaning words o → (a : Answer_data) × Answers words bytes a
+    of_meaning None none = (usage, SpellsNothing none refl)
+    of_meaning (Some t) s = let a = of_task t bytes (spelt_numbers_are_in_range words t s) in (a.answer, CarriesOut t s a.answers)

@@ -14,4 +14,4 @@ pub mod Shown
 pub mod Statuses
 pub mod Tables
 pub mod Texts
-pub mod Words
+pub mod Tasks

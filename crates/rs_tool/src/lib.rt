@@ -6,6 +6,7 @@ mod calls;
 mod checks;
 mod derivations;
 pub mod laws;
+mod pipelines;
 mod refusal_texts;
 mod refusals;
 mod report;
@@ -13,15 +14,16 @@ mod sessions;
 mod shown;
 mod statuses;
 mod tables;
+mod tasks;
 mod texts;
-mod words;
 
 pub use calls::{command, command_serial};
 pub use derivations::{
-    DEFAULT_BOUND, DerivedSession, Underivable, accept_derived, derivations_of, derived_session,
+    DerivedSession, Underivable, accept_derived, derivations_of, derived_session,
 };
 pub use refusals::Refusal;
 pub use rs_documents::{Content, Document, print_document, read_document};
+pub use rs_words::DEFAULT_BOUND;
 pub use sessions::{Session, first_refusal, machines_of, projections_of, session_of};
 pub use statuses::{Reply, Serial, Status};
 
