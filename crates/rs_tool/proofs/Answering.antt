@@ -41,6 +41,9 @@ use Rattle.rs_tool.specs.declared.derivations.Underivable.{Underivable}
 use Rattle.rs_tool.specs.declared.refusals.Refusal.{Refusal}
 use Rattle.rs_tool.specs.declared.refusals.Refusal.TheVariants as refusal
 use Rattle.rs_tool.specs.Report.{report}
+use Rattle.rs_tool.specs.Runs as runs
+use Rattle.rs_tool.specs.Runs.{Runs, TellsRun}
+use Rattle.rs_tool.specs.declared.runs.RunOptions.{RunOptions}
 use Rattle.rs_tool.specs.Sessions.{HasMachines, Refuses, first_refusal, machines_of}
 use Rattle.rs_tool.specs.Statuses.{status_after, status_of}
 use Rattle.rs_tool.specs.declared.statuses.Stop.{Stop}
@@ -69,6 +72,17 @@ refused bound d why (Ok m) (inr h) is never = checks.IsRefused why h is
 pub accepted : (bound : ℕ) (d : Document_data) (ps : List Projection_data) (ms : List Machine_data) (ds : List Derivation_data) (r : Result Answer_data NoMemory) → HasMachines d ps ms → AreCanonical bound ms ps ds
     → IfOk r (λ a. a ≡ report d.names.roles ds) → IfOk r (Checks bound d)
 accepted bound d ps ms ds r h found is = meant (Checks bound d) r (report d.names.roles ds) is (λ m x. checks.IsAccepted ps ms ds h found x)
+
+-- the document is refused, and so isn't run; or its session is run
+pub refused_run : (options : RunOptions) (d : Document_data) (why : Refusal) (r : Result Answer_data NoMemory) → (why ≡ refusal.NoMemory) ⊎ HasNoDerivations options.bound d why → IfOk r (λ a. a ≡ refusal_answer d.names why)
+    → IfOk r (λ a. why ≡ refusal.NoMemory → ⊥) → IfOk r (Runs options d)
+refused_run options d why (Err e) h is never = tt
+refused_run options d why (Ok m) (inl memory) is never = absurd (never memory)
+refused_run options d why (Ok m) (inr h) is never = runs.IsRefused why h is
+
+pub is_run : (options : RunOptions) (d : Document_data) (ps : List Projection_data) (ms : List Machine_data) (ds : List Derivation_data) (r : Result Answer_data NoMemory) → HasMachines d ps ms → AreCanonical options.bound ms ps ds
+    → IfOk r (TellsRun options d.names ms ds) → IfOk r (Runs options d)
+is_run options d ps ms ds r h found is = made (TellsRun options d.names ms ds) (Runs options d) r is (λ m x. runs.IsRun ps ms ds h found x)
 
 -- why there is no session, or no derivation
 pub no_projection : (d : Document_data) (f : ProjFault) → first_fault d.protocol ≡ None → (f ≡ proj.NoMemory) ⊎ Refuses d.protocol f → (of_projecting f ≡ refusal.NoMemory) ⊎ HasNoSession d (of_projecting f)
@@ -205,6 +219,10 @@ no_stop verdict.Unprojectable (inl e) = cc
 no_stop verdict.Unprojectable (inr e) = cc
 no_stop verdict.TooLarge (inl e) = cc
 no_stop verdict.TooLarge (inr e) = cc
+no_stop verdict.Stopped (inl e) = cc
+no_stop verdict.Stopped (inr e) = cc
+no_stop verdict.Full (inl e) = cc
+no_stop verdict.Full (inr e) = cc
 no_stop verdict.NotBuilt (inl e) = cc
 no_stop verdict.NotBuilt (inr e) = cc
 
@@ -215,6 +233,8 @@ no_write_fault verdict.Usage e = cc
 no_write_fault verdict.Malformed e = cc
 no_write_fault verdict.Unprojectable e = cc
 no_write_fault verdict.TooLarge e = cc
+no_write_fault verdict.Stopped e = cc
+no_write_fault verdict.Full e = cc
 no_write_fault verdict.NotBuilt e = cc
 
 if_told : (left : Option (List ℕ)) (P Q : List ℕ → Type 0) → ((bytes : List ℕ) → P bytes → Q bytes) → IfSome left P → IfSome left Q

@@ -1,7 +1,7 @@
 -- There is an answer to all words and bytes.
 use Rattle.std.proofs.Common.{◌≡◌, ◌⊎◌, ℕ, zero, suc, ◌≤◌, ◌+◌, ◌++◌, ◌∷◌, [], List, length, Bool, true, false, Option, Some, None, refl, subst, inl, inr, arith, get_or, slice_get, ◌≢◌}
 use Rattle.std.proofs.lemmas.Option.{slice_get-get_or}
-use Rattle.std.specs.Prelude.{codes}
+use Rattle.std.specs.Prelude.{◌==◌, codes}
 use Rattle.std.proofs.lemmas.Bool.Decides.{leb_tells}
 use Rattle.rs_model.specs.Data.{Names_data, Protocol_data, Machine_data}
 use Rattle.rs_model.specs.declared.graph.Role.{Role}
@@ -27,7 +27,7 @@ use Rattle.rs_words.specs.declared.limits.TheConstants.{DEFAULT_BOUND}
 use Rattle.rs_words.specs.Meaning.{IsInRange, IsMeaning}
 use Rattle.rs_words.proofs.Exact.{words_mean_something}
 use Rattle.rs_words.proofs.Ranges.{spelt_numbers_are_in_range}
-use Rattle.rs_tool.proofs.Derivings.{next_canonical, none_canonical, session_of}
+use Rattle.rs_tool.proofs.Derivings.{canonical_safe, next_canonical, none_canonical, session_of}
 use Rattle.rs_documents.proofs.SpeltSessions.{spelt_session}
 use Rattle.rs_wellformed.specs.Faults.{first_fault}
 use Rattle.rs_wellformed.specs.WellFormed.{IsWellFormed}
@@ -49,6 +49,10 @@ use Rattle.rs_tool.specs.Refusals.{HasNoDerivations, IsIllFormed, HasNoProjectio
 use Rattle.rs_tool.specs.declared.refusals.Refusal.{Refusal}
 use Rattle.rs_tool.specs.declared.refusals.Refusal.TheVariants as refusal
 use Rattle.rs_tool.specs.Report.{report}
+use Rattle.rs_tool.specs.Runs as runs
+use Rattle.rs_tool.specs.Runs.{Runs}
+use Rattle.rs_tool.specs.declared.runs.RunOptions.{RunOptions}
+use Rattle.rs_tool.proofs.Outcomes.{some_run}
 use Rattle.rs_tool.specs.Sessions.{HasMachines, HasProjections, IsUnprojectable, MachineRefusal, first_refusal, machines_of}
 use Rattle.rs_documents.specs.Canonical.{AreShown, AreCanonicalMachines}
 use Rattle.rs_tool.specs.Tables as tables
@@ -134,6 +138,13 @@ checked : (bound : ℕ) (d : Document_data) → Prepared bound d → Some_for (t
 checked bound d (NotSo why h) = record { answer = refusal_answer d.names why; answers = checks.IsRefused why h refl }
 checked bound d (Derived projections machines derivations h found) = record { answer = report d.names.roles derivations; answers = checks.IsAccepted projections machines derivations h found refl }
 
+run_answer : (options : RunOptions) (bytes : List ℕ) (d : Document_data) → SpellsDocument bytes d → Prepared options.bound d → (a : Answer_data) × Runs options d a
+run_answer options bytes d doc (NotSo why h) = (refusal_answer d.names why, runs.IsRefused why h refl)
+run_answer options bytes d doc (Derived projections machines derivations h found) =
+    let session = session_of d projections machines (spelt_session bytes d doc) h.projections_are.well_formed h.projections_are.projected h.machines_are h.well_formed in
+    let r = some_run options d.names machines derivations (canonical_safe options.bound d.protocol projections machines derivations session found) session.machines_fit in
+    (r.answer, runs.IsRun projections machines derivations h found r.tells)
+
 tabled : (d : Document_data) → first_fault d.protocol ≡ None → Decision d.protocol d.protocol.roles → Some_for task.Project d
 tabled d none (OneDoesnt role fault h) = record { answer = proj_answer d.names fault; answers = tables.HasNoProjection none role fault h refl }
 tabled d none (AllProject projections h) =
@@ -171,7 +182,9 @@ document_answer (task.Check bound true) bytes d range reads h = absurd cc
 document_answer task.Verify bytes d range reads h = absurd cc
 document_answer task.Show bytes d range reads h = shown bytes d h
 document_answer task.Project bytes d range reads h = some_tables d (first_fault d.protocol) refl
-document_answer (task.Run bound ring workers limit seed) bytes d range reads h = absurd cc
+document_answer (task.Run bound ring workers limit seed) bytes d range reads h =
+    let r = run_answer (record { bound = bound; ring = ring; limit = limit; seed = seed }) bytes d h (prepared bound bytes d h (first_fault d.protocol) refl) in
+    record { answer = r.0; answers = r.1 }
 document_answer (task.Demo kind ring workers) bytes d range reads h = absurd cc
 document_answer (task.Gen number) bytes d range reads h = absurd cc
 
@@ -206,13 +219,17 @@ of_pipeline number bytes =
     let a : Answer_data = record { text = pipeline_summary (pipeline_of number) ++ c.answer.text; verdict = c.answer.verdict } in
     record { answer = a; answers = MakesPipeline number refl (record { checked = c.answer; checks = c.answers; is = refl }) }
 
+of_run : (bound : ℕ) (ring : Option ℕ) (workers limit seed : ℕ) (bytes : List ℕ) → IsInRange (task.Run bound ring workers limit seed) → (one : Bool) → (workers == 1) ≡ one → Some_task (task.Run bound ring workers limit seed) bytes
+of_run bound ring workers limit seed bytes range true one = of_input (task.Run bound ring workers limit seed) bytes range one
+of_run bound ring workers limit seed bytes range false one = not_yet (task.Run bound ring workers limit seed) bytes one
+
 of_task : (t : Task) (bytes : List ℕ) → IsInRange t → Some_task t bytes
 of_task (task.Check bound false) bytes range = of_input (task.Check bound false) bytes range refl
 of_task (task.Check bound true) bytes range = not_yet (task.Check bound true) bytes refl
 of_task task.Verify bytes range = not_yet task.Verify bytes refl
 of_task task.Show bytes range = of_input task.Show bytes range refl
 of_task task.Project bytes range = of_input task.Project bytes range refl
-of_task (task.Run bound ring workers limit seed) bytes range = not_yet (task.Run bound ring workers limit seed) bytes refl
+of_task (task.Run bound ring workers limit seed) bytes range = of_run bound ring workers limit seed bytes range (workers == 1) refl
 of_task (task.Demo kind ring workers) bytes range = not_yet (task.Demo kind ring workers) bytes refl
 of_task (task.Gen number) bytes range = of_pipeline number bytes
 

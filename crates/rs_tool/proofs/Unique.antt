@@ -39,6 +39,12 @@ use Rattle.rs_tool.specs.Refusals.{HasNoDerivations, HasNoSession, IsIllFormed, 
 use Rattle.rs_tool.specs.declared.refusals.Refusal.{Refusal}
 use Rattle.rs_tool.specs.declared.refusals.Refusal.TheVariants as refusal
 use Rattle.rs_tool.specs.Report.{report}
+use Rattle.rs_tool.specs.Runs as runs
+use Rattle.rs_tool.specs.Runs.{Runs, TellsRun}
+use Rattle.rs_tool.specs.declared.runs.RunOptions.{RunOptions}
+use Rattle.rs_tool.proofs.Derivings.{session_of}
+use Rattle.rs_tool.proofs.Outcomes.{one_run}
+use Rattle.rs_documents.proofs.SpeltSessions.{spelt_session}
 use Rattle.rs_tool.specs.Sessions.{HasMachines, HasProjections, IsUnprojectable, MachineRefusal, first_refusal, machines_of}
 use Rattle.rs_documents.specs.Canonical.{AreCanonicalMachines, AreShown}
 use Rattle.rs_tool.specs.Shown.{Shows}
@@ -246,6 +252,18 @@ one_check bound d a b (IsRefused r h x) (IsAccepted ps ms ds k f y) = absurd (no
 one_check bound d a b (IsAccepted ps ms ds h f x) (IsRefused s k y) = absurd (not_refused bound d ps ms ds s h f k)
 one_check bound d a b (IsAccepted ps ms ds h f x) (IsAccepted qs ns es k g y) = x ∙ ap (report d.names.roles) (one_session_derived bound d ps qs ms ns ds es h k f g) ∙ sym y
 
+one_of_run : (options : RunOptions) (bytes : List ℕ) (d : Document_data) (a b : Answer_data) → SpellsDocument bytes d → Runs options d a → Runs options d b → a ≡ b
+one_of_run options bytes d a b doc (runs.IsRefused r h x) (runs.IsRefused s k y) = x ∙ ap (refusal_answer d.names) (one_refusal options.bound d r s h k) ∙ sym y
+one_of_run options bytes d a b doc (runs.IsRefused r h x) (runs.IsRun ps ms ds k f y) = absurd (not_refused options.bound d ps ms ds r k f h)
+one_of_run options bytes d a b doc (runs.IsRun ps ms ds h f x) (runs.IsRefused s k y) = absurd (not_refused options.bound d ps ms ds s h f k)
+one_of_run options bytes d a b doc (runs.IsRun ps ms ds h f x) (runs.IsRun qs ns es k g y) =
+    let same = same_session d ps qs ms ns h k in
+    let derivations = one_session_derived options.bound d ps qs ms ns ds es h k f g in
+    let session = session_of d qs ns (spelt_session bytes d doc) k.projections_are.well_formed k.projections_are.projected k.machines_are k.well_formed in
+    let P : List Machine_data → Type 0 = λ z. TellsRun options d.names z ds a in
+    let Q : List Derivation_data → Type 0 = λ z. TellsRun options d.names ns z a in
+    one_run options d.names ns es a b session.machines_fit (subst Q derivations (subst P same.1 x)) y
+
 one_lines : (names : Names_data) (machines : List (Option Machine_data)) (x y : List ℕ) → AreShown names machines → AreCanonicalMachines names machines x → AreCanonicalMachines names machines y → x ≡ y
 one_lines names [] x y s h k = h ∙ sym k
 one_lines names (None ∷ ms) x y s h k = one_lines names ms x y s.1 h k
@@ -264,7 +282,7 @@ one_of_document : (t : Task) (bytes : List ℕ) (d : Document_data) (a b : Answe
 one_of_document (task.Check bound false) bytes d a b doc h k = one_check bound d a b h k
 one_of_document (task.Check bound true) bytes d a b doc h k = absurd h
 one_of_document task.Verify bytes d a b doc h k = absurd h
-one_of_document (task.Run bound ring workers limit seed) bytes d a b doc h k = absurd h
+one_of_document (task.Run bound ring workers limit seed) bytes d a b doc h k = one_of_run (record { bound = bound; ring = ring; limit = limit; seed = seed }) bytes d a b doc h k
 one_of_document (task.Demo kind ring workers) bytes d a b doc h k = absurd h
 one_of_document (task.Gen number) bytes d a b doc h k = absurd h
 one_of_document task.Show bytes d a b doc h k = one_show bytes d a b doc h k
@@ -306,7 +324,7 @@ reading_is_built (task.Check bound false) not reads = cc
 reading_is_built task.Verify not reads = cc
 reading_is_built task.Show not reads = cc
 reading_is_built task.Project not reads = cc
-reading_is_built (task.Run bound ring workers limit seed) not reads = cc
+reading_is_built (task.Run bound ring workers limit seed) not reads = let no : false ≡ true = sym not ∙ reads in cc
 reading_is_built (task.Demo kind ring workers) not reads = cc
 reading_is_built (task.Gen number) not reads = cc
 

@@ -8,6 +8,7 @@ use Rattle.rs_documents.specs.Data.{Document_data}
 use Rattle.rs_tool.specs.Data.{Answer_data}
 use Rattle.rs_documents.specs.Documents.{SpellsDocument, HasDerivations, HasFault}
 use Rattle.rs_tool.specs.RefusalTexts.{usage, not_built, too_large, fault_answer}
+use Rattle.rs_tool.specs.Runs.{Runs}
 use Rattle.rs_tool.specs.Shown.{Shows}
 use Rattle.rs_tool.specs.Tables.{Projects}
 use Rattle.rs_tool.specs.Tasks.{is_built, reads_input}
@@ -21,6 +22,7 @@ abbrev pub AnswersDocument : Task → Document_data → Answer_data → Type 0
 AnswersDocument (task.Check bound false) d answer = Checks bound d answer
 AnswersDocument task.Show d answer = Shows d answer
 AnswersDocument task.Project d answer = Projects d answer
+AnswersDocument (task.Run bound ring workers limit seed) d answer = Runs (record { bound = bound; ring = ring; limit = limit; seed = seed }) d answer
 AnswersDocument _ d answer = ⊥
 
 -- the answer of the task to a text

@@ -9,6 +9,7 @@ ghost use Rattle.rs_words.specs.Meaning.{IsInRange};
 
 use crate::checks::check;
 use crate::refusal_texts::{fault_answer, not_built, too_large};
+use crate::runs::{RunOptions, run};
 use crate::shown::show;
 use crate::statuses::Verdict;
 use crate::tables::project_all;
@@ -48,6 +49,22 @@ fn answer_to_document(alloc: Global, task: Task, document: &Document) -> Result<
         Task::Check { bound, .. } => check(alloc, document, bound),
         Task::Show => show(alloc, document),
         Task::Project => project_all(alloc, document),
+        Task::Run {
+            bound,
+            ring,
+            limit,
+            seed,
+            ..
+        } => run(
+            alloc,
+            document,
+            RunOptions {
+                bound,
+                ring,
+                limit,
+                seed,
+            },
+        ),
         _ => unreachable!(),
     }
 }

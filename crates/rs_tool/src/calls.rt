@@ -8,7 +8,9 @@ ghost use Rattle.rs_tool.specs.Answers.{Answers, AnswersTask};
 ghost use Rattle.rs_tool.specs.Calls.{Ends, ForInput, IsAnswered, IfAnswered};
 ghost use Rattle.rs_tool.specs.Completeness.{IsComplete};
 ghost use Rattle.rs_tool.specs.Headline.{SpellsSafeMachines};
-ghost use Rattle.rs_tool.specs.Tasks.{ReadTheInput, SpellsCheck, reads_input};
+ghost use Rattle.rs_tool.specs.RunHeadline.{IsOfRun};
+ghost use Rattle.rs_tool.specs.Tasks.{ReadTheInput, SpellsCheck, SpellsRun, reads_input};
+ghost use Rattle.rs_tool.specs.declared.runs.RunOptions.{RunOptions};
 ghost use Rattle.rs_words.specs.Meaning.{IsInRange, SpellsTask};
 ghost use Rattle.rs_words.specs.Words.{bytes_of_words};
 
@@ -105,7 +107,7 @@ fn carry_out<S: Source, K: Sink>(
 
 /// Carries out the words, as the program does, without threads.
 ///
-/// `check`, `show` and `project` read the source to its end and write their answer. The text of an answer is made whole
+/// `check`, `show`, `project` and `run` read the source to its end and write their answer. The text of an answer is made whole
 /// before its first byte is written: with the statuses `ReadFault` and `NoMemory` nothing is written, with `WriteFault`
 /// a first part of the text. `gen`, words that spell no task and tasks that aren't built yet read nothing.
 pub fn command_serial<S: Source, K: Sink>(
@@ -121,6 +123,8 @@ pub fn command_serial<S: Source, K: Sink>(
         source.old source.new status) }
     ensures headline { IfAnswered result (λ status. (bound : ℕ) → SpellsCheck (bytes_of_words words.now) bound
         → IfSome (S.left source.old) (λ bytes. status ≡ Status.Fine → SpellsSafeMachines bytes)) }
+    ensures run { IfAnswered result (λ status. (options : RunOptions) → SpellsRun (bytes_of_words words.now) options
+        → IfSome (S.left source.old) (λ bytes. IsOfRun status → SpellsSafeMachines bytes)) }
     ensures pipeline { IfAnswered result (λ status. (number : ℕ) → SpellsTask (bytes_of_words words.now) (Task.Gen number)
         → status ≡ Status.Fine → SpellsSafeMachines (pipeline_text (pipeline_of number))) }
     ensures complete { IfAnswered result (λ status. IsComplete (bytes_of_words words.now) (S.left source.old)
@@ -145,6 +149,8 @@ pub fn command<R: Threads + Wait + Sync, S: Source, K: Sink>(
         source.old source.new result.status }
     ensures headline { (bound : ℕ) → SpellsCheck (bytes_of_words words.now) bound
         → IfSome (S.left source.old) (λ bytes. result.status ≡ Status.Fine → SpellsSafeMachines bytes) }
+    ensures run { (options : RunOptions) → SpellsRun (bytes_of_words words.now) options
+        → IfSome (S.left source.old) (λ bytes. IsOfRun result.status → SpellsSafeMachines bytes) }
     ensures pipeline { (number : ℕ) → SpellsTask (bytes_of_words words.now) (Task.Gen number)
         → result.status ≡ Status.Fine → SpellsSafeMachines (pipeline_text (pipeline_of number)) }
     ensures complete { IsComplete (bytes_of_words words.now) (S.left source.old)

@@ -13,6 +13,7 @@ pub fn reads_input(task: Task) -> bool
         Task::Check { derivations, .. } => !derivations,
         Task::Show => true,
         Task::Project => true,
+        Task::Run { workers, .. } => workers == 1,
         _ => false,
     }
 }
@@ -25,6 +26,7 @@ pub fn is_built(task: Task) -> bool
         Task::Check { derivations, .. } => !derivations,
         Task::Show => true,
         Task::Project => true,
+        Task::Run { workers, .. } => workers == 1,
         Task::Gen { .. } => true,
         _ => false,
     }

@@ -532,6 +532,89 @@ fn machines_of_their_own_are_accepted_or_refused(rt: HostRuntime) -> Result<(), 
 }
 
 #[test]
+fn sessions_run(rt: HostRuntime) -> Result<(), Fail> {
+    let alloc = rt.alloc();
+    for (text, status, written) in [
+        // B sends first
+        (
+            "roles A, B\nprotocol A->B:x(). B->A:y(). end\nmachine B: A!y(). A?x(). end\n",
+            Status::Fine,
+            "ended\nA: B!x B?y\nB: A!y A?x\n",
+        ),
+        // there is nothing to do
+        (
+            "roles A, B\nprotocol end\n",
+            Status::Fine,
+            "ended\nA:\nB:\n",
+        ),
+        // the double buffer with an end, K one `ready` ahead
+        (
+            "roles K, S, T\nprotocol rec X. K->S:ready(). T->K:ready(). S->K{copy(bytes). K->T:copy(bytes). X, stop(). K->S:ready(). K->T:stop(). end}\nmachine K: S!ready(). rec X. S!ready(). T?ready(). S?{copy(bytes). T!copy(bytes). X, stop(). T!stop(). end}\n",
+            Status::Fine,
+            "ended\nK: S!ready S!ready T?ready S?copy(816b4b) T!copy S!ready T?ready S?stop T!stop\nS: K?ready K!copy K?ready K!stop K?ready\nT: K!ready K?copy(aa1f) K!ready K?stop\n",
+        ),
+        // a value of each sort
+        (
+            "roles A, B\nprotocol A->B:x(nat). end\n",
+            Status::Fine,
+            "ended\nA: B!x\nB: A?x(21468)\n",
+        ),
+        (
+            "roles A, B\nprotocol A->B:x(bool). end\n",
+            Status::Fine,
+            "ended\nA: B!x\nB: A?x(false)\n",
+        ),
+        (
+            "roles A, B\nprotocol A->B:x(). A->B:x(). A->B:y(bool). end\n",
+            Status::Fine,
+            "ended\nA: B!x B!x B!y\nB: A?x A?x A?y(true)\n",
+        ),
+        (
+            "roles A, B\nprotocol A->B:x(int). end\n",
+            Status::Fine,
+            "ended\nA: B!x\nB: A?x(5084)\n",
+        ),
+        (
+            "roles A, B\nprotocol A->B:x(bytes). end\n",
+            Status::Fine,
+            "ended\nA: B!x\nB: A?x(0465aa)\n",
+        ),
+        (
+            "roles A, B\nprotocol A->B:x(list). end\n",
+            Status::Fine,
+            "ended\nA: B!x\nB: A?x([-6396,5733,-12886])\n",
+        ),
+        // .. and of those without an item
+        (
+            "roles A, B\nprotocol B->A:u(). B->A:u(). B->A:x(bytes). end\n",
+            Status::Fine,
+            "ended\nA: B?u B?u B?x()\nB: A!u A!u A!x\n",
+        ),
+        (
+            "roles A, B\nprotocol B->A:u(). B->A:u(). B->A:x(list). end\n",
+            Status::Fine,
+            "ended\nA: B?u B?u B?x([])\nB: A!u A!u A!x\n",
+        ),
+        // what is refused isn't run
+        (
+            "roles A, B\nprotocol A->B:x(). B->A:y(). end\nmachine A: B?y(). B!x(). end\n",
+            Status::Refused,
+            "refused\nA: not found, cut no\n",
+        ),
+        (
+            "roles A, B\nprotocol A->A:x(). end\n",
+            Status::Malformed,
+            "malformed protocol: node 0 talks to itself\n",
+        ),
+    ] {
+        let (found, bytes) = answer(&rt, alloc, &["run"], text.as_bytes())?;
+        assert_eq!(rt; found, status, "{text}");
+        assert_eq!(rt; bytes.as_slice(), written.as_bytes(), "{text}");
+    }
+    Ok(())
+}
+
+#[test]
 fn reads_and_writes_that_fail_are_told(rt: HostRuntime) -> Result<(), Fail> {
     let alloc = rt.alloc();
     let words = strings(alloc, &["check"])?;
