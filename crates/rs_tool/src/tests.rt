@@ -85,7 +85,6 @@ fn words_that_read_nothing_have_their_answers(rt: HostRuntime) -> Result<(), Fai
             Status::NotBuilt,
             not_built,
         ),
-        (["run"].as_slice(), Status::NotBuilt, not_built),
         (
             ["run", "--workers", "2"].as_slice(),
             Status::NotBuilt,
@@ -610,6 +609,86 @@ fn sessions_run(rt: HostRuntime) -> Result<(), Fail> {
         let (found, bytes) = answer(&rt, alloc, &["run"], text.as_bytes())?;
         assert_eq!(rt; found, status, "{text}");
         assert_eq!(rt; bytes.as_slice(), written.as_bytes(), "{text}");
+    }
+    Ok(())
+}
+
+/// Each sends twice before it receives.
+const TWICE: &str =
+    "roles A, B\nprotocol A->B:x(). A->B:x(). B->A:y(). B->A:y(). end\nmachine B: A!y(). A!y(). A?x(). A?x(). end\n";
+
+/// One message.
+const ONE: &str = "roles A, B\nprotocol A->B:x(nat). end\n";
+
+#[test]
+fn words_give_the_options_of_a_run(rt: HostRuntime) -> Result<(), Fail> {
+    let alloc = rt.alloc();
+    for (words, text, status, written) in [
+        (
+            ["run", "--ring", "1"].as_slice(),
+            TWICE,
+            Status::Full,
+            "full A->B sent 1 taken 0\n",
+        ),
+        (
+            ["run", "--ring=11"].as_slice(),
+            TWICE,
+            Status::Fine,
+            "ended\nA: B!x B!x B?y B?y\nB: A!y A!y A?x A?x\n",
+        ),
+        (
+            ["run", "--limit", "3"].as_slice(),
+            "roles K, S, T\nprotocol rec X. K->S:ready(). T->K:ready(). S->K:copy(bytes). K->T:copy(bytes). X\nmachine K: S!ready(). rec X. S!ready(). T?ready(). S?copy(bytes). T!copy(bytes). X\n",
+            Status::Stopped,
+            "stopped K\n",
+        ),
+        // a role that ends with its last act isn't stopped
+        (
+            ["run", "--limit", "4"].as_slice(),
+            TWICE,
+            Status::Fine,
+            "ended\nA: B!x B!x B?y B?y\nB: A!y A!y A?x A?x\n",
+        ),
+        (
+            ["run", "--limit", "3"].as_slice(),
+            TWICE,
+            Status::Stopped,
+            "stopped A\n",
+        ),
+        (
+            ["run", "--seed", "1"].as_slice(),
+            ONE,
+            Status::Fine,
+            "ended\nA: B!x\nB: A?x(5758)\n",
+        ),
+        (
+            ["run", "--workers", "1", "--seed=0"].as_slice(),
+            ONE,
+            Status::Fine,
+            "ended\nA: B!x\nB: A?x(21468)\n",
+        ),
+        (
+            ["run", "--bound", "1"].as_slice(),
+            TWICE,
+            Status::Refused,
+            "refused\nB: not found, cut yes\n",
+        ),
+        (
+            ["run", "--workers", "2"].as_slice(),
+            ONE,
+            Status::NotBuilt,
+            "not built\n",
+        ),
+        (
+            ["run", "--ring", "0"].as_slice(),
+            ONE,
+            Status::Usage,
+            "usage\n",
+        ),
+    ] {
+        let (found, bytes) = answer(&rt, alloc, words, text.as_bytes())?;
+        assert_eq!(rt; found, status, "{written}");
+        assert_eq!(rt; bytes.as_slice(), written.as_bytes());
     }
     Ok(())
 }
