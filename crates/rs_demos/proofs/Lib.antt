@@ -1,0 +1,14 @@
+pub mod Pieces
+pub mod Digits
+pub mod Spelt
+pub mod Printed
+pub mod Playing
+pub mod Feeding
+pub mod Ran
+pub mod Computing
+pub mod Ranges
+pub mod Canonical
+pub mod Trading
+pub mod Exchanged
+pub mod Butterflies
+pub mod Straight
