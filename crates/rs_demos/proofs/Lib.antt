@@ -12,3 +12,4 @@ pub mod Trading
 pub mod Exchanged
 pub mod Butterflies
 pub mod Straight
+pub mod Rings

@@ -33,3 +33,8 @@ pub fn the_stream_computes()
 pub fn the_butterfly_computes()
     ensures { (bytes : List ℕ) (actors after : List DemoActor) (given : ℕ → DemoActor) (limit : ℕ) (capacity : Option ℕ) (end : Moment DemoActor) → StartsWithActors demo.Butterfly bytes actors → IsGiven given actors → IsPlain (demo_machines demo.Butterfly (length actors)) by_demo given limit capacity (Ended end) → HasActors (length actors) end.actor after → Computes demo.Butterfly bytes (output_of demo.Butterfly after) }
 {}
+
+/// .. and for the ring.
+pub fn the_ring_computes()
+    ensures { (bytes : List ℕ) (actors after : List DemoActor) (given : ℕ → DemoActor) (limit : ℕ) (capacity : Option ℕ) (end : Moment DemoActor) → StartsWithActors demo.Ring bytes actors → IsGiven given actors → IsPlain (demo_machines demo.Ring (length actors)) by_demo given limit capacity (Ended end) → HasActors (length actors) end.actor after → Computes demo.Ring bytes (output_of demo.Ring after) }
+{}
