@@ -10,7 +10,10 @@ use Rattle.rs_demos.specs.Sessions.{demo_machines, double_kernel, double_source,
 use Rattle.rs_demos.specs.Starts.{StartsWithActors}
 use Rattle.rs_demos.specs.declared.actors.DemoActor.{DemoActor}
 use Rattle.rs_demos.specs.declared.actors.DemoActor.TheVariants as actor
+use Rattle.rs_demos.specs.declared.kinds.Demo.{Demo}
 use Rattle.rs_demos.specs.declared.kinds.Demo.TheVariants as demo
+use Rattle.rs_demos.proofs.Butterflies.{butterfly-run}
+use Rattle.rs_demos.proofs.Rings.{ring-run}
 use Rattle.rs_demos.proofs.Feeding.{kernel_with, double-computes, stream-computes}
 use Rattle.rs_demos.proofs.Ran.{Ran, ran, playing}
 
@@ -44,14 +47,22 @@ stream bytes actors after given end n s g r has =
     let many : 1 < length actors = (let l = ap length s in omega (arith, l)) in
     ap bytes_of (has.each 1 many ∙ ap (λ (z : DemoActor). Some z) (sym done))
 
-pub double-run : (bytes : List ℕ) (actors after : List DemoActor) (given : ℕ → DemoActor) (limit : ℕ) (capacity : Option ℕ) (end : Moment DemoActor)
+double-run : (bytes : List ℕ) (actors after : List DemoActor) (given : ℕ → DemoActor) (limit : ℕ) (capacity : Option ℕ) (end : Moment DemoActor)
     → StartsWithActors demo.Double bytes actors → IsGiven given actors → IsPlain (demo_machines demo.Double (length actors)) by_demo given limit capacity (Ended end)
     → HasActors (length actors) end.actor after → Computes demo.Double bytes (output_of demo.Double after)
 double-run bytes actors after given limit capacity end s g is has =
     double bytes actors after given end (length actors) s g (ran (demo_machines demo.Double (length actors)) given limit capacity end is) has
 
-pub stream-run : (bytes : List ℕ) (actors after : List DemoActor) (given : ℕ → DemoActor) (limit : ℕ) (capacity : Option ℕ) (end : Moment DemoActor)
+stream-run : (bytes : List ℕ) (actors after : List DemoActor) (given : ℕ → DemoActor) (limit : ℕ) (capacity : Option ℕ) (end : Moment DemoActor)
     → StartsWithActors demo.Stream bytes actors → IsGiven given actors → IsPlain (demo_machines demo.Stream (length actors)) by_demo given limit capacity (Ended end)
     → HasActors (length actors) end.actor after → Computes demo.Stream bytes (output_of demo.Stream after)
 stream-run bytes actors after given limit capacity end s g is has =
     stream bytes actors after given end (length actors) s g (ran (demo_machines demo.Stream (length actors)) given limit capacity end is) has
+
+pub ended-run : (kind : Demo) (bytes : List ℕ) (actors after : List DemoActor) (given : ℕ → DemoActor) (limit : ℕ) (capacity : Option ℕ) (end : Moment DemoActor)
+    → StartsWithActors kind bytes actors → IsGiven given actors → IsPlain (demo_machines kind (length actors)) by_demo given limit capacity (Ended end)
+    → HasActors (length actors) end.actor after → Computes kind bytes (output_of kind after)
+ended-run demo.Double = double-run
+ended-run demo.Stream = stream-run
+ended-run demo.Ring = ring-run
+ended-run demo.Butterfly = butterfly-run

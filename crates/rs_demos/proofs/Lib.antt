@@ -5,7 +5,6 @@ pub mod Printed
 pub mod Playing
 pub mod Feeding
 pub mod Ran
-pub mod Computing
 pub mod Ranges
 pub mod Canonical
 pub mod Trading
@@ -13,3 +12,5 @@ pub mod Exchanged
 pub mod Butterflies
 pub mod Straight
 pub mod Rings
+pub mod Computing
+pub mod Projected

@@ -25,7 +25,8 @@ use Rattle.rs_machines.specs.declared.marks.Mark.{Mark}
 use Rattle.rs_machines.specs.declared.marks.Mark.TheVariants as mark
 use Rattle.rs_demos.specs.Numbers.{takes_numbers}
 use Rattle.rs_demos.specs.Sessions.{Exchange, role, arm, machine, role_name, numbers_from, nodes_from, states_from, protocol_of, has_session, demo_names, ring_exchanges, ring_pairs, ring_machine, butterfly_exchanges, butterfly_pairs, butterfly_machine, written}
-use Rattle.rs_demos.specs.Texts.{AreLines, IsDemoText}
+use Rattle.rs_documents.specs.Canonical.{AreCanonicalMachines}
+use Rattle.rs_demos.specs.Texts.{IsDemoText}
 use Rattle.rs_demos.specs.Writing.{exchange_text, exchanges_text, acts_text, pairs_text, other_name, roles_text, machine_line, front_text, ring_line, butterfly_line, ring_text, butterfly_text}
 use Rattle.rs_demos.specs.declared.kinds.Demo.{Demo}
 use Rattle.rs_demos.specs.declared.kinds.Demo.TheVariants as demo
@@ -196,13 +197,13 @@ line-is n p xs lt w = record {
 
 lines : (kind : Demo) (n : ℕ) (pairs : ℕ → List Exchange) (k a : ℕ) → 0 < a → a + k ≤ n → ((i : ℕ) → i < n → are_within n (pairs i) ≡ true)
     → ((m : Machine_data) → m.role.0 ≢ 0 → written kind m ≡ Some m)
-    → AreLines (names_for n) (map (written kind) (map (λ (i : ℕ). machine i (states_from 0 (pairs i))) (range_with_len a k))) (flat_map (λ (i : ℕ). machine_line i (pairs i)) (range_with_len a k))
+    → AreCanonicalMachines (names_for n) (map (written kind) (map (λ (i : ℕ). machine i (states_from 0 (pairs i))) (range_with_len a k))) (flat_map (λ (i : ℕ). machine_line i (pairs i)) (range_with_len a k))
 lines kind n pairs zero a low le w is = refl
 lines kind n pairs (suc k) a low le w is =
     let m : Machine_data = machine a (states_from 0 (pairs a)) in
     let later = lines kind n pairs k (a + 1) (omega arith) (omega arith) w is in
     let P : Option Machine_data → Type 0 = λ o.
-        AreLines (names_for n) (o ∷ map (written kind) (map (λ (i : ℕ). machine i (states_from 0 (pairs i))) (range_with_len (a + 1) k)))
+        AreCanonicalMachines (names_for n) (o ∷ map (written kind) (map (λ (i : ℕ). machine i (states_from 0 (pairs i))) (range_with_len (a + 1) k)))
         (machine_line a (pairs a) ++ flat_map (λ (i : ℕ). machine_line i (pairs i)) (range_with_len (a + 1) k)) in
     subst P (sym (is (machine a (states_from 0 (pairs a))) (λ e. (let z : a ≡ 0 = e in omega arith))))
     (machine_line a (pairs a), flat_map (λ (i : ℕ). machine_line i (pairs i)) (range_with_len (a + 1) k), line-is n a (pairs a) (omega arith) (w a (omega arith)), later, refl)

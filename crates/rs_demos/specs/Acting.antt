@@ -13,15 +13,14 @@ use Rattle.rs_demos.specs.declared.actors.DemoActor.TheVariants as actor
 use Rattle.rs_demos.specs.declared.parts.Kernel.{Kernel}
 use Rattle.rs_demos.specs.declared.parts.RingMember.{RingMember}
 use Rattle.rs_demos.specs.declared.parts.ButterflyMember.{ButterflyMember}
-use Rattle.rs_demos.specs.declared.parts.TheConstants.{PIECE_BYTES}
 
 -- the next piece of bytes that are left: the first 4,096, or all where there are fewer
 abbrev pub piece_of : List ℕ → List ℕ
-piece_of bytes = take PIECE_BYTES bytes
+piece_of bytes = take 4096 bytes
 
 -- what stands behind it
 abbrev pub behind_piece : List ℕ → List ℕ
-behind_piece bytes = drop PIECE_BYTES bytes
+behind_piece bytes = drop 4096 bytes
 
 -- the bytes, where there are some, else the unit
 abbrev pub octets_or_unit : Option (List ℕ) → Value

@@ -10,6 +10,8 @@ mod numbers;
 mod outputs;
 mod parts;
 mod starts;
+#[cfg(test)]
+mod tests;
 
 pub use actors::DemoActor;
 pub use documents::demo_document;
