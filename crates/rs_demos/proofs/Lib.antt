@@ -14,3 +14,4 @@ pub mod Straight
 pub mod Rings
 pub mod Computing
 pub mod Projected
+pub mod Printable
