@@ -1,0 +1,4 @@
+pub mod Rings
+pub mod Enough
+pub mod Crossing
+pub mod StuckCrossing
