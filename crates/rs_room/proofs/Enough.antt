@@ -15,7 +15,7 @@ use Rattle.rs_safety.specs.Room.{longest, top_rank, lag, room_of}
 use Rattle.rs_room.specs.Bounded.{BoundedStep, HasBoundedStep, BoundedSteps, IsReachableWithin, IsStuck, CanMoveWithin, MayPut, MayTake, CanStepWithin}
 use Rattle.rs_safety.proofs.Limits.{bounds}
 use Rattle.rs_walks.proofs.NextSteps.{first-send, takes-fit, take}
-use Rattle.rs_room.proofs.Rings.{roomy}
+use Rattle.rs_room.proofs.FullRings.{roomy}
 use Rattle.rs_safety.proofs.Reordered.{IsDerivedSession, no-derivation, derivation_of}
 use Rattle.rs_walks.proofs.Walked.{WalksOf, good, stands}
 

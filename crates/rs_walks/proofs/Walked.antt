@@ -10,7 +10,9 @@ use Rattle.rs_core.proofs.Stands.{Known, Good, run-keeps, done_after, peered}
 use Rattle.rs_project.specs.Data.{Projection_data}
 use Rattle.rs_derive.specs.Data.{Derivation_data}
 use Rattle.rs_derive.specs.Derivations.{IsDerivation, Remembers}
+use Rattle.rs_safety.specs.Accepting.{Accepted_data, IsAcceptedSession}
 use Rattle.rs_safety.specs.Room.{longest, top_rank}
+use Rattle.rs_safety.proofs.Accepts.{are-projections}
 use Rattle.rs_safety.proofs.Trail.{canon}
 use Rattle.rs_safety.proofs.Grow.{Follower}
 use Rattle.rs_safety.proofs.Built.{Parts, good-of-parts}
@@ -93,3 +95,13 @@ pub stands : (pr : Protocol_data) (pjs : List Projection_data) (ms : List Machin
 stands pr pjs ms ds s p past future owed hp w =
     let both = derived-at pr pjs ms ds s p hp in
     stand-here (derivation_of ds p) (machine_of ms p) (projection_of pjs p).machine (longest (derivation_of ds p)) (top_rank (derivation_of ds p)) (length pr.nodes) both.0 both.1 (limits (derivation_of ds p)) past future owed w
+
+-- an accepted session is one with derivations
+pub of-accepted : (a : Accepted_data) → IsAcceptedSession a → IsDerivedSession a.protocol a.projections a.machines a.derivations
+of-accepted a s = record {
+  fits = s.is.well_formed;
+  projected = are-projections a.protocol a.projections s.is.projected;
+  many = s.is.a_machine_each;
+  order = s.is.machines_fit;
+  derived' = s.derived;
+}
