@@ -1,5 +1,5 @@
 -- The schedule, followed event by event: what holds after so many of them.
-use Rattle.std.proofs.Common.{◌≡◌, ◌≢◌, ◌⊎◌, inl, inr, ℕ, zero, suc, ◌+◌, ◌-◌, ◌*◌, ◌<◌, ◌≤◌, Bool, true, false, ◌&&◌, ◌==◌, List, [], ◌∷◌, ◌++◌, Option, Some, None, slice_get, length, refl, sym, ap, ◌∙◌, subst, subst₂, arith, append_assoc, length-append}
+use Rattle.std.proofs.Common.{◌≡◌, ◌≢◌, ◌⊎◌, inl, inr, ℕ, zero, suc, ◌+◌, ◌-◌, ◌*◌, ◌<◌, ◌≤◌, Bool, true, false, List, [], ◌∷◌, ◌++◌, Some, length, refl, sym, ap, ◌∙◌, subst, subst₂, arith, append_assoc, length-append}
 use Rattle.std.proofs.lemmas.Bool.Decides.{eqb_tells}
 use Rattle.rs_model.specs.Data.{Machine_data}
 use Rattle.rs_model.specs.declared.graph.Arm.{Arm}
@@ -8,21 +8,20 @@ use Rattle.rs_model.specs.declared.machines.State.TheVariants.{Puts, Takes}
 use Rattle.rs_model.specs.declared.values.Value.{Value}
 use Rattle.rs_core.specs.declared.messages.Event.{Event}
 use Rattle.rs_core.specs.declared.messages.Event.TheVariants.{Send, Receive}
-use Rattle.rs_core.specs.declared.messages.Message.{Message}
 use Rattle.rs_core.specs.Configurations.{Configuration, IsReachable, Receives, Sends, Step, role_of, state_at}
 use Rattle.rs_core.specs.Safety.{CanMove, MaySend, MayReceive}
-use Rattle.rs_core.proofs.Stands.{Known, Stands, done_after, numbered, one_more}
+use Rattle.rs_core.proofs.Stands.{Stands, done_after, one_more}
 use Rattle.rs_safety.specs.Accepting.{Accepted_data, IsAcceptedSession}
 use Rattle.rs_safety.specs.Room.{room_of}
 use Rattle.rs_safety.proofs.Walks.{same-role}
 use Rattle.rs_walks.proofs.Walked.{WalksOf, good, of-accepted}
-use Rattle.rs_alive.specs.Pasts.{IsContinued, LeadsTo}
+use Rattle.rs_alive.specs.Pasts.{LeadsTo}
 use Rattle.rs_alive.specs.Schedule.{Advances, CanLeadOn, act_of, takes_from}
 use Rattle.rs_alive.specs.Taken.{Else, IsTaken, Older, Oldest, acts_by}
 use Rattle.rs_alive.proofs.Acting.{receives, sends-first}
 use Rattle.rs_alive.proofs.Bound.{counts, long_of, most_lag, most_owed, setting, top_of}
 use Rattle.rs_alive.proofs.Chains.{one-chain}
-use Rattle.rs_alive.proofs.Scheduled.{MessageAt, Setting, Still, Turn, nearer, starts-low, still-receive, still-send, total, total-bound, total-falls, turn, within-bound, zeros}
+use Rattle.rs_alive.proofs.Scheduled.{MessageAt, Still, Turn, nearer, starts-low, still-receive, still-send, total, total-bound, total-falls, turn, within-bound, zeros}
 
 -- how many acts each role has made in the past
 abbrev pub done_in : List Event → ℕ → ℕ
@@ -62,8 +61,11 @@ start a past p u place c s l hp hu ne there =
     let b = total-bound (length a.machines) (most_of a past p) (done_in past) in
     record {
       ahead = n;
-      standing = (st, starts-low a.machines (WalksOf a.protocol a.projections a.machines a.derivations) (length a.protocol.nodes) (most_owed a.derivations) (most_lag a.derivations) (long_of a.derivations) (top_of a.derivations)
-          (setting a.protocol a.projections a.machines a.derivations ds) (done_in past) (suc n) c st p u.0 place hp hu ne there);
+      standing = (
+        st,
+        starts-low a.machines (WalksOf a.protocol a.projections a.machines a.derivations) (length a.protocol.nodes) (most_owed a.derivations) (most_lag a.derivations) (long_of a.derivations) (top_of a.derivations)
+            (setting a.protocol a.projections a.machines a.derivations ds) (done_in past) (suc n) c st p u.0 place hp hu ne there,
+      );
       enough = b;
       count = omega (arith, b);
       so_far = λ rest t. t;

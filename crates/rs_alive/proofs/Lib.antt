@@ -5,3 +5,4 @@ pub mod TheMessage
 pub mod Acting
 pub mod Replaying
 pub mod Following
+pub mod Agreeing

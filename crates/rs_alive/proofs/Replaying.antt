@@ -1,15 +1,9 @@
 -- What events lead to, one by one.
-use Rattle.std.proofs.Common.{◌≡◌, ◌≢◌, inl, inr, ℕ, zero, suc, ◌+◌, ◌<◌, ◌≤◌, List, [], ◌∷◌, ◌++◌, Option, Some, None, slice_get, length, take, refl, sym, ap, ◌∙◌, subst, arith}
+use Rattle.std.proofs.Common.{◌≡◌, ℕ, zero, suc, List, [], ◌∷◌, ◌++◌, Some, slice_get, take, refl, sym, ap, subst}
 use Rattle.rs_model.specs.Data.{Machine_data}
-use Rattle.rs_model.specs.declared.machines.State.TheVariants.{Puts, Takes}
 use Rattle.rs_core.specs.declared.messages.Event.{Event}
-use Rattle.rs_core.specs.declared.messages.Event.TheVariants.{Send, Receive}
-use Rattle.rs_core.specs.declared.messages.StepFault.{StepFault}
-use Rattle.rs_core.specs.declared.messages.StepFault.TheVariants.{NotSending, NoArm, WrongSort, NotReceiving, QueueEmpty, NoMemory}
-use Rattle.rs_core.specs.Configurations.{Configuration, StartsAt, Step, Steps, role_of, state_at}
-use Rattle.rs_core.specs.Core.{IsRefused, IsUnsent, receive_fault, send_fault, step_fault}
-use Rattle.rs_core.proofs.Stands.{within}
-use Rattle.rs_alive.specs.Pasts.{IsNoPast, LeadsTo}
+use Rattle.rs_core.specs.Configurations.{Configuration, Step, Steps}
+use Rattle.rs_alive.specs.Pasts.{LeadsTo}
 
 -- one event more at the end
 steps-snoc : (ms : List Machine_data) (c : Configuration) (es : List Event) (d : Configuration) (e : Event) (x : Configuration) → Steps ms c es d → Step ms d e x

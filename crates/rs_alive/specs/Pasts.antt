@@ -1,5 +1,5 @@
 -- Believed: what is answered of a past, which is a list of events.
-use Rattle.std.specs.Prelude.{◌≡◌, ℕ, ◌≤◌, List, Some, length, slice_get, take}
+use Rattle.std.specs.Prelude.{◌≡◌, ℕ, ◌<◌, ◌≤◌, List, Some, length, slice_get, take}
 use Rattle.rs_model.specs.Data.{Machine_data}
 use Rattle.rs_model.specs.declared.graph.Role.{Role}
 use Rattle.rs_core.specs.declared.messages.Event.{Event}
@@ -43,3 +43,8 @@ abbrev pub Tells : List Machine_data → List Event → Role → Role → ℕ �
 Tells machines past sender receiver place (fault.NotAPast at) = IsNoPast machines past at
 Tells machines past sender receiver place (fault.NoMessage len) = HasNoMessage machines past sender receiver place len
 Tells machines past sender receiver place fault.NoMemory = Unit {0}
+
+-- the same states of the first so many roles, and the same messages under way
+pub record AgreeFor (roles : ℕ) (c d : Configuration) : Type 0 where
+  pub at : (p : ℕ) → p < roles → c.at p ≡ d.at p
+  pub queue : (p q : ℕ) → c.queue p q ≡ d.queue p q

@@ -1,8 +1,7 @@
 -- Steps: who acts next so that a receiver comes to its message: the receiver itself where it can, or else the role for
 -- which it waits, or the role for which that one waits, and so on.
-use Rattle.std.specs.Prelude.{◌≡◌, ℕ, zero, suc, ◌<◌, Bool, true, false, nat_eq, nat_lt, ◌&&◌, List, [], ◌∷◌, Option, Some, None, length, if◌then◌else◌, pos}
+use Rattle.std.specs.Prelude.{◌≡◌, ℕ, zero, suc, ◌<◌, Bool, false, nat_eq, nat_lt, ◌&&◌, List, [], ◌∷◌, Option, Some, None, length, if◌then◌else◌, pos}
 use Rattle.rs_model.specs.Data.{Machine_data}
-use Rattle.rs_model.specs.declared.graph.Arm.{Arm}
 use Rattle.rs_model.specs.declared.graph.Role.{Role}
 use Rattle.rs_model.specs.declared.machines.State.{State}
 use Rattle.rs_model.specs.declared.machines.State.TheVariants.{Done, Puts, Takes}

@@ -97,12 +97,7 @@ fn here<'a>(machines: &'a [Machine], core: &Core, role: Role) -> Option<&'a Stat
 }
 
 /// What the role does: it sends by its first arm, or it receives.
-fn act_of(
-    alloc: Global,
-    machines: &[Machine],
-    core: &Core,
-    role: Role,
-) -> Result<Event, NoMemory>
+fn act_of(alloc: Global, machines: &[Machine], core: &Core, role: Role) -> Result<Event, NoMemory>
     requires machines { machines.now ≡ core.now.machines }
     requires well_formed { AreWellFormed machines.now }
     requires there { role.0 < length machines.now }
@@ -124,13 +119,7 @@ fn act_of(
 }
 
 /// Whether the role's receive takes a message of the sender to the receiver.
-fn takes_from(
-    machines: &[Machine],
-    core: &Core,
-    role: Role,
-    sender: Role,
-    receiver: Role,
-) -> bool
+fn takes_from(machines: &[Machine], core: &Core, role: Role, sender: Role, receiver: Role) -> bool
     requires machines { machines.now ≡ core.now.machines }
     requires well_formed { AreWellFormed machines.now }
     requires there { role.0 < length machines.now }

@@ -1,22 +1,17 @@
 -- Who can go on over rings, as it is looked up and as it is meant.
-use Rattle.std.proofs.Common.{◌≡◌, ◌⊎◌, inl, inr, ℕ, suc, ◌<◌, ◌≤◌, Bool, true, false, nat_lt, List, [], ◌∷◌, Option, Some, None, slice_get, length, refl, sym, ap, ◌∙◌, subst, arith}
+use Rattle.std.proofs.Common.{◌≡◌, inl, inr, ℕ, suc, ◌<◌, ◌≤◌, true, false, List, [], ◌∷◌, Option, Some, None, length, refl, sym, ap, subst, arith}
 use Rattle.std.proofs.lemmas.Bool.Decides.{leb_tells}
 use Rattle.rs_model.specs.Data.{Machine_data}
-use Rattle.rs_model.specs.declared.graph.Arm.{Arm}
-use Rattle.rs_model.specs.declared.graph.Role.{Role}
 use Rattle.rs_model.specs.declared.machines.State.{State}
 use Rattle.rs_model.specs.declared.machines.State.TheVariants.{Done, Puts, Takes}
-use Rattle.rs_core.specs.declared.messages.Event.{Event}
-use Rattle.rs_core.specs.declared.messages.Event.TheVariants.{Send, Receive}
 use Rattle.rs_core.specs.declared.messages.Message.{Message}
 use Rattle.rs_core.specs.Configurations.{Configuration, IsReachable, role_of, state_at}
 use Rattle.rs_core.specs.Core.{configuration_of}
 use Rattle.rs_core.specs.Safety.{AllEnded}
 use Rattle.rs_core.proofs.Stands.{within}
-use Rattle.rs_safety.specs.Room.{room_of}
 use Rattle.rs_safety.proofs.Reordered.{IsDerivedSession}
 use Rattle.rs_walks.proofs.Walked.{of-accepted}
-use Rattle.rs_room.specs.Bounded.{BoundedStep, CanMoveWithin, CanStepWithin, HasBoundedStep, MayPut, MayTake}
+use Rattle.rs_room.specs.Bounded.{CanMoveWithin, HasBoundedStep, MayPut, MayTake}
 use Rattle.rs_room.specs.Looks.{can_move, moves_by}
 use Rattle.rs_room.specs.Movable.{IsLeastMovable, NoneIsMovable}
 use Rattle.rs_room.specs.Rings.{Bounded_data, IsRingSession}

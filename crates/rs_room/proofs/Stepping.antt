@@ -1,5 +1,5 @@
 -- What a step over rings keeps, and what it counts.
-use Rattle.std.proofs.Common.{◌≡◌, ◌≢◌, ◌⊎◌, inl, inr, ℕ, zero, suc, ◌+◌, ◌<◌, ◌≤◌, ◌^◌, Bool, true, false, ◌&&◌, nat_le, List, [], ◌∷◌, ◌++◌, Option, Some, None, slice_get, slice_index_or, slice_set, length, refl, sym, ap, ◌∙◌, subst, subst₂, arith, length-append, if◌then◌else◌}
+use Rattle.std.proofs.Common.{◌≡◌, ◌≢◌, ◌⊎◌, inl, inr, ℕ, ◌+◌, ◌<◌, ◌≤◌, ◌^◌, true, List, [], ◌∷◌, ◌++◌, Option, Some, None, slice_get, slice_index_or, slice_set, length, refl, sym, ap, ◌∙◌, subst, subst₂, arith, length-append}
 use Rattle.std.proofs.lemmas.Bool.Decides.{eqb_tells, leb_tells}
 use Rattle.std.proofs.lemmas.List.{get_or-set_same, get_or-set_other, length-set}
 use Rattle.rs_model.specs.Data.{Machine_data}
@@ -15,11 +15,11 @@ use Rattle.rs_core.specs.declared.messages.Stepped.{Stepped}
 use Rattle.rs_core.specs.declared.messages.Stepped.TheVariants.{Sent, Got}
 use Rattle.rs_core.specs.Configurations.{Configuration, Receives, Sends, role_of, state_at}
 use Rattle.rs_core.specs.Core.{Core_data, HasStepped, configuration_of}
-use Rattle.rs_core.proofs.Stands.{here-is, within}
+use Rattle.rs_core.proofs.Stands.{here-is}
 use Rattle.rs_room.specs.Bounded.{BoundedStep, BoundedSteps, IsReachableWithin}
 use Rattle.rs_room.specs.Counts.{CanCount, counted, number_in, with_one_more}
 use Rattle.rs_room.specs.Looks.{full_by, full_ring, is_right, taking, taking_by}
-use Rattle.rs_room.specs.Rings.{Bounded_data, CountsReceive, CountsSend, CountsStep, HasSteppedWithin, IsRingSession, Rises, messages_sent, messages_taken}
+use Rattle.rs_room.specs.Rings.{Bounded_data, CountsReceive, CountsSend, CountsStep, HasSteppedWithin, IsRingSession, Rises}
 
 -- a table in which the number of one pair rises
 

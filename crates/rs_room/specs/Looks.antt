@@ -1,5 +1,5 @@
 -- Steps: what `Bounded` looks at before a step.
-use Rattle.std.specs.Prelude.{ℕ, Bool, true, false, nat_le, nat_lt, ◌&&◌, List, Option, Some, None, length, slice_get, if◌then◌else◌}
+use Rattle.std.specs.Prelude.{ℕ, Bool, false, nat_le, nat_lt, ◌&&◌, List, Option, Some, None, length, slice_get, if◌then◌else◌}
 use Rattle.rs_model.specs.Sorts.{fits}
 use Rattle.rs_model.specs.declared.graph.Arm.{Arm}
 use Rattle.rs_model.specs.declared.graph.Role.{Role}

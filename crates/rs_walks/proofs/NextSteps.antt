@@ -1,6 +1,6 @@
 -- What a role that can go on does next: it sends by its first arm, or it takes the oldest message, which one of its arms
 -- fits.
-use Rattle.std.proofs.Common.{◌≡◌, ◌≢◌, ℕ, suc, false, List, [], ◌∷◌, ◌++◌, Some, slice_get, refl, sym, ◌∙◌}
+use Rattle.std.proofs.Common.{◌≡◌, ◌≢◌, ℕ, suc, List, [], ◌∷◌, ◌++◌, Some, slice_get, refl, sym, ◌∙◌}
 use Rattle.rs_model.specs.Data.{Machine_data}
 use Rattle.rs_model.specs.Sorts.{HasSort}
 use Rattle.rs_model.specs.declared.graph.Arm.{Arm}

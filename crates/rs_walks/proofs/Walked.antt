@@ -1,9 +1,8 @@
 -- What is recorded of the roles of a session with derivations: the walk of each through its derivation, and where it
 -- stands in it.
-use Rattle.std.proofs.Common.{◌≡◌, ℕ, zero, suc, ◌+◌, ◌<◌, ◌≤◌, List, [], ◌∷◌, ◌++◌, Some, slice_get, length, sym, ap, ◌∙◌, arith}
+use Rattle.std.proofs.Common.{◌≡◌, ℕ, zero, suc, ◌+◌, ◌<◌, ◌≤◌, List, [], ◌∷◌, ◌++◌, Some, slice_get, length, sym, arith}
 use Rattle.std.proofs.lemmas.Option.{slice_get-get_or, none-some}
 use Rattle.rs_model.specs.Data.{Machine_data, Protocol_data}
-use Rattle.rs_core.specs.Choices.{AreWellFormed}
 use Rattle.rs_core.specs.Configurations.{Configuration, StartsAt, IsReachable}
 use Rattle.rs_core.proofs.Items.{Item}
 use Rattle.rs_core.proofs.Stands.{Known, Good, run-keeps, done_after, peered}

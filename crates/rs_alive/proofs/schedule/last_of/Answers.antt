@@ -1,4 +1,4 @@
-use Rattle.std.proofs.Common.{rules, ◌∙◌, sym}
+use Rattle.std.proofs.Common.{rules}
 use Rattle.rs_core.specs.Core.{configuration_of}
 use Rattle.rs_alive.proofs.Chains.{not-lost, seek-on}
 use Rattle.rs_alive.proofs.schedule.last_of.Goals as goal

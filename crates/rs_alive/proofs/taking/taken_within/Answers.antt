@@ -1,4 +1,4 @@
-use Rattle.std.proofs.Common.{rules, ◌≡◌, ◌∙◌, ◌+◌, ◌*◌, ◌-◌, ◌<◌, ◌≤◌, ℕ, Bool, true, false, List, length, arith, refl, subst, sym}
+use Rattle.std.proofs.Common.{rules, ◌∙◌, ◌+◌, ◌*◌, ◌-◌, ◌<◌, ◌≤◌, ℕ, true, false, List, length, arith, refl, subst, sym}
 use Rattle.rs_model.specs.Data.{Machine_data}
 use Rattle.rs_core.specs.declared.messages.Event.{Event}
 use Rattle.rs_core.specs.Core.{configuration_of}
@@ -12,11 +12,12 @@ use Rattle.rs_alive.proofs.taking.taken_within.Goals as goal
 
 pub loop-events-init : goal.loop-events-init
 loop-events-init c =
-    let P : List Event → Type 0 = λ z. Following c.args.accepted.now c.args.past.now c.args.sender c.args.receiver c.args.place (configuration_of c.in_ok-core.core) (configuration_of c.in_ok-core.core) c.args.place z in
-    (subst P (sym c.new-events.ensures.items)
-    (start c.args.accepted.now c.args.past.now c.args.sender c.args.receiver c.args.place (configuration_of c.in_ok-core.core) c.machines-machines.ensures.session c.in_ok-core.ensures.leads c.requires.sender c.requires.receiver c.requires.apart
-    (omega (arith, c.if-len-place.false, c.queue_len-len.ensures))),
-    c.in_ok-core.ensures.machines)
+    let P : List Event → Type 0 = λ z. Following c.args.accepted.now c.args.past.now c.args.sender c.args.receiver c.args.place (configuration_of c.in_ok-core.core) (configuration_of c.in_ok-core.core) c.args.place z in (
+      subst P (sym c.new-events.ensures.items)
+          (start c.args.accepted.now c.args.past.now c.args.sender c.args.receiver c.args.place (configuration_of c.in_ok-core.core) c.machines-machines.ensures.session c.in_ok-core.ensures.leads c.requires.sender c.requires.receiver c.requires.apart
+          (omega (arith, c.if-len-place.false, c.queue_len-len.ensures))),
+      c.in_ok-core.ensures.machines,
+    )
 
 pub advance-requires-clause-leads : goal.advance-requires-clause-leads
 advance-requires-clause-leads c =
@@ -54,9 +55,10 @@ pub loop-events-preserved-then-takes : goal.loop-events-preserved-then-takes
 loop-events-preserved-then-takes c =
     let M : List Machine_data → Type 0 = λ z. Advances z c.args.sender c.args.receiver (configuration_of c.loop-events.core) (configuration_of c.advance.new.core) c.in_ok-event.field-0.event c.in_ok-event.field-0.takes in
     let made = advances-as c.args.accepted.now.machines c.args.sender c.args.receiver (configuration_of c.loop-events.core) (configuration_of c.advance.new.core) c.in_ok-event.field-0.event c.in_ok-event.field-0.event c.in_ok-event.field-0.takes true (subst M c.loop-events.invariant.1 c.in_ok-event.ensures.advances) refl (cc (c.if-takes.true)) in
-    let T : List Event → Type 0 = λ z. Following c.args.accepted.now c.args.past.now c.args.sender c.args.receiver c.args.place (configuration_of c.in_ok-core.core) (configuration_of c.advance.new.core) (c.loop-events.before - 1) z in
-    (subst T (sym c.in_ok-push.ensures) (counts-down c.args.accepted.now c.args.past.now c.args.sender c.args.receiver c.args.place (configuration_of c.in_ok-core.core) (configuration_of c.loop-events.core) (configuration_of c.advance.new.core) c.loop-events.before c.loop-events.events.items c.in_ok-event.field-0.event c.machines-machines.ensures.session c.requires.receiver c.loop-events.invariant.0 made (search rules)),
-    c.advance.ensures.machines ∙ c.loop-events.invariant.1)
+    let T : List Event → Type 0 = λ z. Following c.args.accepted.now c.args.past.now c.args.sender c.args.receiver c.args.place (configuration_of c.in_ok-core.core) (configuration_of c.advance.new.core) (c.loop-events.before - 1) z in (
+      subst T (sym c.in_ok-push.ensures) (counts-down c.args.accepted.now c.args.past.now c.args.sender c.args.receiver c.args.place (configuration_of c.in_ok-core.core) (configuration_of c.loop-events.core) (configuration_of c.advance.new.core) c.loop-events.before c.loop-events.events.items c.in_ok-event.field-0.event c.machines-machines.ensures.session c.requires.receiver c.loop-events.invariant.0 made (search rules)),
+      c.advance.ensures.machines ∙ c.loop-events.invariant.1,
+    )
 
 pub loop-events-smaller : goal.loop-events-smaller
 loop-events-smaller c =
@@ -69,6 +71,7 @@ pub loop-events-preserved : goal.loop-events-preserved
 loop-events-preserved c =
     let M : List Machine_data → Type 0 = λ z. Advances z c.args.sender c.args.receiver (configuration_of c.loop-events.core) (configuration_of c.advance.new.core) c.in_ok-event.field-0.event c.in_ok-event.field-0.takes in
     let made = advances-as c.args.accepted.now.machines c.args.sender c.args.receiver (configuration_of c.loop-events.core) (configuration_of c.advance.new.core) c.in_ok-event.field-0.event c.in_ok-event.field-0.event c.in_ok-event.field-0.takes false (subst M c.loop-events.invariant.1 c.in_ok-event.ensures.advances) refl (cc (c.if-takes.false)) in
-    let T : List Event → Type 0 = λ z. Following c.args.accepted.now c.args.past.now c.args.sender c.args.receiver c.args.place (configuration_of c.in_ok-core.core) (configuration_of c.advance.new.core) c.loop-events.before z in
-    (subst T (sym c.in_ok-push.ensures) (goes-on c.args.accepted.now c.args.past.now c.args.sender c.args.receiver c.args.place (configuration_of c.in_ok-core.core) (configuration_of c.loop-events.core) (configuration_of c.advance.new.core) c.loop-events.before c.loop-events.events.items c.in_ok-event.field-0.event c.machines-machines.ensures.session c.requires.receiver c.loop-events.invariant.0 made),
-    c.advance.ensures.machines ∙ c.loop-events.invariant.1)
+    let T : List Event → Type 0 = λ z. Following c.args.accepted.now c.args.past.now c.args.sender c.args.receiver c.args.place (configuration_of c.in_ok-core.core) (configuration_of c.advance.new.core) c.loop-events.before z in (
+      subst T (sym c.in_ok-push.ensures) (goes-on c.args.accepted.now c.args.past.now c.args.sender c.args.receiver c.args.place (configuration_of c.in_ok-core.core) (configuration_of c.loop-events.core) (configuration_of c.advance.new.core) c.loop-events.before c.loop-events.events.items c.in_ok-event.field-0.event c.machines-machines.ensures.session c.requires.receiver c.loop-events.invariant.0 made),
+      c.advance.ensures.machines ∙ c.loop-events.invariant.1,
+    )

@@ -1,5 +1,5 @@
 use Rattle.std.proofs.Common.{rules}
-use Rattle.rs_room.proofs.Moving.{goes-on, least, none-moves, then-ended}
+use Rattle.rs_room.proofs.Moving.{least, none-moves, then-ended}
 use Rattle.rs_room.proofs.rings.Bounded.movable.Goals as goal
 
 pub returns-then-can_move-clause-least : goal.returns-then-can_move-clause-least

@@ -1,5 +1,4 @@
-use Rattle.std.proofs.Common.{rules, ◌+◌, ◌≡◌, ◌<◌, ◌^◌, ◌∙◌, List, None, Option, length, ap, subst, sym, ℕ}
-use Rattle.rs_model.specs.declared.graph.Role.{Role}
+use Rattle.std.proofs.Common.{rules, ◌+◌, ◌≡◌, ◌<◌, ◌^◌, ◌∙◌, List, None, length, ap, subst, sym, ℕ}
 use Rattle.rs_core.specs.Configurations.{role_of}
 use Rattle.rs_core.specs.Core.{configuration_of}
 use Rattle.rs_room.specs.Counts.{counted}
@@ -17,9 +16,10 @@ invariant_of-self c =
     let F : Bounded_data → Type 0 = λ z. z.steps < 2 ^ 63 in
     let N : Bounded_data → Type 0 = λ z. full_ring z c.args.event ≡ None in
     let T : List (List ℕ) → Type 0 = λ t. IsRingSession record { core = c.step.new.self; capacity = b.capacity; room = b.room; steps = b.steps + 1; taken = t } in
-    let bounded = is-bounded b c.args.event (configuration_of c.step.new.self) c.in-Ok.stepped (subst N (sym c.self.view_is) (search rules)) c.in-Ok.ensures.step in
-    (subst T (sym table) (stays-session b c.args.event c.step.new.self c.self.invariant.0 (subst F (sym c.self.view_is) c.requires.few) (subst R (sym c.self.view_is) c.requires.there) c.step.ensures.machines bounded.step),
-    c.self.invariant.1 ∙ sym c.step.ensures.machines)
+    let bounded = is-bounded b c.args.event (configuration_of c.step.new.self) c.in-Ok.stepped (subst N (sym c.self.view_is) (search rules)) c.in-Ok.ensures.step in (
+      subst T (sym table) (stays-session b c.args.event c.step.new.self c.self.invariant.0 (subst F (sym c.self.view_is) c.requires.few) (subst R (sym c.self.view_is) c.requires.there) c.step.ensures.machines bounded.step),
+      c.self.invariant.1 ∙ sym c.step.ensures.machines,
+    )
 
 pub returns-in-Ok-clause-step : goal.returns-in-Ok-clause-step
 returns-in-Ok-clause-step c =
