@@ -3,12 +3,14 @@
 ghost use Rattle.std.specs.Prelude.{◌≡◌, length, IfSome};
 ghost use Rattle.rs_safety.specs.Sessions.{AreOneEach, IsSession};
 ghost use Rattle.rs_tool.specs.Machines.{machines_of};
-ghost use Rattle.rs_tool.specs.Reading.{IsReady};
+ghost use Rattle.rs_documents.specs.Reading.{IsReady};
 
 use rs_derive::Derivation;
 use rs_model::Machine;
 use rs_project::Projection;
-use rs_tool::{Document, derivations_of, first_refusal, machines_of, projections_of};
+use rs_tool::{
+    DEFAULT_BOUND, Document, derivations_of, first_refusal, machines_of, projections_of,
+};
 use rs_wellformed::well_formed;
 use std::alloc::Global;
 
@@ -42,7 +44,12 @@ pub fn session_of(alloc: Global, document: &Document) -> Option<Session>
     if let Some(_refusal) = first_refusal(machines.as_slice(), protocol.roles) {
         return None;
     }
-    let Ok(derivations) = derivations_of(alloc, projections.as_slice(), machines.as_slice()) else {
+    let Ok(derivations) = derivations_of(
+        alloc,
+        projections.as_slice(),
+        machines.as_slice(),
+        DEFAULT_BOUND,
+    ) else {
         return None;
     };
     Some(Session {

@@ -3,7 +3,7 @@ use Rattle.rs_model.specs.Data.{Machine_data, Protocol_data}
 use Rattle.rs_project.specs.Data.{Projection_data}
 use Rattle.rs_project.specs.Numbered.{AreNumberedProjections}
 use Rattle.rs_safety.specs.Sessions.{AreOneEach, IsSession}
-use Rattle.rs_tool.specs.Data.{Document_data}
+use Rattle.rs_documents.specs.Data.{Document_data}
 use Rattle.rs_tool.specs.Machines.{machines_of}
 use Rattle.rs_tool.specs.Derivations.{AreCanonical}
 use Rattle.rs_tool.proofs.Derivings.{one_each, session_by}
