@@ -4,6 +4,8 @@ ghost use Rattle.std.specs.Prelude.{◌≡◌, ◌≤◌, length, IfErr, IfOk, �
 ghost use Rattle.rs_core.specs.Plain.{Ending, IsPlain};
 ghost use Rattle.rs_core.specs.Runs.{IsGiven, IsShown};
 ghost use Rattle.rs_exec.specs.Inline.{Tells};
+ghost use Rattle.rs_exec.specs.declared.inline.ExecFault.TheVariants as fault;
+ghost use Rattle.rs_safety.specs.Room.{room_of};
 
 use rs_core::{Actor, Run, RunFault, run_bounded};
 use rs_model::{Machine, NoMemory, Role};
@@ -41,6 +43,7 @@ impl From<NoMemory> for ExecFault {
 ///
 /// There is one actor for each role. The outcome, the transcripts and the actors are those of the plain run with this
 /// capacity. The errors are that no role moved in a round, as [`ExecFault::Full`] tells it, and that memory was refused.
+/// At a capacity of at least the room of the session memory is the one error.
 pub fn run_inline<A: Actor>(
     alloc: Global,
     accepted: &Accepted,
@@ -52,6 +55,7 @@ pub fn run_inline<A: Actor>(
     requires capacity { (1 ≤ capacity) × (capacity ≤ 1024) }
     ensures plain { IfOk result (λ r. (given : ℕ → A) → IsGiven given actors.items → (o : Ending A) × IsPlain accepted.now.machines A.behaviour given limit (Some capacity) o × IsShown (length accepted.now.machines) o r.outcome r.actors.items) }
     ensures full { IfErr result (λ e. (given : ℕ → A) → IsGiven given actors.items → Tells accepted.now.machines A.behaviour given limit capacity e) }
+    ensures enough { room_of accepted.now.derivations ≤ capacity → IfErr result (λ e. e ≡ fault.NoMemory) }
 {
     let machines = copies_of(alloc, accepted.machines())?;
     match run_bounded(alloc, machines, actors, capacity as usize, limit) {

@@ -19,6 +19,7 @@ mod tables;
 mod tests;
 
 pub use machines::read_machine;
+pub use marks::Mark;
 pub use printing::print_machine;
 pub use shapes::machine_text_shaped;
 pub use tables::print_table;

@@ -1,6 +1,8 @@
 //! A user of the library: it reads a document, has its session accepted, runs it on one thread, and tells of both.
 #![tactic(auto)]
 
+#[cfg(test)]
+mod demo_tests;
 mod runs;
 mod session;
 #[cfg(test)]

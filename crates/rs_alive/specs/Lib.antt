@@ -1,0 +1,4 @@
+pub mod Taken
+pub mod Pasts
+pub mod Replays
+pub mod Schedule

@@ -1,0 +1,79 @@
+-- Steps: who acts next so that a receiver comes to its message: the receiver itself where it can, or else the role for
+-- which it waits, or the role for which that one waits, and so on.
+use Rattle.std.specs.Prelude.{◌≡◌, ℕ, zero, suc, ◌<◌, Bool, false, nat_eq, nat_lt, ◌&&◌, List, [], ◌∷◌, Option, Some, None, length, if◌then◌else◌, pos}
+use Rattle.rs_model.specs.Data.{Machine_data}
+use Rattle.rs_model.specs.declared.graph.Role.{Role}
+use Rattle.rs_model.specs.declared.machines.State.{State}
+use Rattle.rs_model.specs.declared.machines.State.TheVariants.{Done, Puts, Takes}
+use Rattle.rs_model.specs.declared.values.Sort.{Sort}
+use Rattle.rs_model.specs.declared.values.Sort.TheVariants as sort
+use Rattle.rs_model.specs.declared.values.Value.{Value}
+use Rattle.rs_model.specs.declared.values.Value.TheVariants as value
+use Rattle.rs_core.specs.declared.messages.Event.{Event}
+use Rattle.rs_core.specs.declared.messages.Event.TheVariants.{Send, Receive}
+use Rattle.rs_core.specs.declared.messages.Message.{Message}
+use Rattle.rs_core.specs.Configurations.{Configuration, Step, state_at}
+use Rattle.rs_core.specs.Safety.{CanMove}
+
+-- the value that is sent: nothing, false, 0 or an empty list, by the sort
+abbrev pub plain_value : Sort → Value
+plain_value sort.Unit = value.Unit
+plain_value sort.Flag = value.Flag false
+plain_value sort.Natural = value.Natural 0
+plain_value sort.Whole = value.Whole (pos 0)
+plain_value sort.Octets = value.Octets []
+plain_value sort.Numbers = value.Numbers []
+
+-- for whom a role in that state waits: for the state's peer, where nothing of it is there
+abbrev pub waits_by : Option State → (ℕ → List Message) → Option Role
+waits_by None back = None
+waits_by (Some Done) back = None
+waits_by (Some (Puts peer arms)) back = None
+waits_by (Some (Takes peer arms)) back = if nat_lt 0 (length (back peer.0)) then None else Some peer
+
+abbrev pub waits_for : List Machine_data → Configuration → ℕ → Option Role
+waits_for machines c p = waits_by (state_at machines c p) (λ q. c.queue q p)
+
+-- so many waits lead from one role to another, which doesn't wait
+abbrev pub Chain : List Machine_data → Configuration → ℕ → ℕ → ℕ → Type 0
+Chain machines c zero p last = (waits_for machines c p ≡ None) × (p ≡ last)
+Chain machines c (suc many) p last = (peer : Role) × (waits_for machines c p ≡ Some peer) × Chain machines c many peer.0 last
+
+-- some waits lead from one role to another
+abbrev pub LeadsOn : List Machine_data → Configuration → ℕ → ℕ → Type 0
+LeadsOn machines c p last = (many : ℕ) × Chain machines c many p last
+
+-- .. which is one of the roles and can go on
+abbrev pub CanLeadOn : List Machine_data → Configuration → ℕ → Type 0
+CanLeadOn machines c p = (last : ℕ) × LeadsOn machines c p last × (last < length machines) × CanMove machines c last
+
+-- what a role in that state does: it sends by its first arm, or it receives
+abbrev pub act_by : Option State → Role → Option Event
+act_by None role = None
+act_by (Some Done) role = None
+act_by (Some (Puts peer [])) role = None
+act_by (Some (Puts peer (arm ∷ arms))) role = Some (Send role 0 (plain_value arm.sort))
+act_by (Some (Takes peer arms)) role = Some (Receive role)
+
+abbrev pub act_of : List Machine_data → Configuration → Role → Option Event
+act_of machines c role = act_by (state_at machines c role.0) role
+
+-- whether a receive in that state takes from the sender
+abbrev pub takes_by : Option State → Role → Bool
+takes_by None sender = false
+takes_by (Some Done) sender = false
+takes_by (Some (Puts peer arms)) sender = false
+takes_by (Some (Takes peer arms)) sender = nat_eq peer.0 sender.0
+
+-- whether the role's receive takes a message of the sender to the receiver
+abbrev pub takes_from : List Machine_data → Configuration → Role → Role → Role → Bool
+takes_from machines c role sender receiver = nat_eq role.0 receiver.0 && takes_by (state_at machines c role.0) sender
+
+-- the event leads from c to d, and is the act of the role to which the waits lead from the receiver; it is told whether it
+-- takes a message of the sender to the receiver
+pub record Advances (machines : List Machine_data) (sender receiver : Role) (c d : Configuration) (event : Event) (takes : Bool) : Type 0 where
+  pub role : Role
+  pub leads : LeadsOn machines c receiver.0 role.0
+  pub acts : act_of machines c role ≡ Some event
+  pub step : Step machines c event d
+  pub tells : takes ≡ takes_from machines c role sender receiver

@@ -1,0 +1,17 @@
+pub mod Pieces
+pub mod Digits
+pub mod Spelt
+pub mod Printed
+pub mod Playing
+pub mod Feeding
+pub mod Ran
+pub mod Ranges
+pub mod Canonical
+pub mod Trading
+pub mod Exchanged
+pub mod Butterflies
+pub mod Straight
+pub mod Rings
+pub mod Computing
+pub mod Projected
+pub mod Printable

@@ -1,0 +1,327 @@
+-- The texts of the ring and of the butterfly are the canonical ones.
+use Rattle.std.proofs.Common.{◌≡◌, ◌≢◌, ◌⊎◌, inl, inr, ℕ, zero, suc, ◌+◌, ◌-◌, ◌<◌, ◌≤◌, Bool, true, false, not, ◌&&◌, ◌||◌, ◌==◌, nat_lt, nat_le, if◌then◌else◌, List, [], ◌∷◌, ◌++◌, map, codes, Option, Some, None, slice_get, refl, sym, ap, ap₂, ◌∙◌, subst, arith, append_assoc, append-nil}
+use Rattle.std.specs.List.{flat_map, list_all, range_with_len}
+use Rattle.std.specs.Fmt.{decimal}
+use Rattle.std.proofs.lemmas.Bool.{and_parts, false≢true, leb-true, ltb-true}
+use Rattle.std.proofs.lemmas.Bool.Decides.{eqb_tells, leb_tells}
+use Rattle.std.proofs.lemmas.Fmt.{decimal_digit}
+use Rattle.rs_model.specs.Data.{Names_data, Protocol_data, Machine_data}
+use Rattle.rs_model.specs.declared.graph.Arm.{Arm}
+use Rattle.rs_model.specs.declared.graph.Node.{Node}
+use Rattle.rs_model.specs.declared.graph.Node.TheVariants.{Finished, Talk}
+use Rattle.rs_model.specs.declared.graph.Role.{Role}
+use Rattle.rs_model.specs.declared.machines.State.{State}
+use Rattle.rs_model.specs.declared.machines.State.TheVariants.{Done, Puts, Takes}
+use Rattle.rs_model.specs.declared.values.Sort.TheVariants as sort
+use Rattle.rs_global.specs.Canonical as protocol
+use Rattle.rs_global.specs.Texts as protocol_texts
+use Rattle.rs_global.specs.Trees as protocol_trees
+use Rattle.rs_machines.specs.Canonical as machine'
+use Rattle.rs_machines.specs.Canonical.{IsCanonicalMachineText}
+use Rattle.rs_machines.specs.Machines.{state_of}
+use Rattle.rs_machines.specs.Texts as machine_texts
+use Rattle.rs_machines.specs.Trees as machine_trees
+use Rattle.rs_machines.specs.declared.marks.Mark.{Mark}
+use Rattle.rs_machines.specs.declared.marks.Mark.TheVariants as mark
+use Rattle.rs_demos.specs.Numbers.{takes_numbers}
+use Rattle.rs_demos.specs.Sessions.{Exchange, role, arm, machine, role_name, numbers_from, nodes_from, states_from, protocol_of, has_session, demo_names, ring_exchanges, ring_pairs, ring_machine, butterfly_exchanges, butterfly_pairs, butterfly_machine, written}
+use Rattle.rs_documents.specs.Canonical.{AreCanonicalMachines}
+use Rattle.rs_demos.specs.Texts.{IsDemoText}
+use Rattle.rs_demos.specs.Writing.{exchange_text, exchanges_text, acts_text, pairs_text, other_name, roles_text, machine_line, front_text, ring_line, butterfly_line, ring_text, butterfly_text}
+use Rattle.rs_demos.specs.declared.kinds.Demo.{Demo}
+use Rattle.rs_demos.specs.declared.kinds.Demo.TheVariants as demo
+use Rattle.rs_demos.proofs.Exchanged.{in-range}
+use Rattle.rs_demos.proofs.Playing.{only-arm}
+use Rattle.rs_demos.proofs.Ranges.{mapped-at}
+
+-- texts
+
+abbrev body_of : List Exchange → protocol_trees.Body
+body_of [] = protocol_trees.ends
+body_of (x ∷ xs) = protocol_trees.talks (role_name x.0) (role_name x.1) (codes "v") (Some sort.Whole) (body_of xs)
+
+abbrev acts_of : List Exchange → machine_trees.Body
+acts_of [] = machine_trees.ends
+acts_of (x ∷ xs) =
+    machine_trees.acts (role_name x.0) mark.Puts (codes "v") (Some sort.Whole)
+    (machine_trees.acts (role_name x.1) mark.Takes (codes "v") (Some sort.Whole) (acts_of xs))
+
+shape : (s a r c b n f e : List ℕ) → b ++ n ≡ f ++ e → (s ++ (a ++ (r ++ (c ++ b)))) ++ n ≡ ((s ++ (a ++ (r ++ c))) ++ f) ++ e
+shape s a r c b n f e h = simp append_assoc (ap (λ (z : List ℕ). s ++ (a ++ (r ++ (c ++ z)))) h)
+
+body-text : (xs : List Exchange) → protocol_texts.body_text (body_of xs) ++ codes "\n" ≡ exchanges_text xs ++ codes "end\n"
+body-text [] = refl
+body-text (x ∷ xs) = shape (role_name x.0) (codes "->") (role_name x.1) (codes ":v(int). ") (protocol_texts.body_text (body_of xs)) (codes "\n") (exchanges_text xs) (codes "end\n") (body-text xs)
+
+acts-text : (xs : List Exchange) → machine_texts.body_text (acts_of xs) ++ codes "\n" ≡ pairs_text xs ++ codes "end\n"
+acts-text [] = refl
+acts-text (x ∷ xs) = shape (role_name x.0) (codes "!v(int). ") (role_name x.1) (codes "?v(int). ") (machine_texts.body_text (acts_of xs)) (codes "\n") (pairs_text xs) (codes "end\n") (acts-text xs)
+
+names-text : (k a : ℕ) → protocol_texts.names_text (map role_name (range_with_len a (suc k))) ≡ role_name a ++ flat_map other_name (range_with_len (a + 1) k)
+names-text zero a = sym (append-nil (role_name a))
+names-text (suc k) a =
+    ap (λ (z : List ℕ). role_name a ++ (codes ", " ++ z)) (names-text k (a + 1))
+    ∙ ap (λ (z : List ℕ). role_name a ++ z) (sym (append_assoc (codes ", ") (role_name (a + 1)) (flat_map other_name (range_with_len (a + 1 + 1) k))))
+
+-- names and roles
+
+abbrev names_for : ℕ → Names_data
+names_for n = record { roles = map role_name (numbers_from 0 n); labels = codes "v" ∷ [] }
+
+name-of : (n i : ℕ) → i < n → slice_get (map role_name (numbers_from 0 n)) i ≡ Some (role_name i)
+name-of n i h = let e : 0 + i ≡ i = omega arith in mapped-at role_name n 0 i h ∙ ap (λ (k : ℕ). Some (role_name k)) e
+
+abbrev is_within : ℕ → Exchange → Bool
+is_within n x = nat_lt x.0 n && nat_lt x.1 n
+
+abbrev are_within : ℕ → List Exchange → Bool
+are_within n xs = list_all (is_within n) xs
+
+-- the protocol
+
+nodes-next : (xs : List Exchange) (k i : ℕ) (s r : Role) (arms : List Arm) → slice_get (nodes_from k xs) i ≡ Some (Talk s r arms)
+    → arms ≡ arm 0 sort.Whole (suc (k + i)) ∷ []
+nodes-next [] k zero s r arms e = absurd (cc (e))
+nodes-next [] k (suc i) s r arms e = absurd (cc (e))
+nodes-next (x ∷ xs) k zero s r arms e =
+    let f : suc k ≡ suc (k + 0) = omega arith in
+    let h : arm 0 sort.Whole (suc k) ∷ [] ≡ arms = cc (e) in
+    sym h ∙ ap (λ (z : ℕ). arm 0 sort.Whole z ∷ []) f
+nodes-next (x ∷ xs) k (suc i) s r arms e =
+    let f : suc (suc k + i) ≡ suc (k + suc i) = omega arith in
+    nodes-next xs (suc k) i s r arms e ∙ ap (λ (z : ℕ). arm 0 sort.Whole z ∷ []) f
+
+free : (n : ℕ) (xs : List Exchange) (j : ℕ) → protocol.IsGoneBackTo (protocol_of n xs) j → ⊥
+free n xs j g =
+    let e = nodes-next xs 0 g.node g.sender g.receiver g.arms g.talks in
+    let there = ap (λ (z : List Arm). slice_get z g.place) (sym e) ∙ g.stands in
+    let a = only-arm (arm 0 sort.Whole (suc (0 + g.node))) g.arm g.place there in
+    let next : suc (0 + g.node) ≡ j = ap (λ (z : Arm). z.next) a ∙ g.leads in
+    let b = g.behind in
+    omega arith
+
+draws : (xs : List Exchange) (n : ℕ) (all : List Exchange) (from k : ℕ) → from ≤ k → are_within n xs ≡ true
+    → ((i : ℕ) → slice_get (nodes_from 0 all) (k + i) ≡ slice_get (nodes_from k xs) i)
+    → protocol.Draws (names_for n) (protocol_of n all) from k (body_of xs)
+draws [] n all from k le w at = let e : k ≡ k + 0 = omega arith in ap (λ (i : ℕ). slice_get (nodes_from 0 all) i) e ∙ at 0
+draws (x ∷ xs) n all from k le w at =
+    let p = and_parts (is_within n x) (are_within n xs) w in
+    let q = and_parts (nat_lt x.0 n) (nat_lt x.1 n) p.0 in
+    let e : k ≡ k + 0 = omega arith in
+    let here : slice_get (nodes_from 0 all) k ≡ Some (Talk (role x.0) (role x.1) (arm 0 sort.Whole (suc k) ∷ [])) = ap (λ (i : ℕ). slice_get (nodes_from 0 all) i) e ∙ at 0 in
+    let later : (i : ℕ) → slice_get (nodes_from 0 all) (suc k + i) ≡ slice_get (nodes_from (suc k) xs) i =
+    λ i. (let f : suc k + i ≡ k + suc i = omega arith in ap (λ (z : ℕ). slice_get (nodes_from 0 all) z) f ∙ at (suc i)) in (
+      le,
+      free n all k,
+      (
+        arm 0 sort.Whole (suc k),
+        record { sender = role x.0; receiver = role x.1; talks = here; sends = name-of n x.0 (ltb-true x.0 n q.0); receives = name-of n x.1 (ltb-true x.1 n q.1) },
+        (refl, refl),
+        draws xs n all (k + 1) (suc k) (omega arith) p.1 later,
+      ),
+    )
+
+-- a machine
+
+states-next : (xs : List Exchange) (s i : ℕ) (m : Mark) (peer : Role) (arms : List Arm) → slice_get (states_from s xs) i ≡ Some (state_of m peer arms)
+    → arms ≡ arm 0 sort.Whole (suc (s + i)) ∷ []
+states-next [] s zero mark.Puts peer arms e = absurd (cc (e))
+states-next [] s zero mark.Takes peer arms e = absurd (cc (e))
+states-next [] s (suc i) m peer arms e = absurd (cc (e))
+states-next (x ∷ xs) s zero mark.Puts peer arms e =
+    let f : suc s ≡ suc (s + 0) = omega arith in
+    let h : arm 0 sort.Whole (suc s) ∷ [] ≡ arms = cc (e) in
+    sym h ∙ ap (λ (z : ℕ). arm 0 sort.Whole z ∷ []) f
+states-next (x ∷ xs) s zero mark.Takes peer arms e = absurd (cc (e))
+states-next (x ∷ xs) s (suc zero) mark.Puts peer arms e = absurd (cc (e))
+states-next (x ∷ xs) s (suc zero) mark.Takes peer arms e =
+    let f : suc (suc s) ≡ suc (s + 1) = omega arith in
+    let h : arm 0 sort.Whole (suc (suc s)) ∷ [] ≡ arms = cc (e) in
+    sym h ∙ ap (λ (z : ℕ). arm 0 sort.Whole z ∷ []) f
+states-next (x ∷ xs) s (suc (suc i)) m peer arms e =
+    let f : suc (suc (suc s) + i) ≡ suc (s + suc (suc i)) = omega arith in
+    states-next xs (suc (suc s)) i m peer arms e ∙ ap (λ (z : ℕ). arm 0 sort.Whole z ∷ []) f
+
+machine-free : (p : ℕ) (xs : List Exchange) (j : ℕ) → machine'.IsGoneBackTo (machine p (states_from 0 xs)) j → ⊥
+machine-free p xs j g =
+    let e = states-next xs 0 g.state g.mark g.peer g.arms g.acts in
+    let there = ap (λ (z : List Arm). slice_get z g.place) (sym e) ∙ g.stands in
+    let a = only-arm (arm 0 sort.Whole (suc (0 + g.state))) g.arm g.place there in
+    let next : suc (0 + g.state) ≡ j = ap (λ (z : Arm). z.next) a ∙ g.leads in
+    let b = g.behind in
+    omega arith
+
+machine-draws : (xs : List Exchange) (n p : ℕ) (all : List Exchange) (from k : ℕ) → from ≤ k → are_within n xs ≡ true
+    → ((i : ℕ) → slice_get (states_from 0 all) (k + i) ≡ slice_get (states_from k xs) i)
+    → machine'.Draws (names_for n) (machine p (states_from 0 all)) from k (acts_of xs)
+machine-draws [] n p all from k le w at = let e : k ≡ k + 0 = omega arith in ap (λ (i : ℕ). slice_get (states_from 0 all) i) e ∙ at 0
+machine-draws (x ∷ xs) n p all from k le w at =
+    let c = and_parts (is_within n x) (are_within n xs) w in
+    let q = and_parts (nat_lt x.0 n) (nat_lt x.1 n) c.0 in
+    let e : k ≡ k + 0 = omega arith in
+    let f : suc k ≡ k + 1 = omega arith in
+    let here : slice_get (states_from 0 all) k ≡ Some (Puts (role x.0) (arm 0 sort.Whole (suc k) ∷ [])) = ap (λ (i : ℕ). slice_get (states_from 0 all) i) e ∙ at 0 in
+    let second : slice_get (states_from 0 all) (suc k) ≡ Some (Takes (role x.1) (arm 0 sort.Whole (suc (suc k)) ∷ [])) = ap (λ (i : ℕ). slice_get (states_from 0 all) i) f ∙ at 1 in
+    let later : (i : ℕ) → slice_get (states_from 0 all) (suc (suc k) + i) ≡ slice_get (states_from (suc (suc k)) xs) i =
+    λ i. (let g : suc (suc k) + i ≡ k + suc (suc i) = omega arith in ap (λ (z : ℕ). slice_get (states_from 0 all) z) g ∙ at (suc (suc i))) in (
+      le,
+      machine-free p all k,
+      (
+        arm 0 sort.Whole (suc k),
+        record { peer = role x.0; acts = here; named = name-of n x.0 (ltb-true x.0 n q.0) },
+        (refl, refl),
+        (
+          omega arith,
+          machine-free p all (suc k),
+          (
+            arm 0 sort.Whole (suc (suc k)),
+            record { peer = role x.1; acts = second; named = name-of n x.1 (ltb-true x.1 n q.1) },
+            (refl, refl),
+            machine-draws xs n p all (suc k + 1) (suc (suc k)) (omega arith) c.1 later,
+          ),
+        ),
+      ),
+    )
+
+line-is : (n p : ℕ) (xs : List Exchange) → p < n → are_within n xs ≡ true → IsCanonicalMachineText (names_for n) (machine p (states_from 0 xs)) (machine_line p xs)
+line-is n p xs lt w = record {
+  tree = record { role = role_name p; body = acts_of xs };
+  canonical = record {
+    role = name-of n p lt;
+    body = machine-draws xs n p xs 0 0 (omega arith) w (λ i. (let e : 0 + i ≡ i = omega arith in ap (λ (z : ℕ). slice_get (states_from 0 xs) z) e));
+  };
+  is = ap (λ (z : List ℕ). codes "machine " ++ (role_name p ++ (codes ": " ++ z))) (sym (acts-text xs));
+}
+
+-- the lines of all roles but the first
+
+lines : (kind : Demo) (n : ℕ) (pairs : ℕ → List Exchange) (k a : ℕ) → 0 < a → a + k ≤ n → ((i : ℕ) → i < n → are_within n (pairs i) ≡ true)
+    → ((m : Machine_data) → m.role.0 ≢ 0 → written kind m ≡ Some m)
+    → AreCanonicalMachines (names_for n) (map (written kind) (map (λ (i : ℕ). machine i (states_from 0 (pairs i))) (range_with_len a k))) (flat_map (λ (i : ℕ). machine_line i (pairs i)) (range_with_len a k))
+lines kind n pairs zero a low le w is = refl
+lines kind n pairs (suc k) a low le w is =
+    let m : Machine_data = machine a (states_from 0 (pairs a)) in
+    let later = lines kind n pairs k (a + 1) (omega arith) (omega arith) w is in
+    let P : Option Machine_data → Type 0 = λ o.
+        AreCanonicalMachines (names_for n) (o ∷ map (written kind) (map (λ (i : ℕ). machine i (states_from 0 (pairs i))) (range_with_len (a + 1) k)))
+        (machine_line a (pairs a) ++ flat_map (λ (i : ℕ). machine_line i (pairs i)) (range_with_len (a + 1) k)) in
+    subst P (sym (is (machine a (states_from 0 (pairs a))) (λ e. (let z : a ≡ 0 = e in omega arith))))
+    (machine_line a (pairs a), flat_map (λ (i : ℕ). machine_line i (pairs i)) (range_with_len (a + 1) k), line-is n a (pairs a) (omega arith) (w a (omega arith)), later, refl)
+
+-- the roles line and the protocol
+
+front-shape : (a r f n p e : List ℕ) → a ++ ((r ++ f) ++ (n ++ (p ++ e))) ≡ ((a ++ r) ++ (f ++ n)) ++ (p ++ e)
+front-shape a r f n p e = simp append_assoc
+
+front-is : (k : ℕ) (xs : List Exchange) → are_within (suc (suc k)) xs ≡ true
+    → protocol.IsCanonicalText (names_for (suc (suc k))) (protocol_of (suc (suc k)) xs) (front_text (suc (suc k)) xs)
+front-is k xs w = record {
+  tree = record { first = role_name 0; second = role_name 1; further = map role_name (range_with_len 2 k); body = body_of xs };
+  canonical = record {
+    roles = refl;
+    body = draws xs (suc (suc k)) xs 0 0 (omega arith) w (λ i. (let e : 0 + i ≡ i = omega arith in ap (λ (z : ℕ). slice_get (nodes_from 0 xs) z) e));
+  };
+  is =
+      let zero-name : role_name 0 ≡ codes "R0" = ap (λ (z : List ℕ). codes "R" ++ z) (decimal_digit 0 (omega arith)) in
+      let less : suc (suc k) - 1 ≡ suc k = omega arith in
+      let names : protocol_texts.names_text (map role_name (range_with_len 0 (suc (suc k)))) ≡ codes "R0" ++ flat_map other_name (range_with_len 1 (suc k)) =
+      names-text (suc k) 0 ∙ ap (λ (z : List ℕ). z ++ flat_map other_name (range_with_len 1 (suc k))) zero-name in
+      ap (λ (z : ℕ). (codes "roles R0" ++ (flat_map other_name (range_with_len 1 z) ++ codes "\n")) ++ (codes "protocol " ++ (exchanges_text xs ++ codes "end\n"))) less
+      ∙ sym (front-shape (codes "roles ") (codes "R0") (flat_map other_name (range_with_len 1 (suc k))) (codes "\n") (codes "protocol ") (exchanges_text xs ++ codes "end\n"))
+      ∙ ap₂ (λ (y z : List ℕ). codes "roles " ++ (y ++ (codes "\nprotocol " ++ z))) (sym names) (sym (body-text xs));
+}
+
+not-first : (m : Machine_data) → m.role.0 ≢ 0 → not (m.role.0 == 0) ≡ true
+not-first m ne = elim (eqb_tells m.role.0 0) [ inl t ↦ absurd (ne t.1) | inr t ↦ ap not t.0 ]
+
+-- two roles or more
+
+data AtLeastTwo (n : ℕ) : Type 0 where
+  Some' : (k : ℕ) → n ≡ suc (suc k) → AtLeastTwo n
+
+two-or-more : (n : ℕ) → 2 ≤ n → AtLeastTwo n
+two-or-more zero h = absurd (omega arith)
+two-or-more (suc zero) h = absurd (omega arith)
+two-or-more (suc (suc k)) h = Some' k refl
+
+-- the demo of so many roles, of which there are two at least
+abbrev tests : (ℕ → List Exchange) → (ℕ → ℕ → List Exchange) → ℕ → Bool
+tests exchanges pairs n = are_within n (exchanges n) && list_all (λ (i : ℕ). are_within n (pairs n i)) (range_with_len 0 n)
+
+pairs-within : (pairs : ℕ → ℕ → List Exchange) (n : ℕ) → list_all (λ (i : ℕ). are_within n (pairs n i)) (range_with_len 0 n) ≡ true
+    → (i : ℕ) → i < n → are_within n (pairs n i) ≡ true
+pairs-within pairs n h i lt =
+    let e : 0 + i ≡ i = omega arith in
+    let P : ℕ → Type 0 = λ z. are_within n (pairs n z) ≡ true in
+    subst P e (in-range (λ (i : ℕ). are_within n (pairs n i)) n 0 i h lt)
+
+less : (k : ℕ) → suc (suc k) - 1 ≡ suc k
+less k = omega arith
+
+ring-written : (m : Machine_data) → m.role.0 ≢ 0 → written demo.Ring m ≡ Some m
+ring-written m ne = ap (λ (b : Bool). if b then Some m else None) (not-first m ne)
+
+butterfly-written : (m : Machine_data) → m.role.0 ≢ 0 → written demo.Butterfly m ≡ Some m
+butterfly-written m ne = ap (λ (b : Bool). if b then Some m else None) (not-first m ne)
+
+ring-at : (k : ℕ) (text : List ℕ) → tests ring_exchanges ring_pairs (suc (suc k)) ≡ true → text ≡ ring_text (suc (suc k)) → IsDemoText demo.Ring (suc (suc k)) text
+ring-at k text t e =
+    let p = and_parts (are_within (suc (suc k)) (ring_exchanges (suc (suc k)))) (list_all (λ (i : ℕ). are_within (suc (suc k)) (ring_pairs (suc (suc k)) i)) (range_with_len 0 (suc (suc k)))) t in
+    record {
+      front = front_text (suc (suc k)) (ring_exchanges (suc (suc k)));
+      back = flat_map (ring_line (suc (suc k))) (range_with_len 1 (suc k));
+      protocol = front-is k (ring_exchanges (suc (suc k))) p.0;
+      machines = lines demo.Ring (suc (suc k)) (ring_pairs (suc (suc k))) (suc k) 1 (omega arith) (omega arith) (pairs-within ring_pairs (suc (suc k)) p.1) ring-written;
+      is = e ∙ ap (λ (z : ℕ). front_text (suc (suc k)) (ring_exchanges (suc (suc k))) ++ flat_map (ring_line (suc (suc k))) (range_with_len 1 z)) (less k);
+    }
+
+butterfly-at : (k : ℕ) (text : List ℕ) → tests butterfly_exchanges butterfly_pairs (suc (suc k)) ≡ true → text ≡ butterfly_text (suc (suc k))
+    → IsDemoText demo.Butterfly (suc (suc k)) text
+butterfly-at k text t e =
+    let p = and_parts (are_within (suc (suc k)) (butterfly_exchanges (suc (suc k)))) (list_all (λ (i : ℕ). are_within (suc (suc k)) (butterfly_pairs (suc (suc k)) i)) (range_with_len 0 (suc (suc k)))) t in
+    record {
+      front = front_text (suc (suc k)) (butterfly_exchanges (suc (suc k)));
+      back = flat_map (butterfly_line (suc (suc k))) (range_with_len 1 (suc k));
+      protocol = front-is k (butterfly_exchanges (suc (suc k))) p.0;
+      machines = lines demo.Butterfly (suc (suc k)) (butterfly_pairs (suc (suc k))) (suc k) 1 (omega arith) (omega arith) (pairs-within butterfly_pairs (suc (suc k)) p.1) butterfly-written;
+      is = e ∙ ap (λ (z : ℕ). front_text (suc (suc k)) (butterfly_exchanges (suc (suc k))) ++ flat_map (butterfly_line (suc (suc k))) (range_with_len 1 z)) (less k);
+    }
+
+ring-tests : list_all (tests ring_exchanges ring_pairs) (range_with_len 2 15) ≡ true
+ring-tests = refl
+
+pub ring_is : (n : ℕ) (text : List ℕ) → has_session demo.Ring n ≡ true → text ≡ ring_text n → IsDemoText demo.Ring n text
+ring_is n text h e =
+    let p = and_parts (nat_le 2 n) (nat_le n 16) h in
+    let low : 2 ≤ n = leb-true 2 n p.0 in
+    let high : n ≤ 16 = leb-true n 16 p.1 in
+    go (two-or-more n low) low high
+  where
+    go : AtLeastTwo n → 2 ≤ n → n ≤ 16 → IsDemoText demo.Ring n text
+    go (Some' k is) low high =
+        let t = in-range (tests ring_exchanges ring_pairs) 15 2 k ring-tests (omega (arith, is)) in
+        let f : 2 + k ≡ suc (suc k) = omega arith in
+        let P : ℕ → Type 0 = λ z. tests ring_exchanges ring_pairs z ≡ true in
+        let Q : ℕ → Type 0 = λ z. IsDemoText demo.Ring z text in
+        subst Q (sym is) (ring-at k text (subst P f t) (e ∙ ap ring_text is))
+
+either : (a b : Bool) → (a || b) ≡ true → (a ≡ true) ⊎ (b ≡ true)
+either true b h = inl refl
+either false b h = inr h
+
+eq-by : (x y : ℕ) → (x == y) ≡ true → x ≡ y
+eq-by x y h = elim (eqb_tells x y) [ inl t ↦ t.1 | inr t ↦ absurd (false≢true (sym t.0 ∙ h)) ]
+
+pub butterfly_is : (n : ℕ) (text : List ℕ) → has_session demo.Butterfly n ≡ true → text ≡ butterfly_text n → IsDemoText demo.Butterfly n text
+butterfly_is n text h e =
+    let Q : ℕ → Type 0 = λ z. IsDemoText demo.Butterfly z text in
+    elim (either ((n == 2) || (n == 4)) ((n == 8) || (n == 16)) h) [
+      | inl k ↦ elim (either (n == 2) (n == 4) k) [
+        | inl f ↦ subst Q (sym (eq-by n 2 f)) (butterfly-at 0 text refl (e ∙ ap butterfly_text (eq-by n 2 f)))
+        | inr f ↦ subst Q (sym (eq-by n 4 f)) (butterfly-at 2 text refl (e ∙ ap butterfly_text (eq-by n 4 f)))
+      ]
+      | inr k ↦ elim (either (n == 8) (n == 16) k) [
+        | inl f ↦ subst Q (sym (eq-by n 8 f)) (butterfly-at 6 text refl (e ∙ ap butterfly_text (eq-by n 8 f)))
+        | inr f ↦ subst Q (sym (eq-by n 16 f)) (butterfly-at 14 text refl (e ∙ ap butterfly_text (eq-by n 16 f)))
+      ]
+    ]

@@ -1,0 +1,117 @@
+-- Believed: what the actors of the demos choose, and what they become.
+use Rattle.std.specs.Prelude.{◌≡◌, ℕ, ◌/◌, ◌%◌, ℤ, pos, ◌+ℤ◌, ◌-ℤ◌, List, [], ◌∷◌, ◌++◌, take, drop, false, ◌==◌, if◌then◌else◌, Option, Some, None}
+use Rattle.rs_model.specs.Sorts.{serves}
+use Rattle.rs_model.specs.declared.graph.Arm.{Arm}
+use Rattle.rs_model.specs.declared.values.Sort.{Sort}
+use Rattle.rs_model.specs.declared.values.Sort.TheVariants as sort
+use Rattle.rs_model.specs.declared.values.Value.{Value}
+use Rattle.rs_model.specs.declared.values.Value.TheVariants as value
+use Rattle.rs_core.specs.Actors.{Choice, Behaviour}
+use Rattle.rs_demos.specs.Results.{inverted, wrapped}
+use Rattle.rs_demos.specs.declared.actors.DemoActor.{DemoActor}
+use Rattle.rs_demos.specs.declared.actors.DemoActor.TheVariants as actor
+use Rattle.rs_demos.specs.declared.parts.Kernel.{Kernel}
+use Rattle.rs_demos.specs.declared.parts.RingMember.{RingMember}
+use Rattle.rs_demos.specs.declared.parts.ButterflyMember.{ButterflyMember}
+
+-- the next piece of bytes that are left: the first 4,096, or all where there are fewer
+abbrev pub piece_of : List ℕ → List ℕ
+piece_of bytes = take 4096 bytes
+
+-- what stands behind it
+abbrev pub behind_piece : List ℕ → List ℕ
+behind_piece bytes = drop 4096 bytes
+
+-- the bytes, where there are some, else the unit
+abbrev pub octets_or_unit : Option (List ℕ) → Value
+octets_or_unit None = value.Unit
+octets_or_unit (Some bytes) = value.Octets bytes
+
+-- the next piece, where bytes are left
+abbrev pub next_piece : List ℕ → Option (List ℕ)
+next_piece [] = None
+next_piece (b ∷ bytes) = Some (piece_of (b ∷ bytes))
+
+-- what an actor would send: a source its next piece, or the unit where no bytes are left; a kernel the piece that it
+-- holds, or the unit where it holds none; a sink the unit; a member of a ring or of a butterfly the number that it holds
+abbrev pub wanted : DemoActor → Value
+wanted (actor.Source bytes) = octets_or_unit (next_piece bytes)
+wanted (actor.Kernel k) = octets_or_unit k.piece
+wanted (actor.Sink bytes) = value.Unit
+wanted (actor.RingMember m) = value.Whole m.last
+wanted (actor.ButterflyMember m) = value.Whole m.held
+
+-- the sort of a value
+abbrev pub sort_of : Value → Sort
+sort_of value.Unit = sort.Unit
+sort_of (value.Flag b) = sort.Flag
+sort_of (value.Natural n) = sort.Natural
+sort_of (value.Whole z) = sort.Whole
+sort_of (value.Octets bytes) = sort.Octets
+sort_of (value.Numbers zs) = sort.Numbers
+
+-- the first of the first two arms that has the sort: no state of a demo has more than two arms
+abbrev pub arm_place : Sort → List Arm → Option ℕ
+arm_place s [] = None
+arm_place s (a ∷ []) = if serves s a.sort then Some 0 else None
+arm_place s (a ∷ b ∷ others) = if serves s a.sort then Some 0 else (if serves s b.sort then Some 1 else None)
+
+-- a value of the sort that says nothing
+abbrev pub empty_value : Sort → Value
+empty_value sort.Unit = value.Unit
+empty_value sort.Flag = value.Flag false
+empty_value sort.Natural = value.Natural 0
+empty_value sort.Whole = value.Whole (pos 0)
+empty_value sort.Octets = value.Octets []
+empty_value sort.Numbers = value.Numbers []
+
+abbrev pub empty_for : List Arm → Value
+empty_for [] = value.Unit
+empty_for (a ∷ arms) = empty_value a.sort
+
+-- what it wants goes by that arm; where there is none, the first arm is taken, with an empty value
+abbrev pub chosen_at : DemoActor → List Arm → Option ℕ → Choice
+chosen_at x arms (Some place) = (place, wanted x)
+chosen_at x arms None = (0, empty_for arms)
+
+-- what an actor is when it has sent what it wanted
+abbrev pub after_sending : DemoActor → DemoActor
+after_sending (actor.Source bytes) = actor.Source (behind_piece bytes)
+after_sending (actor.Kernel k) = actor.Kernel (record { piece = None })
+after_sending x = x
+
+abbrev pub asked_at : DemoActor → Option ℕ → DemoActor
+asked_at x (Some place) = after_sending x
+asked_at x None = x
+
+abbrev pub arm_for : DemoActor → List Arm → Option ℕ
+arm_for x arms = arm_place (sort_of (wanted x)) arms
+
+-- a number comes to a member of a ring: it is the last one, and is added to the sum
+abbrev pub ring_told : RingMember → ℤ → RingMember
+ring_told m c = record { last = c; sum = wrapped (m.sum +ℤ c) }
+
+-- a number c comes to a member of a butterfly that holds a: where this round's bit of its role is clear, it then holds
+-- a + c, and c - a where the bit is set
+abbrev pub butterfly_sum : ButterflyMember → ℤ → ℤ
+butterfly_sum m c = if m.bits % 2 == 0 then wrapped (m.held +ℤ c) else wrapped (c -ℤ m.held)
+
+-- .. and the next bit is that of the next round
+abbrev pub butterfly_told : ButterflyMember → ℤ → ButterflyMember
+butterfly_told m c = record { bits = m.bits / 2; held = butterfly_sum m c }
+
+-- what an actor becomes when a value comes: a kernel holds the piece, each byte inverted; a sink joins the pieces
+abbrev pub told_of : DemoActor → Value → DemoActor
+told_of (actor.Kernel k) (value.Octets bytes) = actor.Kernel (record { piece = Some (inverted bytes) })
+told_of (actor.Sink bytes) (value.Octets piece) = actor.Sink (bytes ++ piece)
+told_of (actor.RingMember m) (value.Whole c) = actor.RingMember (ring_told m c)
+told_of (actor.ButterflyMember m) (value.Whole c) = actor.ButterflyMember (butterfly_told m c)
+told_of x v = x
+
+-- how the actors of the demos behave
+abbrev pub by_demo : Behaviour DemoActor
+by_demo = record {
+  chooses = λ x arms. chosen_at x arms (arm_for x arms);
+  asked = λ x arms. asked_at x (arm_for x arms);
+  told = λ x arms place v. told_of x v;
+}

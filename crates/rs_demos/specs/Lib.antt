@@ -1,0 +1,11 @@
+pub mod Numbers
+pub mod Results
+pub mod Acting
+pub mod Starts
+pub mod Choosing
+pub mod Reading
+pub mod Outputs
+pub mod Sessions
+pub mod Texts
+pub mod Writing
+pub mod Printing

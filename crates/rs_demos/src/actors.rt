@@ -1,0 +1,175 @@
+//! The actors of the demos.
+
+ghost use Rattle.std.specs.Prelude.{◌≡◌, ◌≢◌, ◌+ℤ◌, ◌-ℤ◌, [], IfOk, OnErr, OnOk};
+ghost use Rattle.rs_model.specs.Sorts.{serves, sort_number};
+ghost use Rattle.rs_demos.specs.Acting.{after_sending, butterfly_told, by_demo, empty_value, arm_place, ring_told, sort_of, told_of, wanted};
+ghost use Rattle.rs_demos.specs.Choosing.{chooses-well};
+ghost use Rattle.rs_demos.specs.Results.{inverted, wrapped};
+
+use crate::parts::{ButterflyMember, Kernel, RingMember, Sink, Source};
+use rs_core::Actor;
+use rs_model::{Arm, NoMemory, Numbers, Octets, Sort, Value};
+use std::alloc::Global;
+
+/// What chooses for a role of a demo.
+#[derive(Drop, Debug)]
+pub enum DemoActor {
+    Source(Source),
+    Kernel(Kernel),
+    Sink(Sink),
+    RingMember(RingMember),
+    ButterflyMember(ButterflyMember),
+}
+
+impl DemoActor {
+    /// The sort of what it would send.
+    fn wanted_sort(&self) -> Sort
+        ensures { result ≡ sort_of (wanted self.now) }
+    {
+        match self {
+            DemoActor::Source(source) if source.left().is_empty() => Sort::Unit,
+            DemoActor::Source(_) => Sort::Octets,
+            DemoActor::Kernel(kernel) => match kernel.piece {
+                Some(_) => Sort::Octets,
+                None => Sort::Unit,
+            },
+            DemoActor::Sink(_) => Sort::Unit,
+            DemoActor::RingMember(_) | DemoActor::ButterflyMember(_) => Sort::Whole,
+        }
+    }
+
+    /// What it would send, which it then has sent.
+    fn send(&mut self, alloc: Global) -> Result<Value, NoMemory>
+        ensures value { IfOk result (λ v. v ≡ wanted self.old) }
+        ensures becomes { OnOk result (self.new ≡ after_sending self.old) }
+        ensures err { OnErr result (self.new ≡ self.old) }
+    {
+        Ok(match self {
+            DemoActor::Source(source) if source.left().is_empty() => Value::Unit,
+            DemoActor::Source(source) => Value::Octets(source.send_piece(alloc)?),
+            DemoActor::Kernel(kernel) => match kernel.piece.take() {
+                Some(piece) => Value::Octets(piece),
+                None => Value::Unit,
+            },
+            DemoActor::Sink(_) => Value::Unit,
+            DemoActor::RingMember(member) => Value::Whole(member.last),
+            DemoActor::ButterflyMember(member) => Value::Whole(member.held),
+        })
+    }
+}
+
+/// The first of the first two arms that has the sort.
+fn arm_place(sort: Sort, arms: &[Arm]) -> Option<u16>
+    ensures { result ≡ arm_place sort arms.now }
+{
+    match arms {
+        [first, ..] if serves(sort, first.sort) => Some(0),
+        [_, second, ..] if serves(sort, second.sort) => Some(1),
+        _ => None,
+    }
+}
+
+fn serves(sort: Sort, wanted: Sort) -> bool
+    ensures { result ≡ serves sort wanted }
+{
+    sort == wanted
+}
+
+/// A value of the sort that says nothing.
+fn empty_value(alloc: Global, sort: Sort) -> Result<Value, NoMemory>
+    ensures { IfOk result (λ v. v ≡ empty_value sort) }
+{
+    Ok(match sort {
+        Sort::Unit => Value::Unit,
+        Sort::Flag => Value::Flag(false),
+        Sort::Natural => Value::Natural(0),
+        Sort::Whole => Value::Whole(0),
+        Sort::Octets => Value::Octets(Octets::of(alloc, &[])?),
+        Sort::Numbers => Value::Numbers(Numbers::of(alloc, &[])?),
+    })
+}
+
+/// The bytes, each one inverted.
+fn inverted(alloc: Global, bytes: &[u8]) -> Result<Octets, NoMemory>
+    ensures { IfOk result (λ o. o ≡ inverted bytes.now) }
+{
+    let bytes: Vec<u8> = bytes.iter().map(|byte| 255 - *byte).collect(alloc)?;
+    Octets::of(alloc, bytes.as_slice())
+}
+
+#[tactic(auto, using(std::proofs::lemmas::Int::wraps))]
+fn sum(a: i64, b: i64) -> i64
+    ensures { result ≡ wrapped (a +ℤ b) }
+{
+    a.wrapping_add(b)
+}
+
+#[tactic(auto, using(std::proofs::lemmas::Int::wraps))]
+fn difference(a: i64, b: i64) -> i64
+    ensures { result ≡ wrapped (a -ℤ b) }
+{
+    a.wrapping_sub(b)
+}
+
+impl RingMember {
+    /// What it is when the number has come.
+    fn told(self, number: i64) -> RingMember
+        ensures { result ≡ ring_told self number }
+    {
+        RingMember {
+            last: number,
+            sum: sum(self.sum, number),
+        }
+    }
+}
+
+impl ButterflyMember {
+    /// What it is when the number has come.
+    fn told(self, number: i64) -> ButterflyMember
+        ensures { result ≡ butterfly_told self number }
+    {
+        let held = if self.bits % 2 == 0 {
+            sum(self.held, number)
+        } else {
+            difference(number, self.held)
+        };
+        ButterflyMember {
+            bits: self.bits / 2,
+            held,
+        }
+    }
+}
+
+impl Actor for DemoActor {
+    ghost behaviour = { by_demo };
+
+    /// Sends what it wants by the arm that has its sort, else an empty value by the first arm.
+    fn choose(&mut self, alloc: Global, arms: &[Arm]) -> Result<(u16, Value), NoMemory> {
+        match arm_place(self.wanted_sort(), arms) {
+            Some(place) => Ok((place, self.send(alloc)?)),
+            None => Ok((0, empty_value(alloc, arms[0].sort)?)),
+        }
+    }
+
+    /// Keeps what comes, as its role does.
+    fn take(
+        &mut self,
+        alloc: Global,
+        _arms: &[Arm],
+        _arm: u16,
+        value: &Value,
+    ) -> Result<(), NoMemory> {
+        match (self, value) {
+            (DemoActor::Kernel(kernel), Value::Octets(bytes)) => {
+                kernel.piece = Some(inverted(alloc, bytes.as_slice())?);
+            }
+            (DemoActor::Sink(sink), Value::Octets(piece)) => sink.append(piece.as_slice())?,
+            (DemoActor::RingMember(member), Value::Whole(number)) => *member = member.told(*number),
+            (DemoActor::ButterflyMember(member), Value::Whole(number)) => *member = member.told(*number),
+            _ => {}
+        }
+        Ok(())
+    }
+
+    ghost chooses_well = { chooses-well };
+}

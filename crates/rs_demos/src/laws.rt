@@ -1,0 +1,39 @@
+//! Laws about the definitions: each function does nothing, and its contract is the law.
+
+ghost use Rattle.std.specs.Prelude.{◌≡◌, ℕ, ℤ, List, Option, Some, false, length, slice_get, true};
+ghost use Rattle.rs_model.specs.Data.{Machine_data};
+ghost use Rattle.rs_project.specs.Projection.{IsProjection};
+ghost use Rattle.rs_core.specs.Plain.{Ended, IsPlain, Moment};
+ghost use Rattle.rs_core.specs.Runs.{HasActors, IsGiven};
+ghost use Rattle.rs_documents.specs.Canonical.{CanBeShown};
+ghost use Rattle.rs_demos.specs.Acting.{by_demo};
+ghost use Rattle.rs_demos.specs.Numbers.{SpellsNumbers};
+ghost use Rattle.rs_demos.specs.Outputs.{output_of};
+ghost use Rattle.rs_demos.specs.Results.{Computes};
+ghost use Rattle.rs_demos.specs.Sessions.{demo_machines, demo_protocol, has_line, has_session};
+ghost use Rattle.rs_demos.specs.Starts.{StartsWithActors};
+ghost use Rattle.rs_demos.specs.Texts.{document_of};
+ghost use Rattle.rs_demos.specs.declared.actors.DemoActor.{DemoActor};
+ghost use Rattle.rs_demos.specs.declared.kinds.Demo.{Demo};
+
+/// Bytes spell one list of numbers at most.
+pub fn bytes_spell_one_list_of_numbers()
+    ensures { (xs ys : List ℤ) (bytes : List ℕ) → SpellsNumbers xs bytes → SpellsNumbers ys bytes → xs ≡ ys }
+{}
+
+/// Where the plain run of a demo's machines with the actors of the bytes has ended, over queues of any capacity or of
+/// none and with any limit, what is printed of the actors that it leaves is what the demo computes of the bytes.
+pub fn ended_runs_compute()
+    ensures { (kind : Demo) (bytes : List ℕ) (actors after : List DemoActor) (given : ℕ → DemoActor) (limit : ℕ) (capacity : Option ℕ) (end : Moment DemoActor) → StartsWithActors kind bytes actors → IsGiven given actors → IsPlain (demo_machines kind (length actors)) by_demo given limit capacity (Ended end) → HasActors (length actors) end.actor after → Computes kind bytes (output_of kind after) }
+{}
+
+/// The machines that have no line in a demo's text are the projections of its protocol.
+pub fn machines_without_a_line_are_projections()
+    ensures { (kind : Demo) (count role : ℕ) (machine : Machine_data) → has_session kind count ≡ true → slice_get (demo_machines kind count) role ≡ Some machine → has_line kind role ≡ false → (sets : List (List ℕ)) × IsProjection (demo_protocol kind count) (record { 0 = role }) (record { machine = machine; sets = sets }) }
+{}
+
+/// The document of a demo can be printed, so its texts are read again: its names are sound, and its protocol and its
+/// machines are read from some texts.
+pub fn documents_of_demos_can_be_printed()
+    ensures { (kind : Demo) (count : ℕ) → has_session kind count ≡ true → CanBeShown (document_of kind count) }
+{}

@@ -1,0 +1,21 @@
+//! The examples that run on real data: double buffering, a ring, a stream and the butterfly of the Walsh-Hadamard
+//! transform.
+#![tactic(auto)]
+
+mod actors;
+mod documents;
+mod kinds;
+pub mod laws;
+mod numbers;
+mod outputs;
+mod parts;
+mod starts;
+#[cfg(test)]
+mod tests;
+
+pub use actors::DemoActor;
+pub use documents::demo_document;
+pub use kinds::{Demo, DemoFault};
+pub use outputs::demo_output;
+pub use parts::{ButterflyMember, Kernel, PIECE_BYTES, RingMember, Sink, Source};
+pub use starts::demo_actors;

@@ -1,0 +1,103 @@
+//! The actors with which a demo starts.
+
+ghost use Rattle.std.specs.Prelude.{◌≡◌, ◌∷◌, [], map, IfErr, IfOk, None};
+ghost use Rattle.std.specs.List.{enumerate_from};
+ghost use Rattle.rs_demos.specs.Numbers.{AreAsked, takes_numbers};
+ghost use Rattle.rs_demos.specs.Reading.{AsksInVain};
+ghost use Rattle.rs_demos.specs.Starts.{Refuses, StartsWithActors, butterfly_member, ring_member};
+ghost use Rattle.rs_demos.specs.declared.actors.DemoActor.TheVariants as actor;
+
+use crate::actors::DemoActor;
+use crate::kinds::{Demo, DemoFault};
+use crate::numbers::numbers_of;
+use crate::parts::{ButterflyMember, Kernel, RingMember, Sink, Source};
+use rs_model::NoMemory;
+use std::alloc::Global;
+
+/// The actors of a demo, in role order: each starts with the input's part of its role, and with nothing else.
+///
+/// `BadNumbers` comes exactly where the demo asks for numbers and the bytes aren't those.
+pub fn demo_actors(alloc: Global, kind: Demo, bytes: &[u8]) -> Result<Vec<DemoActor>, DemoFault>
+    ensures ok { IfOk result (λ actors. StartsWithActors kind bytes.now actors.items) }
+    ensures err { IfErr result (λ e. Refuses kind bytes.now e) }
+{
+    match kind {
+        Demo::Double => Ok(double_actors(alloc, bytes)?),
+        Demo::Stream => Ok(stream_actors(alloc, bytes)?),
+        Demo::Ring => {
+            let numbers = asked_numbers(alloc, kind, bytes)?;
+            Ok(ring_actors(alloc, numbers.as_slice())?)
+        }
+        Demo::Butterfly => {
+            let numbers = asked_numbers(alloc, kind, bytes)?;
+            Ok(butterfly_actors(alloc, numbers.as_slice())?)
+        }
+    }
+}
+
+fn takes_numbers(kind: Demo, count: usize) -> bool
+    ensures { result ≡ takes_numbers kind count }
+{
+    match kind {
+        Demo::Ring => 2 <= count && count <= 16,
+        Demo::Butterfly => count == 2 || count == 4 || (count == 8 || count == 16),
+        Demo::Double | Demo::Stream => false,
+    }
+}
+
+/// The numbers of the bytes, where they are those that the demo asks for.
+#[tactic(auto, using(crate::proofs::Spelt::asks_none))]
+fn asked_numbers(alloc: Global, kind: Demo, bytes: &[u8]) -> Result<Vec<i64>, DemoFault>
+    ensures ok { IfOk result (λ numbers. AreAsked kind bytes.now numbers.items) }
+    ensures err { IfErr result (λ e. AsksInVain kind bytes.now e) }
+{
+    let numbers = numbers_of(alloc, bytes)?;
+    if takes_numbers(kind, numbers.len()) {
+        Ok(numbers)
+    } else {
+        Err(DemoFault::BadNumbers)
+    }
+}
+
+fn double_actors(alloc: Global, bytes: &[u8]) -> Result<Vec<DemoActor>, NoMemory>
+    ensures { IfOk result (λ actors. actors.items ≡ actor.Kernel (record { piece = None }) ∷ actor.Source bytes.now ∷ actor.Sink [] ∷ []) }
+{
+    let mut actors = Vec::new(alloc);
+    actors.push(DemoActor::Kernel(Kernel { piece: None }))?;
+    actors.push(DemoActor::Source(Source::new(alloc, bytes)?))?;
+    actors.push(DemoActor::Sink(Sink::new(alloc)))?;
+    Ok(actors)
+}
+
+fn stream_actors(alloc: Global, bytes: &[u8]) -> Result<Vec<DemoActor>, NoMemory>
+    ensures { IfOk result (λ actors. actors.items ≡ actor.Source bytes.now ∷ actor.Sink [] ∷ []) }
+{
+    let mut actors = Vec::new(alloc);
+    actors.push(DemoActor::Source(Source::new(alloc, bytes)?))?;
+    actors.push(DemoActor::Sink(Sink::new(alloc)))?;
+    Ok(actors)
+}
+
+fn ring_actors(alloc: Global, numbers: &[i64]) -> Result<Vec<DemoActor>, NoMemory>
+    ensures { IfOk result (λ actors. actors.items ≡ map ring_member numbers.now) }
+{
+    let member = |number: &i64| {
+        DemoActor::RingMember(RingMember {
+            last: *number,
+            sum: *number,
+        })
+    };
+    Ok(numbers.iter().map(member).collect(alloc)?)
+}
+
+fn butterfly_actors(alloc: Global, numbers: &[i64]) -> Result<Vec<DemoActor>, NoMemory>
+    ensures { IfOk result (λ actors. actors.items ≡ map butterfly_member (enumerate_from 0 numbers.now)) }
+{
+    let member = |(role, number): (usize, &i64)| {
+        DemoActor::ButterflyMember(ButterflyMember {
+            bits: role,
+            held: *number,
+        })
+    };
+    Ok(numbers.iter().enumerate().map(member).collect(alloc)?)
+}

@@ -1,0 +1,22 @@
+-- Steps: numbers, one for each ordered pair of roles, as rows of a table.
+use Rattle.std.specs.Prelude.{ℕ, ◌+◌, ◌<◌, ◌^◌, length, List, [], Option, Some, None, slice_index_or, slice_set}
+use Rattle.rs_model.specs.declared.graph.Role.{Role}
+
+-- the number for the pair
+abbrev pub number_in : List (List ℕ) → ℕ → ℕ → ℕ
+number_in rows p q = slice_index_or (slice_index_or rows p []) q 0
+
+-- the table, with one more for the pair
+abbrev pub with_one_more : List (List ℕ) → ℕ → ℕ → List (List ℕ)
+with_one_more rows p q = slice_set rows p (slice_set (slice_index_or rows p []) q (number_in rows p q + 1))
+
+-- .. for the pair that is given, if one is
+abbrev pub counted : List (List ℕ) → Option (Role × Role) → List (List ℕ)
+counted rows None = rows
+counted rows (Some pair) = with_one_more rows pair.0.0 pair.1.0
+
+-- there is such a pair in the table, and its number isn't at its last value
+abbrev pub CanCount : List (List ℕ) → Option (Role × Role) → Type 0
+CanCount rows None = Unit {0}
+CanCount rows (Some pair) =
+    (pair.0.0 < length rows) × (pair.1.0 < length (slice_index_or rows pair.0.0 [])) × (number_in rows pair.0.0 pair.1.0 < 2 ^ 63)
