@@ -92,7 +92,7 @@ module _ {A : Type 0} (b : Behaviour A) where
       subst P (sym n.0) record { reached' = reached b ms actors limit l s; none = λ r hr. n.1 r (omega arith) (omega arith); role = p; there = there; goes = goes }
   blocked-end ms actors limit capacity _ _ s (GoesOn l m o ts rest) = blocked-end ms actors limit capacity m o (sound-round b ms actors limit (Some capacity) (length ms) l m true s ts) rest
 
-  never-stuck : (a : Accepted_data) (actors : ℕ → A) (limit capacity : ℕ) (k : Moment A) → IsAcceptedSession a → room_of a.derivations ≤ capacity → IsPlain a.machines b actors limit (Some capacity) (Stuck k) → ⊥
+  pub never-stuck : (a : Accepted_data) (actors : ℕ → A) (limit capacity : ℕ) (k : Moment A) → IsAcceptedSession a → room_of a.derivations ≤ capacity → IsPlain a.machines b actors limit (Some capacity) (Stuck k) → ⊥
   unfolding IsBlocked
   never-stuck a actors limit capacity k s room is =
       let stuck = blocked-end a.machines actors limit capacity is.first (Stuck k) (sound-start b a.machines actors limit is.first is.starts) is.run in

@@ -49,10 +49,10 @@ use Rattle.rs_words.specs.declared.tasks.Task.{Task}
 use Rattle.rs_words.specs.declared.tasks.Task.TheVariants as task
 
 -- an answer that isn't that of a session which was accepted
-abbrev IsNoRun : Answer_data → Type 0
+abbrev pub IsNoRun : Answer_data → Type 0
 IsNoRun a = IsOfRun (status_of a.verdict) → ⊥
 
-no-run : (a b : Answer_data) → a ≡ b → IsNoRun b → IsNoRun a
+pub no-run : (a b : Answer_data) → a ≡ b → IsNoRun b → IsNoRun a
 no-run a b e h = subst IsNoRun (sym e) h
 
 fault-is-no-run : (bytes : List ℕ) (k : TextKind) (at : ℕ) → IsNoRun (fault_answer bytes k at)
@@ -89,7 +89,7 @@ search-is-no-run names role (search.Forgets n) e = e
 search-is-no-run names role search.TooLarge e = e
 search-is-no-run names role search.NoMemory e = e
 
-refusal-is-no-run : (names : Names_data) (r : Refusal) → IsNoRun (refusal_answer names r)
+pub refusal-is-no-run : (names : Names_data) (r : Refusal) → IsNoRun (refusal_answer names r)
 refusal-is-no-run names (refusal.IllFormed f) e = wf-is-no-run names f e
 refusal-is-no-run names (refusal.Unprojectable f) e = proj-is-no-run names f e
 refusal-is-no-run names (refusal.IllMachine role f) e = e

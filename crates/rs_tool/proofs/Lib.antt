@@ -4,6 +4,7 @@ pub mod Answering
 pub mod Outcomes
 pub mod Headline
 pub mod Unique
+pub mod EnoughRoom
 pub mod Complete
 pub mod SomeAnswer
 pub mod OneSession

@@ -210,7 +210,7 @@ few_machines (x ∷ xs) [] = omega arith
 few_machines (x ∷ xs) (j ∷ js) = let few = few_machines xs js in omega (arith, few)
 
 -- of a session there is one list of derivations, or one reason why there is none
-one_session_derived : (bound : ℕ) (d : Document_data) (ps qs : List Projection_data) (ms ns : List Machine_data) (ds es : List Derivation_data) → HasMachines d ps ms → HasMachines d qs ns → AreCanonical bound ms ps ds → AreCanonical bound ns qs es → ds ≡ es
+pub one_session_derived : (bound : ℕ) (d : Document_data) (ps qs : List Projection_data) (ms ns : List Machine_data) (ds es : List Derivation_data) → HasMachines d ps ms → HasMachines d qs ns → AreCanonical bound ms ps ds → AreCanonical bound ns qs es → ds ≡ es
 one_session_derived bound d ps qs ms ns ds es h k f g =
     let same = same_session d ps qs ms ns h k in
     let P : List Projection_data → Type 0 = λ z. AreCanonical bound ms z ds in

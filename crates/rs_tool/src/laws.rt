@@ -1,10 +1,21 @@
 //! Laws about the definitions: each function does nothing, and its contract is the law.
 
-ghost use Rattle.std.specs.Prelude.{◌≡◌, ℕ, List, length};
+ghost use Rattle.std.specs.Prelude.{◌≡◌, ◌≤◌, ℕ, List, length};
+ghost use Rattle.rs_derive.specs.Data.{Derivation_data};
+ghost use Rattle.rs_documents.specs.Data.{Document_data};
+ghost use Rattle.rs_documents.specs.Documents.{SpellsDocument};
+ghost use Rattle.rs_model.specs.Data.{Machine_data};
+ghost use Rattle.rs_project.specs.Data.{Projection_data};
+ghost use Rattle.rs_safety.specs.Room.{room_of};
 ghost use Rattle.rs_tool.specs.Answers.{Answers};
 ghost use Rattle.rs_tool.specs.Data.{Answer_data};
 ghost use Rattle.rs_tool.specs.Headline.{SpellsSafeMachines};
+ghost use Rattle.rs_tool.specs.Derivations.{AreCanonical, IsBound};
 ghost use Rattle.rs_tool.specs.Machines.{machines_of};
+ghost use Rattle.rs_tool.specs.Runs.{Runs, capacity_of};
+ghost use Rattle.rs_tool.specs.Sessions.{HasMachines};
+ghost use Rattle.rs_tool.specs.declared.runs.RunOptions.{RunOptions};
+ghost use Rattle.rs_tool.specs.declared.statuses.Verdict.TheVariants.{Full};
 
 /// There is an answer to all words and bytes.
 pub fn all_have_an_answer()
@@ -24,4 +35,11 @@ pub fn headline_means_one_session()
 /// The headline speaks of one machine a role.
 pub fn headline_has_a_machine_a_role()
     ensures { (bytes : List ℕ) (h : SpellsSafeMachines bytes) → length (machines_of h.document.machines h.projections) ≡ h.document.protocol.roles }
+{}
+
+/// A run whose queues hold as many messages as the room of the session says is never full.
+pub fn runs_with_enough_room_are_never_full()
+    ensures { (options : RunOptions) (bytes : List ℕ) (document : Document_data) (projections : List Projection_data) (machines : List Machine_data) (derivations : List Derivation_data) (answer : Answer_data)
+        → IsBound options.bound → SpellsDocument bytes document → HasMachines document projections machines → AreCanonical options.bound machines projections derivations
+        → room_of derivations ≤ capacity_of options.ring (room_of derivations) → Runs options document answer → answer.verdict ≡ Full → ⊥ }
 {}
