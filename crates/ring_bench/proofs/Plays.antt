@@ -1,22 +1,24 @@
 -- What an act makes of a player, and what cuts and joins make of passes.
-use Rattle.std.proofs.Common.{◌≡◌, ◌≢◌, ℕ, zero, suc, ◌+◌, ◌<◌, List, [], ◌∷◌, ◌++◌, length, Option, Some, Result, Ok, Err, IfOk, slice_get, Bool, true, false, if◌then◌else◌, eq-eqb, ⊎_elim, refl, sym, ap, ◌∙◌, subst, arith, length-append}
+use Rattle.std.proofs.Common.{◌≡◌, ◌≢◌, ℕ, zero, suc, ◌+◌, ◌<◌, List, [], ◌∷◌, ◌++◌, length, Option, Some, None, IfSome, IfNone, Result, Ok, Err, IfOk, slice_get, Bool, true, false, if◌then◌else◌, eq-eqb, ⊎_elim, refl, sym, ap, ◌∙◌, subst, arith, length-append}
 use Rattle.rs_model.specs.Data.{Machine_data}
 use Rattle.rs_model.specs.declared.memory.NoMemory.{NoMemory}
 use Rattle.rs_model.specs.declared.graph.Arm.{Arm}
 use Rattle.rs_model.specs.declared.graph.Role.{Role}
-use Rattle.rs_model.specs.declared.machines.State.TheVariants.{Takes}
+use Rattle.rs_model.specs.declared.machines.State.TheVariants.{Done, Takes}
 use Rattle.rs_core.specs.Choices.{AreWellFormed}
+use Rattle.rs_core.specs.Configurations.{state_of}
 use Rattle.rs_core.specs.Histories.{Action, History}
 use Rattle.rs_slots.specs.declared.parcels.Parcel.{Parcel}
-use Rattle.rs_rings.specs.Acts.{numbered, sent_act, got_act, MayPut, MayTake}
+use Rattle.rs_rings.specs.Acts.{sent_act, got_act, MayPut, MayTake}
 use Rattle.rs_rings.specs.Passes.{Rings_data, Pass_data, IsChanged, IsPut, IsFull, IsTaken, IsEmpty, CanTake}
-use Rattle.rs_rings.specs.Views.{SpeaksFor, speaks, the_part, part_of, state_in, history_in, looked_head, looked_tail, gaining, sending, taking, getting, left_by, alone, joined, starting, first_part, start_of}
+use Rattle.rs_rings.specs.Views.{SpeaksFor, speaks, the_part, part_of, state_in, history_in, looked_head, looked_tail, gaining, sending, taking, getting, left_by, alone, joined, starting, start_of}
 use Rattle.rs_rings.specs.declared.views.Part.{Part}
 use Rattle.rs_rings.specs.declared.views.View.{View}
 use Rattle.rs_rings.proofs.Arms.{put_once}
 use Rattle.rs_rings.proofs.Parts.{the_role}
 use Rattle.rs_rings.proofs.Seats.{bool_cases, speaks_gone, speaks_without, the_without, speaks_left, speaks_right, the_left, the_right, first_speaks, first_part_is}
 use Rattle.ring_bench.specs.Players.{Stands, TakesOne}
+use Rattle.ring_bench.specs.Sessions.{machines_of_swap}
 
 one_more : (h : History) (a : Action) → length (h ++ a ∷ []) ≡ length h + 1
 one_more h a = length-append h (a ∷ [])
@@ -84,6 +86,10 @@ pub begun_ok : (result : Result (Rings_data × Pass_data) NoMemory) (machines : 
 begun_ok (Ok t) machines table view = begun t.0 t.1 machines table view
 begun_ok (Err e) machines table view = tt
 
+pub stand_first : (ms machines : List Machine_data) (rings : Rings_data) (pass : Pass_data) → ms ≡ machines → ((r : ℕ) → r < length ms → Stands rings pass r (start_of (slice_get ms r)) 0)
+    → (r : ℕ) → r < length machines → Stands rings pass r (start_of (slice_get machines r)) 0
+stand_first ms machines rings pass same stand = subst (λ (z : List Machine_data). (r : ℕ) → r < length z → Stands rings pass r (start_of (slice_get z r)) 0) same stand
+
 -- a cut
 pub cut_own : (rings : Rings_data) (pass own : Pass_data) (r s n : ℕ) → own.table ≡ pass.table → own.view ≡ alone r pass.view → Stands rings pass r s n → Stands rings own r s n
 cut_own rings pass own r s n table view at =
@@ -143,3 +149,22 @@ pub all_of_two : (roles : ℕ) (view : View) → roles ≡ 2 → SpeaksFor view 
 all_of_two roles view two a b zero l = a
 all_of_two roles view two a b (suc zero) l = b
 all_of_two roles view two a b (suc (suc r)) l = absurd (omega arith)
+
+-- .. and of three
+pub all_of_three : (roles : ℕ) (view : View) → roles ≡ 3 → SpeaksFor view 0 → SpeaksFor view 1 → SpeaksFor view 2 → (r : ℕ) → r < roles → SpeaksFor view r
+all_of_three roles view three a b c zero l = a
+all_of_three roles view three a b c (suc zero) l = b
+all_of_three roles view three a b c (suc (suc zero)) l = c
+all_of_three roles view three a b c (suc (suc (suc r))) l = absurd (omega arith)
+
+-- both have ended
+pub both_done : (rings : Rings_data) (pass : Pass_data) (n m : ℕ) → rings.roles ≡ 2 → rings.machines ≡ machines_of_swap → Stands rings pass 0 2 n → Stands rings pass 1 2 m
+    → (r : ℕ) → r < rings.roles → state_of (slice_get rings.machines r) (state_in pass.view r) ≡ Some Done
+both_done rings pass n m two ms a b zero l = ap (λ (z : List Machine_data × ℕ). state_of (slice_get z.0 0) z.1) (λ i. (ms i, a.at i))
+both_done rings pass n m two ms a b (suc zero) l = ap (λ (z : List Machine_data × ℕ). state_of (slice_get z.0 1) z.1) (λ i. (ms i, b.at i))
+both_done rings pass n m two ms a b (suc (suc r)) l = absurd (omega arith)
+
+-- a send that leads from the start state to the start state leaves it, whether it went or not
+pub stays_at : (result : Option Parcel) (s old n m : ℕ) (x : Parcel) → old ≡ 0 → IfNone result ((s ≡ 0) × (n ≡ m + 1)) → IfSome result (λ back. (back ≡ x) × (s ≡ old) × (n ≡ m)) → s ≡ 0
+stays_at None s old n m x is went full = went.0
+stays_at (Some back) s old n m x is went full = full.1 ∙ is

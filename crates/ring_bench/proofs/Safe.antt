@@ -1,13 +1,10 @@
 -- The sessions are safe, by computation.
-use Rattle.std.proofs.Common.{◌≡◌, List, None, length, refl}
-use Rattle.rs_model.specs.Data.{Machine_data, Protocol_data}
+use Rattle.std.proofs.Common.{◌≡◌, None, refl}
 use Rattle.rs_model.specs.Faults as of_machines
 use Rattle.rs_core.specs.Choices.{AreWellFormed}
 use Rattle.rs_core.specs.Safety.{IsSafe}
 use Rattle.rs_wellformed.specs.Faults as of_protocols
-use Rattle.rs_wellformed.specs.WellFormed.{IsWellFormed}
 use Rattle.rs_wellformed.proofs.Faults as well_formed_protocols
-use Rattle.rs_project.specs.Projection.{AreProjections}
 use Rattle.rs_derive.specs.Faults as of_derivations
 use Rattle.rs_safety.specs.Sessions.{AreDerivations}
 use Rattle.rs_safety.proofs.Computed.{projections-are}
@@ -32,21 +29,21 @@ passes-swap : of_protocols.first_fault swap ≡ None
 unfolding of_protocols.first_fault
 passes-swap = refl
 
-pub stream-fits : AreWellFormed machines_of_stream
+pub is_stream_fits : AreWellFormed machines_of_stream
 unfolding of_machines.first_fault
-stream-fits = machines-are machines_of_stream (refl, refl, (refl, refl, tt))
+is_stream_fits = machines-are machines_of_stream (refl, refl, (refl, refl, tt))
 
-pub relay-fits : AreWellFormed machines_of_relay
+pub is_relay_fits : AreWellFormed machines_of_relay
 unfolding of_machines.first_fault
-relay-fits = machines-are machines_of_relay (refl, refl, (refl, refl, (refl, refl, tt)))
+is_relay_fits = machines-are machines_of_relay (refl, refl, (refl, refl, (refl, refl, tt)))
 
-pub rounds-fit : AreWellFormed machines_of_rounds
+pub is_rounds_fit : AreWellFormed machines_of_rounds
 unfolding of_machines.first_fault
-rounds-fit = machines-are machines_of_rounds (refl, refl, (refl, refl, tt))
+is_rounds_fit = machines-are machines_of_rounds (refl, refl, (refl, refl, tt))
 
-pub swap-fits : AreWellFormed machines_of_swap
+pub is_swap_fits : AreWellFormed machines_of_swap
 unfolding of_machines.first_fault
-swap-fits = machines-are machines_of_swap (refl, refl, (refl, refl, tt))
+is_swap_fits = machines-are machines_of_swap (refl, refl, (refl, refl, tt))
 
 derive-rounds : AreDerivations machines_of_rounds projections_of_rounds derivations_of_rounds
 unfolding of_derivations.first_fault
@@ -56,16 +53,16 @@ derive-swap : AreDerivations machines_of_swap projections_of_swap derivations_of
 unfolding of_derivations.first_fault
 derive-swap = derivations-are machines_of_swap projections_of_swap derivations_of_swap (refl, (refl, tt))
 
-pub stream-safe : IsSafe machines_of_stream
-stream-safe = equal-safe stream projections_of_stream machines_of_stream (well_formed_protocols.no_fault stream passes-stream) (projections-are stream 4 projections_of_stream refl refl) refl
+pub is_stream_safe : IsSafe machines_of_stream
+is_stream_safe = equal-safe stream projections_of_stream machines_of_stream (well_formed_protocols.no_fault stream passes-stream) (projections-are stream 4 projections_of_stream refl refl) refl
 
-pub relay-safe : IsSafe machines_of_relay
-relay-safe = equal-safe relay projections_of_relay machines_of_relay (well_formed_protocols.no_fault relay passes-relay) (projections-are relay 4 projections_of_relay refl refl) refl
+pub is_relay_safe : IsSafe machines_of_relay
+is_relay_safe = equal-safe relay projections_of_relay machines_of_relay (well_formed_protocols.no_fault relay passes-relay) (projections-are relay 4 projections_of_relay refl refl) refl
 
-pub rounds-safe : IsSafe machines_of_rounds
-rounds-safe = safe rounds projections_of_rounds machines_of_rounds derivations_of_rounds
-    record { fits = well_formed_protocols.no_fault rounds passes-rounds; projected = projections-are rounds 4 projections_of_rounds refl refl; many = refl; order = rounds-fit; derived' = derive-rounds }
+pub is_rounds_safe : IsSafe machines_of_rounds
+is_rounds_safe = safe rounds projections_of_rounds machines_of_rounds derivations_of_rounds
+    record { fits = well_formed_protocols.no_fault rounds passes-rounds; projected = projections-are rounds 4 projections_of_rounds refl refl; many = refl; order = is_rounds_fit; derived' = derive-rounds }
 
-pub swap-safe : IsSafe machines_of_swap
-swap-safe = safe swap projections_of_swap machines_of_swap derivations_of_swap
-    record { fits = well_formed_protocols.no_fault swap passes-swap; projected = projections-are swap 4 projections_of_swap refl refl; many = refl; order = swap-fits; derived' = derive-swap }
+pub is_swap_safe : IsSafe machines_of_swap
+is_swap_safe = safe swap projections_of_swap machines_of_swap derivations_of_swap
+    record { fits = well_formed_protocols.no_fault swap passes-swap; projected = projections-are swap 4 projections_of_swap refl refl; many = refl; order = is_swap_fits; derived' = derive-swap }

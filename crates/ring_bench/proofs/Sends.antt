@@ -11,7 +11,7 @@ use Rattle.rs_slots.specs.declared.parcels.Parcel.{Parcel}
 use Rattle.rs_rings.specs.Acts.{numbered, MayPut}
 use Rattle.ring_bench.specs.Players.{TakesOne}
 use Rattle.ring_bench.specs.Sessions.{arm, machines_of_stream, machines_of_relay, machines_of_rounds, machines_of_swap}
-use Rattle.ring_bench.proofs.Safe.{stream-fits, relay-fits, rounds-fit, swap-fits}
+use Rattle.ring_bench.proofs.Safe.{is_stream_fits, is_relay_fits, is_rounds_fit, is_swap_fits}
 
 -- the parcels with a number, and with none
 abbrev pub number : ℕ → ℕ → Parcel
@@ -31,16 +31,16 @@ taken : (next : ℕ) (ms ms' : List Machine_data) (q q' : ℕ) (p p' : Role) (s 
 taken next ms ms' q q' p p' s s' a b c d f = subst (λ (z : List Machine_data × ℕ × Role × ℕ). TakesOne z.0 z.1 z.2 z.3 next) (λ i. (sym a i, sym b i, sym c i, sym d i)) f
 
 pub stream_fits : (ms : List Machine_data) → ms ≡ machines_of_stream → AreWellFormed ms
-stream_fits ms is = subst AreWellFormed (sym is) stream-fits
+stream_fits ms is = subst AreWellFormed (sym is) is_stream_fits
 
 pub relay_fits : (ms : List Machine_data) → ms ≡ machines_of_relay → AreWellFormed ms
-relay_fits ms is = subst AreWellFormed (sym is) relay-fits
+relay_fits ms is = subst AreWellFormed (sym is) is_relay_fits
 
 pub rounds_fit : (ms : List Machine_data) → ms ≡ machines_of_rounds → AreWellFormed ms
-rounds_fit ms is = subst AreWellFormed (sym is) rounds-fit
+rounds_fit ms is = subst AreWellFormed (sym is) is_rounds_fit
 
 pub swap_fits : (ms : List Machine_data) → ms ≡ machines_of_swap → AreWellFormed ms
-swap_fits ms is = subst AreWellFormed (sym is) swap-fits
+swap_fits ms is = subst AreWellFormed (sym is) is_swap_fits
 
 pub stream_puts : (ms : List Machine_data) (p s n : ℕ) (x : Parcel) → ms ≡ machines_of_stream → p ≡ 0 → s ≡ 0 → x ≡ number 0 n → n < 2 ^ 63 → MayPut ms p 1 s x 0
 stream_puts ms p s n x a b c d l = moved (λ m i j k z. MayPut m i j k z 0) ms machines_of_stream p 0 1 1 s 0 x (number 0 n) a b refl c d
@@ -81,3 +81,15 @@ answer_takes ms q s a b c = taken 1 ms machines_of_relay q 2 (numbered 1) (numbe
 
 pub hear_takes : (ms : List Machine_data) (q s : ℕ) → ms ≡ machines_of_relay → q ≡ 0 → s ≡ 0 → TakesOne ms q (numbered 1) s 0
 hear_takes ms q s a b c = taken 0 ms machines_of_relay q 0 (numbered 1) (numbered 1) s 0 a b refl c record { arm = arm 2 sort.Natural 0; takes = refl; goes = refl }
+
+pub swap_puts : (ms : List Machine_data) (p q s : ℕ) (x : Parcel) → ms ≡ machines_of_swap → p + q ≡ 1 → s ≡ 0 → x ≡ unit p → MayPut ms p q s x 1
+swap_puts ms zero q s x a b c d = let one : q ≡ 1 = omega arith in moved (λ m i j k z. MayPut m i j k z 1) ms machines_of_swap 0 0 q 1 s 0 x (unit 0) a refl one c d
+    record { arms = arm 0 sort.Unit 1 ∷ []; place = 0; arm = arm 0 sort.Unit 1; puts = refl; picks = refl; same_label = refl; has_sort = refl; goes = refl }
+swap_puts ms (suc zero) q s x a b c d = let other : q ≡ 0 = omega arith in moved (λ m i j k z. MayPut m i j k z 1) ms machines_of_swap 1 1 q 0 s 0 x (unit 1) a refl other c d
+    record { arms = arm 1 sort.Unit 1 ∷ []; place = 0; arm = arm 1 sort.Unit 1; puts = refl; picks = refl; same_label = refl; has_sort = refl; goes = refl }
+swap_puts ms (suc (suc p)) q s x a b c d = absurd (omega arith)
+
+pub swap_takes : (ms : List Machine_data) (q p s : ℕ) → ms ≡ machines_of_swap → q + p ≡ 1 → s ≡ 1 → TakesOne ms q (numbered p) s 2
+swap_takes ms zero p s a b c = let one : p ≡ 1 = omega arith in taken 2 ms machines_of_swap 0 0 (numbered p) (numbered 1) s 1 a refl (ap numbered one) c record { arm = arm 1 sort.Unit 2; takes = refl; goes = refl }
+swap_takes ms (suc zero) p s a b c = let other : p ≡ 0 = omega arith in taken 2 ms machines_of_swap 1 1 (numbered p) (numbered 0) s 1 a refl (ap numbered other) c record { arm = arm 0 sort.Unit 2; takes = refl; goes = refl }
+swap_takes ms (suc (suc q)) p s a b c = absurd (omega arith)

@@ -24,13 +24,7 @@ fn arms_of(alloc: Global, label: u16, sort: Sort, next: u32) -> Result<Arms, NoM
 }
 
 /// A state that puts one label to the peer.
-fn putting(
-    alloc: Global,
-    peer: Role,
-    label: u16,
-    sort: Sort,
-    next: u32,
-) -> Result<State, NoMemory>
+fn putting(alloc: Global, peer: Role, label: u16, sort: Sort, next: u32) -> Result<State, NoMemory>
     ensures { IfOk result (λ s. s ≡ puts peer label sort next) }
 {
     Ok(State::Puts {
@@ -40,13 +34,7 @@ fn putting(
 }
 
 /// A state that takes one label from the peer.
-fn taking(
-    alloc: Global,
-    peer: Role,
-    label: u16,
-    sort: Sort,
-    next: u32,
-) -> Result<State, NoMemory>
+fn taking(alloc: Global, peer: Role, label: u16, sort: Sort, next: u32) -> Result<State, NoMemory>
     ensures { IfOk result (λ s. s ≡ takes peer label sort next) }
 {
     Ok(State::Takes {

@@ -22,11 +22,7 @@ pub struct Player {
 }
 
 /// The rings of these machines, and the pass of all roles, each of which stands in its start state.
-pub fn begin(
-    alloc: Global,
-    machines: &[Machine],
-    capacity: u16,
-) -> Result<(Rings, Pass), NoMemory>
+pub fn begin(alloc: Global, machines: &[Machine], capacity: u16) -> Result<(Rings, Pass), NoMemory>
     requires roles { (2 ≤ length machines.now) × (length machines.now ≤ 16) }
     requires capacity { (1 ≤ capacity) × (capacity ≤ 1024) }
     requires safe { IsSafe machines.now }
@@ -130,12 +126,7 @@ pub fn send<R: Wait>(
 }
 
 /// Takes a parcel from a role that sends it one label alone, and goes on to the state `next`; none where the ring is empty.
-pub fn try_receive(
-    rings: &Rings,
-    player: &mut Player,
-    sender: Role,
-    next: u32,
-) -> Option<Parcel>
+pub fn try_receive(rings: &Rings, player: &mut Player, sender: Role, next: u32) -> Option<Parcel>
     requires at { IsAt rings.now player.old }
     requires takes { TakesOne rings.now.machines player.old.role.0 sender player.old.state next }
     requires short { player.old.acts < 2 ^ 63 }

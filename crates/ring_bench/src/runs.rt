@@ -97,13 +97,7 @@ pub fn in_turn(rings: &Rings, a: &mut Player, b: &mut Player, count: u64) -> u64
 /// In each of `count` rounds the player sends the round's number to its peer and then takes the peer's; it tells how many
 /// came in order.
 #[tactic(auto, using(crate::proofs::Sends::rounds_fit, crate::proofs::Sends::rounds_puts, crate::proofs::Sends::rounds_takes))]
-pub fn talk<R: Wait>(
-    rt: &R,
-    rings: &Rings,
-    player: &mut Player,
-    peer: Role,
-    count: u64,
-) -> u64
+pub fn talk<R: Wait>(rt: &R, rings: &Rings, player: &mut Player, peer: Role, count: u64) -> u64
     requires machines { rings.now.machines ≡ machines_of_rounds }
     requires at { IsAt rings.now player.old }
     requires peers { player.old.role.0 + peer.0 ≡ 1 }

@@ -1,4 +1,4 @@
-use Rattle.std.proofs.Common.{◌≡◌, ◌+◌, ◌<◌, ◌^◌, sym, ap, ◌∙◌, arith}
+use Rattle.std.proofs.Common.{ap, ◌∙◌, arith}
 use Rattle.rs_model.specs.declared.graph.Role.{Role}
 use Rattle.ring_bench.proofs.Sends.{ask_puts, ask_takes, tell_puts}
 use Rattle.ring_bench.proofs.runs.ask.Goals as goal

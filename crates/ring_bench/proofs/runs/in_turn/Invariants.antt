@@ -1,4 +1,4 @@
-use Rattle.std.proofs.Common.{◌≡◌, ◌+◌, ◌*◌, ◌≤◌}
+use Rattle.std.proofs.Common.{◌≡◌, ◌≤◌}
 use Rattle.ring_bench.specs.Players.{IsAt}
 use Rattle.ring_bench.proofs.runs.in_turn.Given as goal
 

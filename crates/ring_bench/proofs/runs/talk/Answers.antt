@@ -1,4 +1,4 @@
-use Rattle.std.proofs.Common.{◌≡◌, ◌+◌, ◌<◌, ◌^◌, sym, ap, ◌∙◌, arith}
+use Rattle.std.proofs.Common.{◌+◌, sym, ap, ◌∙◌, arith}
 use Rattle.rs_model.specs.declared.graph.Role.{Role}
 use Rattle.ring_bench.proofs.Sends.{number, rounds_puts, rounds_takes}
 use Rattle.ring_bench.proofs.runs.talk.Goals as goal
