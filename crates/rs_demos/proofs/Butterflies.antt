@@ -1,7 +1,7 @@
 -- Ended runs of the butterfly leave the Walsh-Hadamard transform.
-use Rattle.std.proofs.Common.{◌≡◌, ◌≢◌, ◌⊎◌, inl, inr, ℕ, zero, suc, ◌+◌, ◌<◌, Bool, true, false, ◌||◌, ◌==◌, ℤ, pos, ◌+ℤ◌, ◌-ℤ◌, neg_ℤ, List, [], ◌∷◌, ◌++◌, map, length, get_or, Option, Some, None, slice_get, refl, sym, ap, ◌∙◌, subst, arith}
+use Rattle.std.proofs.Common.{◌≡◌, ◌⊎◌, inl, inr, ℕ, zero, suc, ◌+◌, ◌<◌, Bool, true, false, ◌||◌, ◌==◌, ℤ, pos, ◌+ℤ◌, ◌-ℤ◌, neg_ℤ, List, [], ◌∷◌, map, length, get_or, Option, Some, slice_get, refl, sym, ap, ◌∙◌, subst, arith}
 use Rattle.std.specs.Int.{w64, int_wrap}
-use Rattle.std.specs.List.{enumerate_from, range_with_len}
+use Rattle.std.specs.List.{enumerate_from}
 use Rattle.std.proofs.lemmas.Bool.{false≢true}
 use Rattle.std.proofs.lemmas.Bool.Decides.{eqb_tells}
 use Rattle.std.proofs.lemmas.Int.{ints, int_wrap_fits}
@@ -9,16 +9,15 @@ use Rattle.rs_model.specs.Data.{Machine_data}
 use Rattle.rs_model.specs.declared.machines.State.{State}
 use Rattle.rs_core.specs.Plain.{Moment, Ended, IsPlain}
 use Rattle.rs_core.specs.Runs.{IsGiven, HasActors}
-use Rattle.rs_core.specs.Histories.{History}
 use Rattle.rs_demos.specs.Acting.{by_demo}
-use Rattle.rs_demos.specs.Numbers.{AreAsked, SpellsNumbers, takes_numbers}
+use Rattle.rs_demos.specs.Numbers.{SpellsNumbers, takes_numbers}
 use Rattle.rs_demos.specs.Outputs.{output_of, result_of}
 use Rattle.rs_demos.specs.Results.{Computes, results_text, transform_at, transform_of, wrapped}
 use Rattle.rs_demos.specs.Sessions.{demo_machines, butterfly_machine, butterfly_pairs, states_from, Exchange}
 use Rattle.rs_demos.specs.Starts.{StartsWithActors, butterfly_member}
 use Rattle.rs_demos.specs.declared.actors.DemoActor.{DemoActor}
 use Rattle.rs_demos.specs.declared.kinds.Demo.TheVariants as demo
-use Rattle.rs_demos.proofs.Exchanged.{member, pairs_of, are_good, AtRole, Silent, Queues, Stage, held_at_end, at-the-end, sum_at_end, wrapped-at-end}
+use Rattle.rs_demos.proofs.Exchanged.{member, pairs_of, are_good, Silent, Queues, Stage, held_at_end, at-the-end, sum_at_end, wrapped-at-end}
 use Rattle.rs_demos.proofs.Ran.{Ran, ran, playing}
 use Rattle.rs_demos.proofs.Ranges.{mapped-at}
 use Rattle.rs_demos.proofs.Trading.{Trades, HasStates, trades}
@@ -72,7 +71,6 @@ whole-numbers (z ∷ zs) bytes (suc i) s = whole-numbers zs s.behind i s.later
 
 abbrev Row : List ℕ → List ℤ → ℕ → Type 0
 Row ss zs i = sum_at_end ss (λ (j : ℕ). j) (λ (j : ℕ). get_or zs j (pos 0)) i ≡ transform_at zs i
-
 
 rows-2 : (z0 z1 : ℤ) (i : ℕ) → i < 2 → Row (1 ∷ []) (z0 ∷ z1 ∷ []) i
 unfolding lib.Count.ones

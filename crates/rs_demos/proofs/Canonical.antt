@@ -1,6 +1,6 @@
 -- The texts of the demos are the canonical ones.
-use Rattle.std.proofs.Common.{◌≡◌, inl, inr, ℕ, zero, suc, ◌+◌, ◌-◌, ◌<◌, ◌≤◌, Bool, true, false, not, ◌&&◌, ◌||◌, ◌==◌, nat_lt, nat_le, if◌then◌else◌, List, [], ◌∷◌, ◌++◌, map, codes, Option, Some, None, slice_get, refl, sym, ap, ◌∙◌, subst, arith, append_assoc, append-nil}
-use Rattle.std.specs.List.{flat_map, list_all, range_with_len}
+use Rattle.std.proofs.Common.{◌≡◌, inl, inr, ℕ, zero, suc, ◌+◌, ◌<◌, ◌≤◌, Bool, true, false, not, ◌&&◌, ◌||◌, ◌==◌, nat_lt, List, [], ◌∷◌, ◌++◌, map, codes, Some, None, slice_get, refl, sym, ap, ◌∙◌, arith}
+use Rattle.std.specs.List.{list_all}
 use Rattle.std.proofs.lemmas.Bool.{and_parts, false≢true, ltb-true}
 use Rattle.std.proofs.lemmas.Bool.Decides.{eqb_tells}
 use Rattle.std.proofs.lemmas.Fmt.{decimal_digit}
@@ -24,7 +24,7 @@ use Rattle.rs_machines.specs.Texts as machine_texts
 use Rattle.rs_machines.specs.Trees as machine_trees
 use Rattle.rs_machines.specs.declared.marks.Mark.{Mark}
 use Rattle.rs_machines.specs.declared.marks.Mark.TheVariants as mark
-use Rattle.rs_demos.specs.Sessions.{role, arm, machine, double_protocol, double_kernel, stream_protocol, stream_source, demo_names}
+use Rattle.rs_demos.specs.Sessions.{role, arm, double_protocol, double_kernel, stream_protocol, stream_source, demo_names}
 use Rattle.rs_demos.specs.Texts.{IsDemoText}
 use Rattle.rs_demos.specs.declared.documents.TheConstants.{DOUBLE, STREAM}
 use Rattle.rs_demos.specs.declared.kinds.Demo.TheVariants as demo

@@ -1,6 +1,5 @@
 -- Ended runs leave what the demos compute.
-use Rattle.std.proofs.Common.{◌≡◌, ◌≢◌, ℕ, zero, suc, ◌<◌, List, [], ◌∷◌, ◌++◌, map, Option, Some, None, slice_get, length, refl, sym, ap, ◌∙◌, subst, arith}
-use Rattle.rs_model.specs.Data.{Machine_data}
+use Rattle.std.proofs.Common.{◌≡◌, ℕ, ◌<◌, List, [], ◌∷◌, Option, Some, None, slice_get, length, refl, sym, ap, ◌∙◌, arith}
 use Rattle.rs_core.specs.Plain.{Moment, Ended, IsPlain}
 use Rattle.rs_core.specs.Runs.{IsGiven, HasActors}
 use Rattle.rs_demos.specs.Acting.{by_demo}

@@ -1,5 +1,5 @@
 -- What the members of a butterfly hold, round by round.
-use Rattle.std.proofs.Common.{◌≡◌, ◌≢◌, inl, inr, ℕ, zero, suc, ◌+◌, ◌-◌, ◌/◌, ◌%◌, ◌<◌, Bool, true, false, not, ◌&&◌, ◌==◌, nat_lt, if◌then◌else◌, ℤ, pos, ◌+ℤ◌, ◌-ℤ◌, neg_ℤ, List, [], ◌∷◌, ◌++◌, map, length, get_or, Option, Some, None, slice_get, refl, sym, ap, ap₂, ◌∙◌, subst, arith, append_assoc}
+use Rattle.std.proofs.Common.{◌≡◌, ◌≢◌, inl, inr, ℕ, zero, suc, ◌+◌, ◌/◌, ◌%◌, ◌<◌, Bool, true, false, not, ◌&&◌, ◌==◌, nat_lt, if◌then◌else◌, ℤ, ◌+ℤ◌, ◌-ℤ◌, neg_ℤ, List, [], ◌∷◌, ◌++◌, map, refl, sym, ap, ap₂, ◌∙◌, subst, arith, append_assoc}
 use Rattle.std.specs.List.{list_all, range_with_len}
 use Rattle.std.proofs.lemmas.Bool.{and_parts, false≢true, ltb-true}
 use Rattle.std.proofs.lemmas.Bool.Decides.{eqb_tells}
@@ -8,7 +8,7 @@ use Rattle.std.proofs.lemmas.Int.{int_wrap-add_left, int_wrap-add_right, int_wra
 use Rattle.rs_model.specs.declared.values.Value.{Value}
 use Rattle.rs_model.specs.declared.values.Value.TheVariants as value
 use Rattle.rs_core.specs.declared.messages.Message.{Message}
-use Rattle.rs_core.specs.Histories.{Action, Sent, Got, History}
+use Rattle.rs_core.specs.Histories.{Sent, Got, History}
 use Rattle.rs_core.proofs.Fifo.{sents, gots, sents-append, gots-append}
 use Rattle.rs_demos.specs.Acting.{told_of}
 use Rattle.rs_demos.specs.Results.{wrapped}
@@ -16,7 +16,7 @@ use Rattle.rs_demos.specs.Sessions.{Exchange, role, partner}
 use Rattle.rs_demos.specs.declared.actors.DemoActor.{DemoActor}
 use Rattle.rs_demos.specs.declared.actors.DemoActor.TheVariants as actor
 use Rattle.rs_demos.proofs.Playing.{sents-cons, sents-skip, gots-cons, gots-skip}
-use Rattle.rs_demos.proofs.Trading.{Trade, Trades, held, script_sent, script_got}
+use Rattle.rs_demos.proofs.Trading.{Trades, script_got}
 
 abbrev pub member : ℕ → ℤ → DemoActor
 member b a = actor.ButterflyMember (record { bits = b; held = a })

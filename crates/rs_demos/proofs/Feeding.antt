@@ -1,5 +1,5 @@
 -- What goes from a source to a sink: the pieces, and then that there are no more.
-use Rattle.std.proofs.Common.{◌≡◌, ℕ, zero, suc, List, [], ◌∷◌, ◌++◌, take, drop, map, length, Option, Some, None, slice_get, refl, sym, ap, ap₂, ◌∙◌, subst, subst₂, append_assoc, append-nil, ◌-◌}
+use Rattle.std.proofs.Common.{◌≡◌, ℕ, zero, suc, List, [], ◌∷◌, ◌++◌, map, Option, Some, None, slice_get, refl, sym, ap, ◌∙◌, subst, subst₂, append_assoc, append-nil, ◌-◌}
 use Rattle.std.specs.List.{concat}
 use Rattle.std.proofs.lemmas.List.{take-append-drop}
 use Rattle.rs_model.specs.Data.{Machine_data}
@@ -13,14 +13,14 @@ use Rattle.rs_model.specs.declared.values.Value.{Value}
 use Rattle.rs_model.specs.declared.values.Value.TheVariants as value
 use Rattle.rs_core.specs.Actors.{PlaysFrom}
 use Rattle.rs_core.specs.declared.messages.Message.{Message}
-use Rattle.rs_core.specs.Histories.{Action, Sent, Got, History}
+use Rattle.rs_core.specs.Histories.{Sent, Got, History}
 use Rattle.rs_core.proofs.Fifo.{sents, gots}
 use Rattle.rs_demos.specs.Acting.{by_demo, told_of, piece_of, behind_piece}
 use Rattle.rs_demos.specs.Results.{inverted}
 use Rattle.rs_demos.specs.Sessions.{role, arm, double_kernel, double_source, double_sink, stream_source, stream_sink}
 use Rattle.rs_demos.specs.declared.actors.DemoActor.{DemoActor}
 use Rattle.rs_demos.specs.declared.actors.DemoActor.TheVariants as actor
-use Rattle.rs_demos.proofs.Playing.{sent-at, got-at, no-got, no-sent, nowhere, over, only-arm, OneOf, First, Second, one-of, sents-cons, sents-skip, gots-cons, gots-skip}
+use Rattle.rs_demos.proofs.Playing.{sent-at, got-at, no-got, no-sent, nowhere, over, only-arm, First, Second, one-of, sents-cons, sents-skip, gots-cons, gots-skip}
 
 abbrev pub label : ℕ → Label
 label n = record { 0 = n }

@@ -1,5 +1,5 @@
 -- What is left behind a piece.
-use Rattle.std.proofs.Common.{◌≡◌, ℕ, ◌+◌, ◌<◌, ◌≤◌, List, length, take, drop, [], ◌∷◌, zero, suc, refl, sym, ap, ◌∙◌, arith, min, length-drop}
+use Rattle.std.proofs.Common.{◌≡◌, ℕ, ◌+◌, ◌≤◌, List, length, take, drop, [], ◌∷◌, zero, suc, refl, sym, ap, ◌∙◌, arith, length-drop}
 use Rattle.std.proofs.lemmas.List.{drop-drop, length-take}
 
 -- as many elements as are taken are dropped

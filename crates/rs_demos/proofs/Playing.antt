@@ -1,5 +1,5 @@
 -- What the play of an actor says at a state that is known.
-use Rattle.std.proofs.Common.{◌≡◌, inl, inr, ℕ, zero, suc, List, [], ◌∷◌, Option, Some, None, slice_get, refl, sym, ap, ◌∙◌, subst, if◌then◌else◌, ◌==◌}
+use Rattle.std.proofs.Common.{◌≡◌, inl, inr, ℕ, zero, suc, List, [], ◌∷◌, Some, None, slice_get, refl, sym, ◌∙◌, subst}
 use Rattle.std.proofs.lemmas.Bool.Decides.{eqb_tells}
 use Rattle.rs_model.specs.Data.{Machine_data}
 use Rattle.rs_model.specs.declared.graph.Arm.{Arm}
@@ -8,7 +8,6 @@ use Rattle.rs_model.specs.declared.graph.Role.{Role}
 use Rattle.rs_model.specs.declared.machines.State.TheVariants.{Done, Puts, Takes}
 use Rattle.rs_model.specs.declared.values.Value.{Value}
 use Rattle.rs_core.specs.Actors.{PlaysSent, PlaysGot, PlaysAction}
-use Rattle.rs_core.specs.declared.messages.Message.{Message}
 use Rattle.rs_core.specs.Histories.{Action, Sent, Got, History}
 use Rattle.rs_core.proofs.Fifo.{sents, gots}
 use Rattle.rs_demos.specs.Acting.{by_demo, told_of}

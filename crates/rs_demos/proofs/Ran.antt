@@ -1,8 +1,8 @@
 -- What an ended run says of each role and of each pair of roles.
-use Rattle.std.proofs.Common.{◌≡◌, ◌≢◌, ℕ, zero, suc, ◌<◌, true, List, [], ◌∷◌, ◌++◌, Option, Some, None, slice_get, length, refl, sym, ap, ◌∙◌, subst, arith}
+use Rattle.std.proofs.Common.{◌≡◌, ◌≢◌, ℕ, zero, suc, ◌<◌, true, List, [], ◌∷◌, ◌++◌, Option, Some, None, slice_get, length, subst, arith}
 use Rattle.rs_model.specs.Data.{Machine_data}
 use Rattle.rs_model.specs.declared.machines.State.TheVariants.{Done}
-use Rattle.rs_core.specs.Actors.{Choice, Behaviour, PlaysFrom, Keeps}
+use Rattle.rs_core.specs.Actors.{Choice, PlaysFrom, Keeps}
 use Rattle.rs_core.specs.Configurations.{state_at}
 use Rattle.rs_core.specs.Plain.{Moment, Ending, Ended, Stopped, Stuck, PlainFrom, AllDone, Stops, NoneMoves, GoesOn, IsPlain}
 use Rattle.rs_core.proofs.Ends.{sound-round}
@@ -63,4 +63,3 @@ pub playing : (ms : List Machine_data) (given : ℕ → DemoActor) (end : Moment
 playing ms given end p m x r e s =
     let P : DemoActor → Type 0 = λ z. PlaysFrom by_demo m m.start z (end.history p) (end.at.at p) (end.actor p) in
     subst P s (r.plays p m e)
-

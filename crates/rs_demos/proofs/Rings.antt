@@ -1,23 +1,22 @@
 -- Ended runs of the ring leave the sum of all numbers at each role.
-use Rattle.std.proofs.Common.{◌≡◌, ◌≢◌, inl, inr, ℕ, zero, suc, ◌+◌, ◌-◌, ◌<◌, ◌≤◌, Bool, true, false, not, ◌&&◌, ◌==◌, nat_lt, nat_le, if◌then◌else◌, ℤ, pos, ◌+ℤ◌, List, [], ◌∷◌, ◌++◌, map, length, get_or, Option, Some, None, slice_get, refl, sym, ap, ap₂, ◌∙◌, subst, arith, append-nil, length-append}
+use Rattle.std.proofs.Common.{◌≡◌, ◌≢◌, inl, inr, ℕ, zero, suc, ◌+◌, ◌-◌, ◌<◌, ◌≤◌, Bool, true, not, ◌&&◌, ◌==◌, nat_lt, nat_le, if◌then◌else◌, ℤ, pos, ◌+ℤ◌, List, [], ◌∷◌, ◌++◌, map, length, get_or, Option, Some, slice_get, refl, sym, ap, ap₂, ◌∙◌, subst, arith, append-nil, length-append}
 use Rattle.std.specs.Int.{w64}
-use Rattle.std.specs.List.{enumerate_from, list_all, range_with_len}
+use Rattle.std.specs.List.{list_all, range_with_len}
 use Rattle.std.proofs.lemmas.Bool.{and_parts, false≢true, leb-true, ltb-true}
 use Rattle.std.proofs.lemmas.Bool.Decides.{eqb_tells}
 use Rattle.std.proofs.lemmas.Int.{ints, int_wrap-add_left}
-use Rattle.rs_model.specs.Data.{Machine_data}
 use Rattle.rs_model.specs.declared.values.Value.{Value}
 use Rattle.rs_model.specs.declared.values.Value.TheVariants as value
 use Rattle.rs_core.specs.declared.messages.Message.{Message}
 use Rattle.rs_core.specs.Plain.{Moment, Ended, IsPlain}
 use Rattle.rs_core.specs.Runs.{IsGiven, HasActors}
-use Rattle.rs_core.specs.Histories.{Action, Sent, Got, History}
+use Rattle.rs_core.specs.Histories.{Got, History}
 use Rattle.rs_core.proofs.Fifo.{sents, gots}
 use Rattle.rs_demos.specs.Acting.{by_demo, told_of}
 use Rattle.rs_demos.specs.Numbers.{SpellsNumbers, takes_numbers}
 use Rattle.rs_demos.specs.Outputs.{output_of, result_of}
 use Rattle.rs_demos.specs.Results.{Computes, results_text, sums_of, total, wrapped}
-use Rattle.rs_demos.specs.Sessions.{demo_machines, next_in_ring, previous_in_ring, ring_machine, ring_pairs, role, Exchange}
+use Rattle.rs_demos.specs.Sessions.{demo_machines, next_in_ring, previous_in_ring, ring_machine, ring_pairs, role}
 use Rattle.rs_demos.specs.Starts.{StartsWithActors, ring_member}
 use Rattle.rs_demos.specs.declared.actors.DemoActor.{DemoActor}
 use Rattle.rs_demos.specs.declared.actors.DemoActor.TheVariants as actor
@@ -28,7 +27,7 @@ use Rattle.rs_demos.proofs.Exchanged.{in-range}
 use Rattle.rs_demos.proofs.Playing.{sents-cons, gots-cons}
 use Rattle.rs_demos.proofs.Ran.{Ran, ran, playing}
 use Rattle.rs_demos.proofs.Ranges.{mapped-at}
-use Rattle.rs_demos.proofs.Trading.{Trade, Trades, held, trades}
+use Rattle.rs_demos.proofs.Trading.{Trades, held, trades}
 
 -- what is sent and got
 
@@ -316,9 +315,9 @@ sum-at n zs h y low high many fits t fifo i lt =
     same-values (t i lt).values (map value.Whole (numbers_back n (λ (j : ℕ). get_or zs j (pos 0)) (n - 1) (previous_in_ring n i)))
     ((t i lt).many ∙ sym (many-back n (λ (j : ℕ). get_or zs j (pos 0)) (n - 1) (previous_in_ring n i)) ∙ sym (many-mapped value.Whole (numbers_back n (λ (j : ℕ). get_or zs j (pos 0)) (n - 1) (previous_in_ring n i))))
     (λ r few. (let less : r < n - 1 = omega (arith, (t i lt).many, few) in
-      value-at n (λ (j : ℕ). get_or zs j (pos 0)) h y low high t fifo r i lt less
-      ∙ sym (mapped value.Whole (numbers_back n (λ (j : ℕ). get_or zs j (pos 0)) (n - 1) (previous_in_ring n i)) r (get_or zs (back n r (previous_in_ring n i)) (pos 0))
-      (back-at n (λ (j : ℕ). get_or zs j (pos 0)) (n - 1) (previous_in_ring n i) r less)))) in
+    value-at n (λ (j : ℕ). get_or zs j (pos 0)) h y low high t fifo r i lt less
+    ∙ sym (mapped value.Whole (numbers_back n (λ (j : ℕ). get_or zs j (pos 0)) (n - 1) (previous_in_ring n i)) r (get_or zs (back n r (previous_in_ring n i)) (pos 0))
+    (back-at n (λ (j : ℕ). get_or zs j (pos 0)) (n - 1) (previous_in_ring n i) r less)))) in
     let sum = summed (numbers_back n (λ (j : ℕ). get_or zs j (pos 0)) (n - 1) (previous_in_ring n i)) (record { last = get_or zs i (pos 0); sum = get_or zs i (pos 0) }) (get_or zs i (pos 0)) (fits i) in
     let e : suc (n - 1) ≡ n = omega arith in
     let round : get_or zs i (pos 0) +ℤ total (numbers_back n (λ (j : ℕ). get_or zs j (pos 0)) (n - 1) (previous_in_ring n i)) ≡ total zs =

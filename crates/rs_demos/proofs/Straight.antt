@@ -1,17 +1,14 @@
 -- The texts of the ring and of the butterfly are the canonical ones.
 use Rattle.std.proofs.Common.{◌≡◌, ◌≢◌, ◌⊎◌, inl, inr, ℕ, zero, suc, ◌+◌, ◌-◌, ◌<◌, ◌≤◌, Bool, true, false, not, ◌&&◌, ◌||◌, ◌==◌, nat_lt, nat_le, if◌then◌else◌, List, [], ◌∷◌, ◌++◌, map, codes, Option, Some, None, slice_get, refl, sym, ap, ap₂, ◌∙◌, subst, arith, append_assoc, append-nil}
 use Rattle.std.specs.List.{flat_map, list_all, range_with_len}
-use Rattle.std.specs.Fmt.{decimal}
 use Rattle.std.proofs.lemmas.Bool.{and_parts, false≢true, leb-true, ltb-true}
-use Rattle.std.proofs.lemmas.Bool.Decides.{eqb_tells, leb_tells}
+use Rattle.std.proofs.lemmas.Bool.Decides.{eqb_tells}
 use Rattle.std.proofs.lemmas.Fmt.{decimal_digit}
-use Rattle.rs_model.specs.Data.{Names_data, Protocol_data, Machine_data}
+use Rattle.rs_model.specs.Data.{Names_data, Machine_data}
 use Rattle.rs_model.specs.declared.graph.Arm.{Arm}
-use Rattle.rs_model.specs.declared.graph.Node.{Node}
-use Rattle.rs_model.specs.declared.graph.Node.TheVariants.{Finished, Talk}
+use Rattle.rs_model.specs.declared.graph.Node.TheVariants.{Talk}
 use Rattle.rs_model.specs.declared.graph.Role.{Role}
-use Rattle.rs_model.specs.declared.machines.State.{State}
-use Rattle.rs_model.specs.declared.machines.State.TheVariants.{Done, Puts, Takes}
+use Rattle.rs_model.specs.declared.machines.State.TheVariants.{Puts, Takes}
 use Rattle.rs_model.specs.declared.values.Sort.TheVariants as sort
 use Rattle.rs_global.specs.Canonical as protocol
 use Rattle.rs_global.specs.Texts as protocol_texts
@@ -23,11 +20,10 @@ use Rattle.rs_machines.specs.Texts as machine_texts
 use Rattle.rs_machines.specs.Trees as machine_trees
 use Rattle.rs_machines.specs.declared.marks.Mark.{Mark}
 use Rattle.rs_machines.specs.declared.marks.Mark.TheVariants as mark
-use Rattle.rs_demos.specs.Numbers.{takes_numbers}
-use Rattle.rs_demos.specs.Sessions.{Exchange, role, arm, machine, role_name, numbers_from, nodes_from, states_from, protocol_of, has_session, demo_names, ring_exchanges, ring_pairs, ring_machine, butterfly_exchanges, butterfly_pairs, butterfly_machine, written}
+use Rattle.rs_demos.specs.Sessions.{Exchange, role, arm, machine, role_name, numbers_from, nodes_from, states_from, protocol_of, has_session, ring_exchanges, ring_pairs, butterfly_exchanges, butterfly_pairs, written}
 use Rattle.rs_documents.specs.Canonical.{AreCanonicalMachines}
 use Rattle.rs_demos.specs.Texts.{IsDemoText}
-use Rattle.rs_demos.specs.Writing.{exchange_text, exchanges_text, acts_text, pairs_text, other_name, roles_text, machine_line, front_text, ring_line, butterfly_line, ring_text, butterfly_text}
+use Rattle.rs_demos.specs.Writing.{exchanges_text, pairs_text, other_name, machine_line, front_text, ring_line, butterfly_line, ring_text, butterfly_text}
 use Rattle.rs_demos.specs.declared.kinds.Demo.{Demo}
 use Rattle.rs_demos.specs.declared.kinds.Demo.TheVariants as demo
 use Rattle.rs_demos.proofs.Exchanged.{in-range}
@@ -203,8 +199,8 @@ lines kind n pairs (suc k) a low le w is =
     let m : Machine_data = machine a (states_from 0 (pairs a)) in
     let later = lines kind n pairs k (a + 1) (omega arith) (omega arith) w is in
     let P : Option Machine_data → Type 0 = λ o.
-        AreCanonicalMachines (names_for n) (o ∷ map (written kind) (map (λ (i : ℕ). machine i (states_from 0 (pairs i))) (range_with_len (a + 1) k)))
-        (machine_line a (pairs a) ++ flat_map (λ (i : ℕ). machine_line i (pairs i)) (range_with_len (a + 1) k)) in
+    AreCanonicalMachines (names_for n) (o ∷ map (written kind) (map (λ (i : ℕ). machine i (states_from 0 (pairs i))) (range_with_len (a + 1) k)))
+    (machine_line a (pairs a) ++ flat_map (λ (i : ℕ). machine_line i (pairs i)) (range_with_len (a + 1) k)) in
     subst P (sym (is (machine a (states_from 0 (pairs a))) (λ e. (let z : a ≡ 0 = e in omega arith))))
     (machine_line a (pairs a), flat_map (λ (i : ℕ). machine_line i (pairs i)) (range_with_len (a + 1) k), line-is n a (pairs a) (omega arith) (w a (omega arith)), later, refl)
 

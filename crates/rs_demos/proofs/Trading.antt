@@ -1,24 +1,19 @@
 -- The histories of roles that send their numbers and get others, pair by pair.
-use Rattle.std.proofs.Common.{◌≡◌, ◌≢◌, inl, inr, ℕ, zero, suc, ◌+◌, Bool, true, false, ℤ, pos, List, [], ◌∷◌, ◌++◌, length, Option, Some, None, slice_get, refl, sym, ap, ◌∙◌, subst, subst₂, arith}
-use Rattle.std.proofs.lemmas.Bool.Decides.{eqb_tells}
+use Rattle.std.proofs.Common.{◌≡◌, ℕ, suc, ◌+◌, Bool, true, false, ℤ, pos, List, [], ◌∷◌, Some, slice_get, refl, sym, ap, ◌∙◌, subst, subst₂, arith}
 use Rattle.rs_model.specs.Data.{Machine_data}
 use Rattle.rs_model.specs.declared.graph.Arm.{Arm}
-use Rattle.rs_model.specs.declared.graph.Label.{Label}
-use Rattle.rs_model.specs.declared.graph.Role.{Role}
 use Rattle.rs_model.specs.declared.machines.State.{State}
 use Rattle.rs_model.specs.declared.machines.State.TheVariants.{Done, Puts, Takes}
 use Rattle.rs_model.specs.declared.values.Sort.TheVariants as sort
 use Rattle.rs_model.specs.declared.values.Value.{Value}
 use Rattle.rs_model.specs.declared.values.Value.TheVariants as value
 use Rattle.rs_core.specs.Actors.{PlaysFrom}
-use Rattle.rs_core.specs.declared.messages.Message.{Message}
 use Rattle.rs_core.specs.Histories.{Action, Sent, Got, History}
-use Rattle.rs_core.proofs.Fifo.{sents, gots}
 use Rattle.rs_demos.specs.Acting.{by_demo, told_of}
 use Rattle.rs_demos.specs.Sessions.{Exchange, role, arm, states_from}
 use Rattle.rs_demos.specs.declared.actors.DemoActor.{DemoActor}
 use Rattle.rs_demos.specs.declared.actors.DemoActor.TheVariants as actor
-use Rattle.rs_demos.proofs.Playing.{sent-at, got-at, no-got, no-sent, over, only-arm, sents-cons, sents-skip, gots-cons, gots-skip}
+use Rattle.rs_demos.proofs.Playing.{sent-at, got-at, no-got, no-sent, over, only-arm}
 
 -- members hold a number
 

@@ -1,5 +1,5 @@
 -- Believed: what the actors of the demos choose, and what they become.
-use Rattle.std.specs.Prelude.{◌≡◌, ℕ, ◌/◌, ◌%◌, ℤ, pos, ◌+ℤ◌, ◌-ℤ◌, List, [], ◌∷◌, ◌++◌, take, drop, false, ◌==◌, if◌then◌else◌, Option, Some, None}
+use Rattle.std.specs.Prelude.{ℕ, ◌/◌, ◌%◌, ℤ, pos, ◌+ℤ◌, ◌-ℤ◌, List, [], ◌∷◌, ◌++◌, take, drop, false, ◌==◌, if◌then◌else◌, Option, Some, None}
 use Rattle.rs_model.specs.Sorts.{serves}
 use Rattle.rs_model.specs.declared.graph.Arm.{Arm}
 use Rattle.rs_model.specs.declared.values.Sort.{Sort}
@@ -10,7 +10,6 @@ use Rattle.rs_core.specs.Actors.{Choice, Behaviour}
 use Rattle.rs_demos.specs.Results.{inverted, wrapped}
 use Rattle.rs_demos.specs.declared.actors.DemoActor.{DemoActor}
 use Rattle.rs_demos.specs.declared.actors.DemoActor.TheVariants as actor
-use Rattle.rs_demos.specs.declared.parts.Kernel.{Kernel}
 use Rattle.rs_demos.specs.declared.parts.RingMember.{RingMember}
 use Rattle.rs_demos.specs.declared.parts.ButterflyMember.{ButterflyMember}
 

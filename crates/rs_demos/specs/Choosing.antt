@@ -1,10 +1,9 @@
 -- Believed: the law of the actors of the demos: each chooses an arm that is there, and a value of its sort.
-use Rattle.std.proofs.Common.{◌≡◌, ◌≢◌, ℕ, ◌<◌, ◌^◌, List, [], ◌∷◌, Option, Some, None, slice_get, Bool, true, false, refl, sym, subst, if◌then◌else◌, ◌==◌}
-use Rattle.rs_model.specs.Sorts.{HasSort, serves, sort_number}
+use Rattle.std.proofs.Common.{◌≡◌, ◌≢◌, ℕ, List, [], ◌∷◌, Option, Some, None, slice_get, Bool, true, false, refl, subst, if◌then◌else◌}
+use Rattle.rs_model.specs.Sorts.{HasSort, serves}
 use Rattle.rs_model.specs.declared.graph.Arm.{Arm}
 use Rattle.rs_model.specs.declared.values.Sort.{Sort}
 use Rattle.rs_model.specs.declared.values.Sort.TheVariants as sort
-use Rattle.rs_model.specs.declared.values.Value.{Value}
 use Rattle.rs_model.specs.declared.values.Value.TheVariants as value
 use Rattle.rs_core.specs.Actors.{ChoosesWell}
 use Rattle.rs_demos.specs.Acting.{wanted, sort_of, arm_place, octets_or_unit, next_piece, empty_value, empty_for, chosen_at, arm_for, by_demo}

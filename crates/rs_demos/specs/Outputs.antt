@@ -1,5 +1,5 @@
 -- Believed: what is printed of the actors of an ended run.
-use Rattle.std.specs.Prelude.{ℕ, ℤ, pos, List, [], ◌∷◌, ◌++◌, map, Option, Some, None, slice_get}
+use Rattle.std.specs.Prelude.{ℕ, ℤ, pos, List, [], map, Option, Some, slice_get}
 use Rattle.rs_demos.specs.Results.{results_text}
 use Rattle.rs_demos.specs.declared.actors.DemoActor.{DemoActor}
 use Rattle.rs_demos.specs.declared.actors.DemoActor.TheVariants as actor

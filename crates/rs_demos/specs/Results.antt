@@ -1,5 +1,5 @@
 -- Believed: what each demo computes of its input, said without any run.
-use Rattle.std.specs.Prelude.{◌≡◌, ℕ, ◌-◌, ◌%◌, ℤ, pos, ◌+ℤ◌, neg_ℤ, List, [], ◌∷◌, ◌++◌, map, Bool, ◌==◌, if◌then◌else◌, bit_and, count_ones}
+use Rattle.std.specs.Prelude.{◌≡◌, ℕ, ◌-◌, ◌%◌, ℤ, pos, ◌+ℤ◌, neg_ℤ, List, [], ◌∷◌, ◌++◌, map, ◌==◌, if◌then◌else◌, bit_and, count_ones}
 use Rattle.std.specs.List.{enumerate_from, join_with_byte}
 use Rattle.std.specs.Fmt.{signed_decimal}
 use Rattle.std.specs.Int.{w64, int_wrap}

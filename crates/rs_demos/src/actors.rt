@@ -165,7 +165,9 @@ impl Actor for DemoActor {
             }
             (DemoActor::Sink(sink), Value::Octets(piece)) => sink.append(piece.as_slice())?,
             (DemoActor::RingMember(member), Value::Whole(number)) => *member = member.told(*number),
-            (DemoActor::ButterflyMember(member), Value::Whole(number)) => *member = member.told(*number),
+            (DemoActor::ButterflyMember(member), Value::Whole(number)) => *member = member.told(
+                *number,
+            ),
             _ => {}
         }
         Ok(())

@@ -27,7 +27,6 @@ use Rattle.rs_model.specs.declared.graph.Arm.{Arm}
 use Rattle.rs_model.specs.declared.machines.State.TheVariants.{Puts, Takes}
 use Rattle.rs_model.specs.Sorts.{HasSort}
 use Rattle.rs_core.specs.Configurations.{state_of}
-use Rattle.rs_core.specs.Core.{arm_with}
 use Rattle.rs_slots.specs.Places.{IsPair}
 use Rattle.rs_rings.proofs.Legal.{last_none, sent_here, sent_other, got_here, got_other, same_legal, reached, legal_sent, legal_got, fitting_arm}
 use Rattle.rs_rings.proofs.OtherRings.{Homes, St, SendsAs, TakesAs, Else, sender_moves, receiver_moves}

@@ -7,7 +7,6 @@ use mathlib.Core.Logic.{dite}
 use Rattle.std.specs.Global.{Box}
 use Rattle.atomic_table.specs.Table.{Me}
 use Rattle.rs_model.specs.Data.{Machine_data}
-use Rattle.rs_model.specs.Sorts.{HasSort}
 use Rattle.rs_model.specs.declared.graph.Arm.{Arm}
 use Rattle.rs_model.specs.declared.graph.Role.{Role}
 use Rattle.rs_model.specs.declared.machines.State.{State}

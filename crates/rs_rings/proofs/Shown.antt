@@ -1,18 +1,18 @@
 -- The rule says what a table shows, and how a step changes it.
-use Rattle.std.proofs.Common.{if◌then◌else◌, ◌==◌, ◌≡◌, ◌≢◌, ◌⊎◌, ℕ, ◌+◌, ◌<◌, ◌≤◌, List, [], ◌∷◌, ◌++◌, true, length, drop, map, slice_index, Option, Some, slice_get, refl, sym, ap, ◌∙◌, subst, ⊎_elim}
-use mathlib.Core.Option.{some, some-injective}
+use Rattle.std.proofs.Common.{if◌then◌else◌, ◌==◌, ◌≡◌, ℕ, ◌+◌, ◌<◌, ◌≤◌, List, [], ◌∷◌, ◌++◌, length, drop, map, slice_index, Option, Some, slice_get, refl, sym, ap, ◌∙◌, subst, ⊎_elim}
+use mathlib.Core.Option.{some-injective}
 use lib.ListN.{get_elem?}
 use Rattle.atomic_table.specs.Table.{State}
 use Rattle.rs_model.specs.Data.{Machine_data}
 use Rattle.rs_core.specs.Configurations.{Configuration, state_of}
-use Rattle.rs_core.specs.Histories.{History, IsLegal}
+use Rattle.rs_core.specs.Histories.{IsLegal}
 use Rattle.rs_slots.specs.Places.{IsPair}
 use Rattle.rs_slots.specs.declared.parcels.Parcel.{Parcel}
-use Rattle.rs_rings.specs.Acts.{message_of, sent_act, got_act, parcels_sent, parcels_got, MayPut, MayTake, SendsParcel, ReceivesParcel}
+use Rattle.rs_rings.specs.Acts.{message_of, sent_act, got_act, parcels_sent, parcels_got, SendsParcel, ReceivesParcel}
 use Rattle.rs_rings.specs.Places.{head_of, tail_of}
 use Rattle.rs_rings.specs.Rule.{Shows, RingFacts, RingRule, ring_facts, Spoken, AreLegal, configuration_of, histories_of, machines_of}
 use Rattle.rs_rings.specs.Shown.{RingShown, Shown, IsSameAmong, Moves, LoadsHeadOf, StoresTailOf, LoadsTailOf, StoresHeadOf, SplitsOff, JoinsIn}
-use Rattle.rs_rings.specs.Views.{the_part, speaks, with_part, sending, getting, taken_from, left_by, alone, joined, spent_view}
+use Rattle.rs_rings.specs.Views.{the_part, sending, getting, taken_from}
 use Rattle.rs_rings.specs.declared.views.Key.{Key}
 use Rattle.rs_rings.specs.declared.views.Part.{Part}
 use Rattle.rs_rings.specs.declared.views.View.{View}

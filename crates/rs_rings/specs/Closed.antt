@@ -2,7 +2,7 @@
 use Rattle.std.specs.Prelude.{◌≡◌, ◌≢◌, ℕ, zero, suc, ◌+◌, ◌-◌, ◌/◌, ◌%◌, ◌<◌, nat_lt, if◌then◌else◌, List, [], ◌++◌, map, length}
 use Rattle.rs_model.specs.Data.{Machine_data}
 use Rattle.rs_core.specs.Configurations.{Configuration}
-use Rattle.rs_core.specs.Histories.{History, IsLegal}
+use Rattle.rs_core.specs.Histories.{IsLegal}
 use Rattle.rs_core.specs.Safety.{AllEnded}
 use Rattle.rs_slots.specs.declared.parcels.Parcel.{Parcel}
 use Rattle.rs_rings.specs.Acts.{numbered, message_of, parcels_sent, parcels_got}

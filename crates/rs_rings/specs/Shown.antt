@@ -1,5 +1,5 @@
 -- Believed: what the words, slots and views of a table show between any two steps, and what a step changes of it.
-use Rattle.std.specs.Prelude.{◌≡◌, ◌≢◌, ◌⊎◌, ℕ, ◌+◌, ◌<◌, ◌≤◌, true, false, List, [], ◌∷◌, ◌++◌, length, drop, map, slice_index, slice_set, Option, Some, None}
+use Rattle.std.specs.Prelude.{◌≡◌, ◌≢◌, ◌⊎◌, ℕ, ◌+◌, ◌<◌, ◌≤◌, true, false, [], ◌∷◌, ◌++◌, length, drop, map, slice_index, slice_set, Option, Some, None}
 use mathlib.Core.Option.{some}
 use lib.ListN.{get_elem?}
 use Rattle.atomic_table.specs.Table.{State}
@@ -12,7 +12,7 @@ use Rattle.rs_rings.specs.Places.{head_of, tail_of, place_of}
 use Rattle.rs_rings.specs.Rule.{machines_of}
 use Rattle.rs_rings.specs.Views.{speaks, the_part, last_found, is_putting, taken_from, with_part, looked_head, gaining, sending, looked_tail, taking, getting, left_by, alone, joined, spent_view}
 use Rattle.rs_rings.specs.declared.views.Key.{Key}
-use Rattle.rs_rings.specs.declared.views.Middle.TheVariants.{Idle, Putting, Taking}
+use Rattle.rs_rings.specs.declared.views.Middle.TheVariants.{Putting, Taking}
 use Rattle.rs_rings.specs.declared.views.Part.{Part}
 use Rattle.rs_rings.specs.declared.views.View.{View}
 

@@ -1,5 +1,5 @@
 -- No two rings share a word or a slot.
-use Rattle.std.proofs.Common.{◌≡◌, ◌≢◌, ℕ, suc, ◌+◌, ◌*◌, ◌-◌, ◌%◌, ◌/◌, ◌<◌, ◌≤◌, nat_lt, true, false, if◌then◌else◌, refl, sym, ap, ◌∙◌, subst, arith, mod-lt, mul_comm, inl, inr, mul-le-mul_right, suc-mul, lt_of_not-le, div-add-mod'}
+use Rattle.std.proofs.Common.{◌≡◌, ◌≢◌, ℕ, suc, ◌+◌, ◌*◌, ◌-◌, ◌%◌, ◌/◌, ◌<◌, ◌≤◌, refl, sym, ap, ◌∙◌, subst, arith, mod-lt, mul_comm, inl, inr, mul-le-mul_right, suc-mul, lt_of_not-le, div-add-mod'}
 use Rattle.std.proofs.lemmas.Bool.Decides.{leb_tells}
 use Rattle.std.proofs.lemmas.Nat.{same_from_place, mul-add-lt}
 use native.Mathlib.Nat.{add-mod_right}

@@ -1,6 +1,6 @@
 -- Believed: which words and which slots belong to which ring. There is one ring for each ordered pair of different roles.
 -- Rings are numbered sender by sender, and each sender's by its receivers.
-use Rattle.std.specs.Prelude.{◌≡◌, ◌≢◌, ℕ, ◌+◌, ◌*◌, ◌-◌, ◌%◌, ◌<◌, nat_lt, if◌then◌else◌}
+use Rattle.std.specs.Prelude.{◌≢◌, ℕ, ◌+◌, ◌*◌, ◌-◌, ◌%◌, ◌<◌, nat_lt, if◌then◌else◌}
 
 -- an ordered pair of different roles among so many
 pub record IsPair (roles p q : ℕ) : Type 0 where

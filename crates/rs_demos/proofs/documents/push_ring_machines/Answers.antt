@@ -1,4 +1,4 @@
-use Rattle.std.proofs.Common.{◌≡◌, ◌+◌, ◌-◌, ◌<◌, ◌++◌, ℕ, List, map, refl, ap, ◌∙◌, append-nil, arith}
+use Rattle.std.proofs.Common.{◌<◌, ℕ, List, refl, arith}
 use Rattle.rs_demos.proofs.Ranges.{one-more}
 use Rattle.std.specs.List.{flat_map}
 use Rattle.rs_demos.specs.Writing.{ring_line}

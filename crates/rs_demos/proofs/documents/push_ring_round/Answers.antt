@@ -1,4 +1,4 @@
-use Rattle.std.proofs.Common.{◌≡◌, ◌+◌, ◌-◌, ◌<◌, ◌++◌, ℕ, List, map, refl, ap, ◌∙◌, append-nil, arith}
+use Rattle.std.proofs.Common.{◌<◌, ℕ, List, map, refl, arith}
 use Rattle.rs_demos.proofs.Ranges.{one-more}
 use Rattle.rs_demos.specs.Sessions.{next_in_ring}
 use Rattle.rs_demos.specs.Writing.{exchange_text, exchanges_text}

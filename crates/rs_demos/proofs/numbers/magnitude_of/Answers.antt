@@ -1,5 +1,4 @@
-use Rattle.std.proofs.Common.{◌≡◌, ◌+◌, ◌-◌, ◌*◌, ◌≤◌, ℕ, length, get_or, ap, ◌∙◌, subst, arith}
-use Rattle.std.specs.Str.Parse.{digits_value}
+use Rattle.std.proofs.Common.{◌+◌, ◌*◌, ◌≤◌, ℕ, length, ap, ◌∙◌, arith}
 use Rattle.rs_demos.proofs.Digits.{longer, digit-at}
 use Rattle.rs_demos.proofs.numbers.magnitude_of.Goals as goal
 

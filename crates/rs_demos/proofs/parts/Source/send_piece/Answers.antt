@@ -1,4 +1,4 @@
-use Rattle.std.proofs.Common.{◌≡◌, ◌+◌, ◌≤◌, List, ℕ, length, take, drop, ap, sym, ◌∙◌, subst, arith}
+use Rattle.std.proofs.Common.{◌≡◌, ◌+◌, List, ℕ, length, take, drop, ap, sym, ◌∙◌, arith}
 use Rattle.rs_demos.proofs.Pieces.{send-on, within}
 use Rattle.rs_demos.proofs.parts.Source.send_piece.Goals as goal
 

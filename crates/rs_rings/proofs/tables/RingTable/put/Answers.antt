@@ -2,7 +2,7 @@ use Rattle.std.proofs.Common.{rules, ◌≡◌, ◌<◌, ◌+◌, ℕ, List, len
 use Rattle.rs_model.specs.Data.{Machine_data}
 use Rattle.rs_model.specs.declared.graph.Arm.{Arm}
 use Rattle.rs_core.specs.Core.{arm_with}
-use Rattle.rs_rings.specs.Acts.{MayPut, parcels_sent}
+use Rattle.rs_rings.specs.Acts.{MayPut}
 use Rattle.rs_rings.specs.Rule.{machines_of}
 use Rattle.rs_rings.specs.Views.{the_part}
 use Rattle.rs_rings.specs.declared.views.Part.{Part}

@@ -1,4 +1,4 @@
-use Rattle.std.proofs.Common.{rules, ◌≡◌, ◌<◌, ◌+◌, ℕ, length, refl, ap, ◌∙◌, arith}
+use Rattle.std.proofs.Common.{rules, ◌<◌, ◌+◌, ℕ, length, refl, ap, ◌∙◌, arith}
 use Rattle.rs_rings.specs.Rule.{machines_of}
 use Rattle.rs_rings.proofs.PassRows.{take_knows, kept_got, kept_looked, changed}
 use Rattle.rs_rings.proofs.tables.RingTable.take.Goals as goal

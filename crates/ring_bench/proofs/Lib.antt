@@ -1,0 +1,3 @@
+pub mod Safe
+pub mod Plays
+pub mod Sends
