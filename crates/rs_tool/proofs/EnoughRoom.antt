@@ -1,7 +1,7 @@
 -- A run whose queues hold as many messages as the room says is never full.
 use Rattle.std.proofs.Common.{◌≡◌, ℕ, ◌≤◌, List, Some, sym, ap, subst, ◌∙◌}
 use Rattle.rs_core.specs.Draws.{by_draws}
-use Rattle.rs_core.specs.Plain.{Moment, Ending, Ended, Stopped, Stuck, IsPlain}
+use Rattle.rs_core.specs.Plain.{Moment, Ending, Stuck, IsPlain}
 use Rattle.rs_derive.specs.Data.{Derivation_data}
 use Rattle.rs_documents.specs.Data.{Document_data}
 use Rattle.rs_documents.specs.Documents.{SpellsDocument}
@@ -23,7 +23,7 @@ use Rattle.rs_tool.specs.declared.statuses.Verdict.{Verdict}
 use Rattle.rs_tool.specs.declared.statuses.Verdict.TheVariants.{Full}
 use Rattle.rs_tool.proofs.Derivings.{canonical_safe, derivations_are, one_each, session_of}
 use Rattle.rs_tool.proofs.Headline.{no-run, refusal-is-no-run}
-use Rattle.rs_tool.proofs.Unique.{one_session_derived, same_session}
+use Rattle.rs_tool.proofs.Unique.{one_session_derived}
 
 -- what is told of an end with the verdict `Full` is told of a run in which no role could move
 stuck : (names : Names_data) (ms : List Machine_data) (ds : List Derivation_data) (options : RunOptions) (capacity : ℕ) (a : Answer_data) (o : Ending ℕ) → ((end : Moment ℕ) → IsPlain ms by_draws (actor_of options.seed) options.limit (Some capacity) (Stuck end) → ⊥)

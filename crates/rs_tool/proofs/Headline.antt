@@ -1,5 +1,5 @@
 -- An accepted text spells safe machines.
-use Rattle.std.proofs.Common.{◌≡◌, ℕ, List, [], true, false, Option, Some, None, refl, sym, ap, subst, ◌∙◌}
+use Rattle.std.proofs.Common.{◌≡◌, ℕ, List, [], true, false, Option, Some, None, sym, subst}
 use Rattle.std.specs.Prelude.{IfSome}
 use Rattle.rs_core.specs.Safety.{IsSafe}
 use Rattle.rs_project.specs.declared.projecting.ProjFault.{ProjFault}
@@ -17,9 +17,6 @@ use Rattle.rs_wellformed.specs.declared.checks.WfFault.TheVariants as wf
 use Rattle.rs_tool.specs.Statuses.{status_of}
 use Rattle.rs_tool.specs.declared.statuses.Status.{Status}
 use Rattle.rs_tool.specs.declared.statuses.Status.TheVariants as status
-use Rattle.rs_tool.specs.declared.statuses.Verdict.{Verdict}
-use Rattle.rs_tool.specs.declared.statuses.Verdict.TheVariants as verdict
-use Rattle.rs_tool.specs.declared.statuses.Verdict.TheVariants.{Fine}
 use Rattle.rs_pipeline.specs.Pipelines.{pipeline_text, pipeline_of}
 use Rattle.rs_tool.specs.Answers.{Answers, SpellsNothing, CarriesOut, AnswersText, IsTooLong, IsFaulty, IsDerived, IsDocument, AnswersDocument, AnswersTask, IsNotBuilt, ReadsInput, MakesPipeline}
 use Rattle.rs_tool.specs.Calls.{ForInput, Tells, TellsAll, TellsPart, TellsReadFault, TellsNoMemory}
