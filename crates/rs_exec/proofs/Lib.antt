@@ -1,2 +1,3 @@
 pub mod Buffering
+pub mod Ends
 pub mod NeverFull

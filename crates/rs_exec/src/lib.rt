@@ -2,6 +2,7 @@
 #![tactic(auto)]
 
 mod inline;
+pub mod laws;
 #[cfg(test)]
 mod tests;
 

@@ -1,11 +1,11 @@
 -- One piece more of a text that is put together piece by piece.
 use Rattle.std.proofs.Common.{◌≡◌, ℕ, suc, ◌+◌, ◌++◌, List, codes, ap, append_assoc, arith, refl}
-use Rattle.rs_pipeline.specs.Pipelines.{more_names, role_name, round_text, rounds_text, sends_text, value_text, values_text}
+use Rattle.rs_pipeline.specs.Pipelines.{more_names, numbered_role, round_text, rounds_text, sends_text, value_text, values_text}
 
 one_more : (n : ℕ) → n + 1 ≡ suc n
 one_more n = omega arith
 
-pub one_name_more : (n : ℕ) → more_names (n + 1) ≡ more_names n ++ codes ", " ++ role_name (n + 1)
+pub one_name_more : (n : ℕ) → more_names (n + 1) ≡ more_names n ++ codes ", " ++ numbered_role (n + 1)
 one_name_more n = ap more_names (one_more n)
 
 pub one_value_more : (n : ℕ) → values_text (n + 1) ≡ values_text n ++ value_text n

@@ -7,4 +7,4 @@ mod tests;
 mod texts;
 
 pub use pipelines::{Pipeline, pipeline_of};
-pub use texts::{document_text, summary_text};
+pub use texts::{pipeline_summary, pipeline_text};

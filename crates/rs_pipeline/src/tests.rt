@@ -1,6 +1,6 @@
 //! The documents of small pipelines, written by hand.
 
-use crate::{document_text, pipeline_of, summary_text};
+use crate::{pipeline_of, pipeline_summary, pipeline_text};
 use rs_model::NoMemory;
 use std::alloc::Global;
 use std::test::Fail;
@@ -13,8 +13,8 @@ fn is_summed_up_and_written(
 ) -> Result<bool, NoMemory> {
     let pipeline = pipeline_of(number);
     Ok(
-        summary_text(alloc, pipeline)?.as_slice() == summary.as_bytes()
-            && document_text(alloc, pipeline)?.as_slice() == document.as_bytes(),
+        pipeline_summary(alloc, pipeline)?.as_slice() == summary.as_bytes()
+            && pipeline_text(alloc, pipeline)?.as_slice() == document.as_bytes(),
     )
 }
 

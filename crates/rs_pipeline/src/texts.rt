@@ -1,4 +1,4 @@
-//! The texts of pipespec.
+//! The texts of pipelines.
 
 ghost use Rattle.std.specs.Prelude.{◌≡◌, ◌≤◌, ◌<◌, ◌^◌, ◌+◌, ◌-◌, ◌++◌, IfOk, OnOk, codes};
 ghost use Rattle.std.specs.Fmt.{decimal};
@@ -11,7 +11,7 @@ use std::alloc::Global;
 
 /// Appends the name of the role.
 fn push_role(text: &mut Text, role: u32) -> Result<(), NoMemory>
-    ensures { OnOk result (text.new ≡ text.old ++ spec.role_name role) }
+    ensures { OnOk result (text.new ≡ text.old ++ spec.numbered_role role) }
 {
     text.push(b"R")?;
     text.push_number(u64::from(role))
@@ -74,7 +74,7 @@ fn push_rounds(text: &mut Text, last: u32, count: u32) -> Result<(), NoMemory>
 /// Appends the roles line and the protocol.
 fn push_protocol(text: &mut Text, pipeline: Pipeline) -> Result<(), NoMemory>
     requires { 2 ≤ pipeline.roles }
-    ensures { OnOk result (text.new ≡ text.old ++ spec.protocol_text pipeline) }
+    ensures { OnOk result (text.new ≡ text.old ++ spec.pipeline_protocol pipeline) }
 {
     let last = pipeline.roles - 1;
     text.push(b"roles R0")?;
@@ -119,7 +119,7 @@ fn push_loop(text: &mut Text, pipeline: Pipeline) -> Result<(), NoMemory>
 /// Appends the machine of the first role.
 fn push_machine(text: &mut Text, pipeline: Pipeline) -> Result<(), NoMemory>
     requires { 2 ≤ pipeline.roles }
-    ensures { OnOk result (text.new ≡ text.old ++ spec.machine_text pipeline) }
+    ensures { OnOk result (text.new ≡ text.old ++ spec.pipeline_machine pipeline) }
 {
     text.push(b"machine R0: ")?;
     push_sends(text, pipeline.ahead)?;
@@ -128,9 +128,9 @@ fn push_machine(text: &mut Text, pipeline: Pipeline) -> Result<(), NoMemory>
 }
 
 /// The document of a pipeline among 2 roles or more: its protocol, and the machine of the first role where it sends ahead.
-pub fn document_text(alloc: Global, pipeline: Pipeline) -> Result<Text, NoMemory>
+pub fn pipeline_text(alloc: Global, pipeline: Pipeline) -> Result<Text, NoMemory>
     requires { 2 ≤ pipeline.roles }
-    ensures { IfOk result (λ text. text ≡ spec.document_text pipeline) }
+    ensures { IfOk result (λ text. text ≡ spec.pipeline_text pipeline) }
 {
     let mut text = Text::new(alloc);
     push_protocol(&mut text, pipeline)?;
@@ -141,8 +141,8 @@ pub fn document_text(alloc: Global, pipeline: Pipeline) -> Result<Text, NoMemory
 }
 
 /// The line that says what the pipeline is.
-pub fn summary_text(alloc: Global, pipeline: Pipeline) -> Result<Text, NoMemory>
-    ensures { IfOk result (λ text. text ≡ spec.summary_text pipeline) }
+pub fn pipeline_summary(alloc: Global, pipeline: Pipeline) -> Result<Text, NoMemory>
+    ensures { IfOk result (λ text. text ≡ spec.pipeline_summary pipeline) }
 {
     let mut text = Text::new(alloc);
     text.push(b"roles ")?;

@@ -1,5 +1,5 @@
 -- What an answer that was made says of its document, and a call that wrote it of its source and sink.
-use Rattle.std.proofs.Common.{◌≡◌, ℕ, ◌≤◌, ◌<◌, ◌⊎◌, List, length, true, false, Option, Some, None, Result, Ok, Err, refl, sym, ap, subst, ◌∙◌, inl, inr}
+use Rattle.std.proofs.Common.{◌≡◌, ℕ, ◌≤◌, ◌<◌, ◌⊎◌, List, length, Bool, true, false, Option, Some, None, Result, Ok, Err, refl, sym, ap, subst, ◌∙◌, inl, inr}
 use Rattle.std.specs.Prelude.{IfOk, IfErr, IsErrAnd, IfSome, codes}
 use Rattle.std.specs.Io.KnownBytes.{Appends, Keeps, IsAtEnd}
 use Rattle.rs_io.specs.Prefix.{AppendsPrefix}
@@ -24,9 +24,12 @@ use Rattle.rs_tool.specs.declared.statuses.Status.{Status}
 use Rattle.rs_tool.specs.declared.statuses.Status.TheVariants as status
 use Rattle.rs_tool.specs.declared.statuses.Verdict.{Verdict}
 use Rattle.rs_tool.specs.declared.statuses.Verdict.TheVariants as verdict
-use Rattle.rs_tool.specs.declared.words.Task.{Task}
-use Rattle.rs_tool.specs.Answers.{Answers, CarriesOut, AnswersText, IsTooLong, IsFaulty, IsDocument, AnswersDocument}
-use Rattle.rs_tool.specs.Calls.{Ends, IsStopped, Tells, TellsAll, TellsPart}
+use Rattle.rs_words.specs.declared.tasks.Task.{Task}
+use Rattle.rs_words.specs.declared.tasks.Task.TheVariants as task
+use Rattle.rs_words.specs.Meaning.{IsMeaning, SpellsTask}
+use Rattle.rs_words.proofs.Exact.{words_spell_one_task}
+use Rattle.rs_tool.specs.Answers.{Answers, CarriesOut, AnswersText, IsTooLong, IsFaulty, IsDocument, AnswersDocument, AnswersTask, ReadsInput}
+use Rattle.rs_tool.specs.Calls.{Ends, ForInput, IsStopped, Tells, TellsAll, TellsPart, TellsReadFault, TellsNoMemory}
 use Rattle.rs_tool.specs.Checks as checks
 use Rattle.rs_tool.specs.Checks.{Checks}
 use Rattle.rs_documents.specs.Data.{Document_data}
@@ -38,11 +41,16 @@ use Rattle.rs_tool.specs.declared.derivations.Underivable.{Underivable}
 use Rattle.rs_tool.specs.declared.refusals.Refusal.{Refusal}
 use Rattle.rs_tool.specs.declared.refusals.Refusal.TheVariants as refusal
 use Rattle.rs_tool.specs.Report.{report}
+use Rattle.rs_tool.specs.Runs as runs
+use Rattle.rs_tool.specs.Runs.{Runs, TellsRun}
+use Rattle.rs_tool.specs.declared.runs.RunOptions.{RunOptions}
 use Rattle.rs_tool.specs.Sessions.{HasMachines, Refuses, first_refusal, machines_of}
-use Rattle.rs_tool.specs.Statuses.{status_of}
+use Rattle.rs_tool.specs.Statuses.{status_after, status_of}
+use Rattle.rs_tool.specs.declared.statuses.Stop.{Stop}
+use Rattle.rs_tool.specs.declared.statuses.Stop.TheVariants as stop
 use Rattle.rs_tool.specs.Tables as tables
 use Rattle.rs_tool.specs.Tables.{Projects}
-use Rattle.rs_tool.specs.Words.{reads, task_of}
+use Rattle.rs_tool.specs.Tasks.{ReadTheInput, reads_input}
 
 -- an answer that was made is the one that is meant
 meant : (P : Answer_data → Type 0) (r : Result Answer_data NoMemory) (a : Answer_data) → IfOk r (λ m. m ≡ a) → ((m : Answer_data) → m ≡ a → P m) → IfOk r P
@@ -64,6 +72,17 @@ refused bound d why (Ok m) (inr h) is never = checks.IsRefused why h is
 pub accepted : (bound : ℕ) (d : Document_data) (ps : List Projection_data) (ms : List Machine_data) (ds : List Derivation_data) (r : Result Answer_data NoMemory) → HasMachines d ps ms → AreCanonical bound ms ps ds
     → IfOk r (λ a. a ≡ report d.names.roles ds) → IfOk r (Checks bound d)
 accepted bound d ps ms ds r h found is = meant (Checks bound d) r (report d.names.roles ds) is (λ m x. checks.IsAccepted ps ms ds h found x)
+
+-- the document is refused, and so isn't run; or its session is run
+pub refused_run : (options : RunOptions) (d : Document_data) (why : Refusal) (r : Result Answer_data NoMemory) → (why ≡ refusal.NoMemory) ⊎ HasNoDerivations options.bound d why → IfOk r (λ a. a ≡ refusal_answer d.names why)
+    → IfOk r (λ a. why ≡ refusal.NoMemory → ⊥) → IfOk r (Runs options d)
+refused_run options d why (Err e) h is never = tt
+refused_run options d why (Ok m) (inl memory) is never = absurd (never memory)
+refused_run options d why (Ok m) (inr h) is never = runs.IsRefused why h is
+
+pub is_run : (options : RunOptions) (d : Document_data) (ps : List Projection_data) (ms : List Machine_data) (ds : List Derivation_data) (r : Result Answer_data NoMemory) → HasMachines d ps ms → AreCanonical options.bound ms ps ds
+    → IfOk r (TellsRun options d.names ms ds) → IfOk r (Runs options d)
+is_run options d ps ms ds r h found is = made (TellsRun options d.names ms ds) (Runs options d) r is (λ m x. runs.IsRun ps ms ds h found x)
 
 -- why there is no session, or no derivation
 pub no_projection : (d : Document_data) (f : ProjFault) → first_fault d.protocol ≡ None → (f ≡ proj.NoMemory) ⊎ Refuses d.protocol f → (of_projecting f ≡ refusal.NoMemory) ⊎ HasNoSession d (of_projecting f)
@@ -142,9 +161,46 @@ pub where_told : (o : Option (List ℕ)) (P : List ℕ → Type 0) → ((bytes :
 where_told (Some bytes) P h = h bytes
 where_told None P h = tt
 
-pub of_long : (words : List (List ℕ)) (t : Task) (o : Option (List ℕ)) (a : Answer_data) → task_of words ≡ Some t → IfSome o (λ bytes. MOST_BYTES < length bytes) → a ≡ too_large (codes "text") → IfSome o (λ bytes. Answers words bytes a)
-of_long words t (Some bytes) a e long is = CarriesOut t e (IsTooLong long is)
-of_long words t None a e long is = tt
+pub of_long : (t : Task) (o : Option (List ℕ)) (a : Answer_data) → reads_input t ≡ true → IfSome o (λ bytes. MOST_BYTES < length bytes) → a ≡ too_large (codes "text") → IfSome o (λ bytes. AnswersTask t bytes a)
+of_long t (Some bytes) a reads long is = ReadsInput reads (IsTooLong long is)
+of_long t None a reads long is = tt
+
+-- the answer of the task that the words spell is the answer to the words
+of_task : (words : List (List ℕ)) (t : Task) (o : Option (List ℕ)) (a : Answer_data) → SpellsTask words t → IfSome o (λ bytes. AnswersTask t bytes a) → IfSome o (λ bytes. Answers words bytes a)
+of_task words t (Some bytes) a s h = CarriesOut t s h
+of_task words t None a s h = tt
+
+-- words that read nothing spell a task that doesn't
+doesnt_read : (words : List (List ℕ)) (t : Task) → SpellsTask words t → (ReadTheInput words → ⊥) → reads_input t ≡ false
+doesnt_read words t s none = go (reads_input t) refl
+  where
+    go : (b : Bool) → reads_input t ≡ b → b ≡ false
+    go true e = absurd (none (t, s, e))
+    go false e = refl
+
+pub unread_by_task : {S : Type 0} (words : List (List ℕ)) (t : Task) (source behind : S) → SpellsTask words t → (reads_input t ≡ false → behind ≡ source) → (ReadTheInput words → ⊥) → behind ≡ source
+unread_by_task words t source behind s h none = h (doesnt_read words t s none)
+
+pub read_by_task : (words : List (List ℕ)) (t : Task) (P : Type 0) → SpellsTask words t → (reads_input t ≡ true → P) → ReadTheInput words → P
+read_by_task words t P s h read = h (subst (λ (x : Task). reads_input x ≡ true) (words_spell_one_task words read.0 t read.1 s) read.2)
+
+for_task : (words : List (List ℕ)) (t : Task) (o : Option (List ℕ)) (a : Answer_data) → SpellsTask words t → IfSome o (λ bytes. AnswersTask t bytes a) → (reads_input t ≡ false → (bytes : List ℕ) → AnswersTask t bytes a)
+    → ForInput words o (λ bytes. Answers words bytes a)
+for_task words t o a s told unasked = record {
+  told = of_task words t o a s told;
+  unread = λ none bytes. CarriesOut t s (unasked (doesnt_read words t s none) bytes);
+}
+
+pub for_task_made : {E : Type 0} (words : List (List ℕ)) (t : Task) (o : Option (List ℕ)) (r : Result Answer_data E) → SpellsTask words t → IfSome o (λ bytes. IfOk r (AnswersTask t bytes))
+    → (reads_input t ≡ false → IfOk r (λ a. (bytes : List ℕ) → AnswersTask t bytes a)) → IfOk r (λ a. ForInput words o (λ bytes. Answers words bytes a))
+for_task_made words t o (Ok a) s told unasked = for_task words t o a s told unasked
+for_task_made words t o (Err e) s told unasked = tt
+
+pub nothing_reads : (words : List (List ℕ)) → IsMeaning words None → ReadTheInput words → ⊥
+nothing_reads words none read = none read.0 read.1
+
+pub for_any : (words : List (List ℕ)) (o : Option (List ℕ)) (P : List ℕ → Type 0) → ((bytes : List ℕ) → P bytes) → ForInput words o P
+for_any words o P h = record { told = where_told o P h; unread = λ none bytes. h bytes }
 
 pub keeps_same : (o : Option (List ℕ)) → Keeps o o
 keeps_same (Some bytes) = refl
@@ -163,6 +219,10 @@ no_stop verdict.Unprojectable (inl e) = cc
 no_stop verdict.Unprojectable (inr e) = cc
 no_stop verdict.TooLarge (inl e) = cc
 no_stop verdict.TooLarge (inr e) = cc
+no_stop verdict.Stopped (inl e) = cc
+no_stop verdict.Stopped (inr e) = cc
+no_stop verdict.Full (inl e) = cc
+no_stop verdict.Full (inr e) = cc
 no_stop verdict.NotBuilt (inl e) = cc
 no_stop verdict.NotBuilt (inr e) = cc
 
@@ -173,17 +233,24 @@ no_write_fault verdict.Usage e = cc
 no_write_fault verdict.Malformed e = cc
 no_write_fault verdict.Unprojectable e = cc
 no_write_fault verdict.TooLarge e = cc
+no_write_fault verdict.Stopped e = cc
+no_write_fault verdict.Full e = cc
 no_write_fault verdict.NotBuilt e = cc
 
-tells_all : (words : List (List ℕ)) (left written new : Option (List ℕ)) (a : Answer_data) (s : Status) → s ≡ status_of a.verdict → IfSome left (λ bytes. Answers words bytes a) → Appends written new a.text
-    → IfSome left (λ bytes. Tells words bytes written new s)
-tells_all words (Some bytes) written new a s is h text = TellsAll a h text is
-tells_all words None written new a s is h text = tt
+if_told : (left : Option (List ℕ)) (P Q : List ℕ → Type 0) → ((bytes : List ℕ) → P bytes → Q bytes) → IfSome left P → IfSome left Q
+if_told (Some bytes) P Q next h = next bytes h
+if_told None P Q next h = tt
 
-tells_part : (words : List (List ℕ)) (left written new : Option (List ℕ)) (a : Answer_data) → IfSome left (λ bytes. Answers words bytes a) → AppendsPrefix written new a.text
-    → IfSome left (λ bytes. Tells words bytes written new status.WriteFault)
-tells_part words (Some bytes) written new a h text = TellsPart a h text refl
-tells_part words None written new a h text = tt
+for_input : (words : List (List ℕ)) (left : Option (List ℕ)) (P Q : List ℕ → Type 0) → ((bytes : List ℕ) → P bytes → Q bytes) → ForInput words left P → ForInput words left Q
+for_input words left P Q next h = record { told = if_told left P Q next h.told; unread = λ none bytes. next bytes (h.unread none bytes) }
+
+tells_all : (words : List (List ℕ)) (left written new : Option (List ℕ)) (a : Answer_data) (s : Status) → s ≡ status_of a.verdict → ForInput words left (λ bytes. Answers words bytes a) → Appends written new a.text
+    → ForInput words left (λ bytes. Tells words bytes written new s)
+tells_all words left written new a s is h text = for_input words left _ _ (λ bytes own. TellsAll a own text is) h
+
+tells_part : (words : List (List ℕ)) (left written new : Option (List ℕ)) (a : Answer_data) → ForInput words left (λ bytes. Answers words bytes a) → AppendsPrefix written new a.text
+    → ForInput words left (λ bytes. Tells words bytes written new status.WriteFault)
+tells_part words left written new a h text = for_input words left _ _ (λ bytes own. TellsPart a own text refl) h
 
 at_end : (left later : Option (List ℕ)) (s : Status) → IfSome left (λ bytes. length bytes ≤ MOST_BYTES → IsAtEnd later) → IfSome left (λ bytes. length bytes ≤ MOST_BYTES → (IsStopped s → ⊥) → IsAtEnd later)
 at_end (Some bytes) later s h = λ short went. h short
@@ -191,7 +258,7 @@ at_end None later s h = tt
 
 -- the answer was written whole
 pub ends_whole : {S : Type 0} (words : List (List ℕ)) (left later written new : Option (List ℕ)) (read_rose write_rose : Type 0) (source behind : S) (a : Answer_data) (s : Status) → s ≡ status_of a.verdict
-    → IfSome left (λ bytes. Answers words bytes a) → Appends written new a.text → (reads words ≡ false → behind ≡ source) → (reads words ≡ true → IfSome left (λ bytes. length bytes ≤ MOST_BYTES → IsAtEnd later))
+    → ForInput words left (λ bytes. Answers words bytes a) → Appends written new a.text → ((ReadTheInput words → ⊥) → behind ≡ source) → (ReadTheInput words → IfSome left (λ bytes. length bytes ≤ MOST_BYTES → IsAtEnd later))
     → Ends words left later written new read_rose write_rose source behind s
 ends_whole {S} words left later written new read_rose write_rose source behind a s is h text unread end = record {
   answer = tells_all words left written new a s is h text;
@@ -204,7 +271,7 @@ ends_whole {S} words left later written new read_rose write_rose source behind a
 
 -- a first part of it was written
 pub ends_early : {S : Type 0} (words : List (List ℕ)) (left later written new : Option (List ℕ)) (read_rose write_rose : Type 0) (source behind : S) (a : Answer_data)
-    → IfSome left (λ bytes. Answers words bytes a) → AppendsPrefix written new a.text → write_rose → (reads words ≡ false → behind ≡ source) → (reads words ≡ true → IfSome left (λ bytes. length bytes ≤ MOST_BYTES → IsAtEnd later))
+    → ForInput words left (λ bytes. Answers words bytes a) → AppendsPrefix written new a.text → write_rose → ((ReadTheInput words → ⊥) → behind ≡ source) → (ReadTheInput words → IfSome left (λ bytes. length bytes ≤ MOST_BYTES → IsAtEnd later))
     → Ends words left later written new read_rose write_rose source behind status.WriteFault
 ends_early {S} words left later written new read_rose write_rose source behind a h text rose unread end = record {
   answer = tells_part words left written new a h text;
@@ -214,6 +281,34 @@ ends_early {S} words left later written new read_rose write_rose source behind a
   unread = unread;
   end = λ r. at_end left later status.WriteFault (end r);
 }
+
+-- nothing was written, since no answer was made
+pub ends_stopped : {S : Type 0} (words : List (List ℕ)) (left later written : Option (List ℕ)) (read_rose write_rose : Type 0) (source behind : S) (why : Stop) (s : Status) → s ≡ status_after why → (why ≡ stop.ReadFault → read_rose)
+    → ((ReadTheInput words → ⊥) → behind ≡ source) → Ends words left later written written read_rose write_rose source behind s
+ends_stopped {S} words left later written read_rose write_rose source behind why s is rose unread = record {
+  answer = for_any words left _ (λ bytes. tells why is);
+  stopped = λ _. keeps_same written;
+  read_fault = λ e. rose (was_read why (sym is ∙ e));
+  write_fault = λ e. absurd (no_write why (sym is ∙ e));
+  unread = unread;
+  end = λ read. where_told left _ (λ bytes short went. absurd (went (is_stopped why is)));
+}
+  where
+    tells : {bytes : List ℕ} (w : Stop) → s ≡ status_after w → Tells words bytes written written s
+    tells stop.ReadFault e = TellsReadFault (keeps_same written) e
+    tells stop.NoMemory e = TellsNoMemory (keeps_same written) e
+
+    was_read : (w : Stop) → status_after w ≡ status.ReadFault → w ≡ stop.ReadFault
+    was_read stop.ReadFault e = refl
+    was_read stop.NoMemory e = absurd cc
+
+    no_write : (w : Stop) → status_after w ≡ status.WriteFault → ⊥
+    no_write stop.ReadFault e = cc
+    no_write stop.NoMemory e = cc
+
+    is_stopped : (w : Stop) → s ≡ status_after w → IsStopped s
+    is_stopped stop.ReadFault e = inl e
+    is_stopped stop.NoMemory e = inr e
 
 pub some_tables : (d : Document_data) (ps : List Projection_data) (text : List ℕ) → first_fault d.protocol ≡ None → AreNumberedProjections d.protocol ps → text ≡ tables.tables_text d.names ps
     → Projects d (record { text = text; verdict = verdict.Fine })

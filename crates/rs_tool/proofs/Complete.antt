@@ -1,12 +1,12 @@
 -- A text whose machines may be derived is accepted.
-use Rattle.std.proofs.Common.{◌≡◌, ◌⊎◌, inl, inr, ℕ, zero, suc, List, [], ◌∷◌, length, Bool, true, Option, Some, None, ap, ◌∙◌, if◌then◌else◌, refl, arith}
+use Rattle.std.proofs.Common.{◌≡◌, ◌⊎◌, inl, inr, ℕ, zero, suc, List, [], ◌∷◌, length, false, Option, Some, None, ap, ◌∙◌, refl, arith}
 use Rattle.rs_derive.specs.Data.{Derivation_data}
 use Rattle.rs_documents.proofs.SpeltSessions.{spelt_session}
 use Rattle.rs_model.proofs.Faults as of_machines
 use Rattle.rs_model.specs.Data.{Machine_data}
 use Rattle.rs_search.proofs.Deciding.{not_refused}
 use Rattle.rs_wellformed.proofs.Faults as of_protocols
-use Rattle.rs_tool.specs.Answers.{Answers, CarriesOut, IsDocument}
+use Rattle.rs_tool.specs.Answers.{Answers, CarriesOut, IsDocument, ReadsInput}
 use Rattle.rs_tool.specs.Calls.{Ends, Tells, TellsAll, TellsPart, TellsReadFault, TellsNoMemory}
 use Rattle.rs_tool.specs.Checks.{IsAccepted}
 use Rattle.rs_tool.specs.Completeness.{AllFit, IsComplete, SpellsDerivableSession}
@@ -16,17 +16,13 @@ use Rattle.rs_tool.specs.Machines.{machines_of}
 use Rattle.rs_tool.specs.Report.{report}
 use Rattle.rs_tool.specs.Sessions.{HasMachines, first_refusal}
 use Rattle.rs_tool.specs.Statuses.{status_of}
-use Rattle.rs_tool.specs.Words.{is_check, is_show, is_project, task_of}
-use Rattle.rs_tool.specs.declared.derivations.TheConstants.{DEFAULT_BOUND}
+use Rattle.rs_tool.specs.Tasks.{SpellsCheck}
 use Rattle.rs_tool.specs.declared.statuses.Status.{Status}
 use Rattle.rs_tool.specs.declared.statuses.Status.TheVariants as status
-use Rattle.rs_tool.specs.declared.words.Task.TheVariants as task
+use Rattle.rs_words.specs.declared.tasks.Task.TheVariants as task
 use Rattle.rs_tool.proofs.Derivings.{session_of}
 use Rattle.rs_tool.proofs.SomeAnswer.{Searched, AllFound, OneIsnt, found_first}
 use Rattle.rs_tool.proofs.Unique.{one_answer}
-
-check_is_a_task : (words : List (List ℕ)) → is_check words ≡ true → task_of words ≡ Some task.Check
-check_is_a_task words e = ap (λ (b : Bool). if b then Some task.Check else if is_show words then Some task.Show else if is_project words then Some task.Project else None) e
 
 -- where each machine is well formed none is refused
 none_refused : (roles : ℕ) (machines : List Machine_data) → AllFit roles machines → first_refusal roles machines ≡ None
@@ -54,26 +50,27 @@ derived bound bytes s =
     go (OneIsnt role fault u) = absurd (not_refused u.machine u.projection.machine bound (s.derivable role.0 u.machine u.projection u.runs u.projects) fault u.cause u.refused)
 
 -- the answer to such a text
-abbrev answer_of : (bytes : List ℕ) → SpellsDerivableSession DEFAULT_BOUND bytes → Answer_data
-answer_of bytes s = report s.document.names.roles (derived DEFAULT_BOUND bytes s).0
+abbrev answer_of : (bound : ℕ) (bytes : List ℕ) → SpellsDerivableSession bound bytes → Answer_data
+answer_of bound bytes s = report s.document.names.roles (derived bound bytes s).0
 
-answers : (words : List (List ℕ)) (bytes : List ℕ) (s : SpellsDerivableSession DEFAULT_BOUND bytes) → is_check words ≡ true → Answers words bytes (answer_of bytes s)
-answers words bytes s e =
-    let d = derived DEFAULT_BOUND bytes s in
-    CarriesOut task.Check (check_is_a_task words e) (IsDocument s.short s.document s.spells (IsAccepted s.projections (machines_of s.document.machines s.projections) d.0 (has_machines DEFAULT_BOUND bytes s) d.1 refl))
+answers : (words : List (List ℕ)) (bound : ℕ) (bytes : List ℕ) (s : SpellsDerivableSession bound bytes) → SpellsCheck words bound → Answers words bytes (answer_of bound bytes s)
+answers words bound bytes s check =
+    let d = derived bound bytes s in
+    CarriesOut (task.Check bound false) check (ReadsInput refl (IsDocument s.short s.document s.spells (IsAccepted s.projections (machines_of s.document.machines s.projections) d.0 (has_machines bound bytes s) d.1 refl)))
 
-is_fine : (words : List (List ℕ)) (bytes : List ℕ) (s : SpellsDerivableSession DEFAULT_BOUND bytes) (a : Answer_data) → is_check words ≡ true → Answers words bytes a → status_of a.verdict ≡ status.Fine
-is_fine words bytes s a e h = ap (λ (z : Answer_data). status_of z.verdict) (one_answer words bytes a (answer_of bytes s) h (answers words bytes s e))
+is_fine : (words : List (List ℕ)) (bound : ℕ) (bytes : List ℕ) (s : SpellsDerivableSession bound bytes) (a : Answer_data) → SpellsCheck words bound → Answers words bytes a → status_of a.verdict ≡ status.Fine
+is_fine words bound bytes s a check h = ap (λ (z : Answer_data). status_of z.verdict) (one_answer words bytes a (answer_of bound bytes s) h (answers words bound bytes s check))
 
-told : (words : List (List ℕ)) (bytes : List ℕ) (old new : Option (List ℕ)) (state : Status) (s : SpellsDerivableSession DEFAULT_BOUND bytes) → is_check words ≡ true → Tells words bytes old new state
+told : (words : List (List ℕ)) (bound : ℕ) (bytes : List ℕ) (old new : Option (List ℕ)) (state : Status) (s : SpellsDerivableSession bound bytes) → SpellsCheck words bound → Tells words bytes old new state
     → (state ≡ status.ReadFault → ⊥) → (state ≡ status.WriteFault → ⊥) → (state ≡ status.Fine) ⊎ (state ≡ status.NoMemory)
-told words bytes old new state s e (TellsAll a h text is) no_read no_write = inl (is ∙ is_fine words bytes s a e h)
-told words bytes old new state s e (TellsPart a h text is) no_read no_write = absurd (no_write is)
-told words bytes old new state s e (TellsReadFault keeps is) no_read no_write = absurd (no_read is)
-told words bytes old new state s e (TellsNoMemory keeps is) no_read no_write = inr is
+told words bound bytes old new state s check (TellsAll a h text is) no_read no_write = inl (is ∙ is_fine words bound bytes s a check h)
+told words bound bytes old new state s check (TellsPart a h text is) no_read no_write = absurd (no_write is)
+told words bound bytes old new state s check (TellsReadFault keeps is) no_read no_write = absurd (no_read is)
+told words bound bytes old new state s check (TellsNoMemory keeps is) no_read no_write = inr is
 
 pub complete : {S : Type 0} (words : List (List ℕ)) (left later old new : Option (List ℕ)) (read_rose write_rose : Type 0) (source behind : S) (state : Status) → Ends words left later old new read_rose write_rose source behind state
     → IsComplete words left read_rose write_rose state
-complete words None later old new read_rose write_rose source behind state ends = λ e. tt
-complete words (Some bytes) later old new read_rose write_rose source behind state ends = λ e s no_read no_write.
-    told words bytes old new state s e ends.answer (λ is. no_read (ends.read_fault is)) (λ is. no_write (ends.write_fault is))
+complete words None later old new read_rose write_rose source behind state ends = λ bound check. tt
+complete words (Some bytes) later old new read_rose write_rose source behind state ends = λ bound check s no_read no_write.
+    let answer = ends.answer in
+    told words bound bytes old new state s check answer.told (λ is. no_read (ends.read_fault is)) (λ is. no_write (ends.write_fault is))

@@ -1,5 +1,5 @@
 -- An accepted text spells safe machines.
-use Rattle.std.proofs.Common.{◌≡◌, ℕ, List, Bool, true, Option, Some, None, refl, sym, ap, subst, ◌∙◌, if◌then◌else◌}
+use Rattle.std.proofs.Common.{◌≡◌, ℕ, List, [], true, false, Option, Some, None, refl, sym, ap, subst, ◌∙◌}
 use Rattle.std.specs.Prelude.{IfSome}
 use Rattle.rs_core.specs.Safety.{IsSafe}
 use Rattle.rs_project.specs.declared.projecting.ProjFault.{ProjFault}
@@ -20,8 +20,9 @@ use Rattle.rs_tool.specs.declared.statuses.Status.TheVariants as status
 use Rattle.rs_tool.specs.declared.statuses.Verdict.{Verdict}
 use Rattle.rs_tool.specs.declared.statuses.Verdict.TheVariants as verdict
 use Rattle.rs_tool.specs.declared.statuses.Verdict.TheVariants.{Fine}
-use Rattle.rs_tool.specs.Answers.{Answers, NoCommand, NoSuchCommand, CarriesOut, AnswersText, IsTooLong, IsFaulty, IsDerived, IsDocument}
-use Rattle.rs_tool.specs.Calls.{Tells, TellsAll, TellsPart, TellsReadFault, TellsNoMemory}
+use Rattle.rs_pipeline.specs.Pipelines.{pipeline_text, pipeline_of}
+use Rattle.rs_tool.specs.Answers.{Answers, SpellsNothing, CarriesOut, AnswersText, IsTooLong, IsFaulty, IsDerived, IsDocument, AnswersDocument, AnswersTask, IsNotBuilt, ReadsInput, MakesPipeline}
+use Rattle.rs_tool.specs.Calls.{ForInput, Tells, TellsAll, TellsPart, TellsReadFault, TellsNoMemory}
 use Rattle.rs_tool.specs.Checks.{Checks, IsRefused, IsAccepted}
 use Rattle.rs_documents.specs.Data.{Document_data}
 use Rattle.rs_tool.specs.Data.{Answer_data}
@@ -30,63 +31,70 @@ use Rattle.rs_tool.specs.Derivations.{AreCanonical}
 use Rattle.rs_documents.specs.Documents.{SpellsDocument}
 use Rattle.rs_tool.specs.Refusals.{refusal_answer}
 use Rattle.rs_tool.specs.Sessions.{HasMachines}
-use Rattle.rs_tool.specs.declared.derivations.TheConstants.{DEFAULT_BOUND}
+use Rattle.rs_words.specs.declared.limits.TheConstants.{DEFAULT_BOUND}
 use Rattle.rs_tool.specs.declared.refusals.Refusal.{Refusal}
 use Rattle.rs_tool.specs.declared.refusals.Refusal.TheVariants as refusal
 use Rattle.rs_derive.specs.Data.{Derivation_data}
 use Rattle.rs_model.specs.Data.{Machine_data, Names_data}
 use Rattle.rs_project.specs.Data.{Projection_data}
 use Rattle.rs_tool.specs.Headline.{SpellsSafeMachines}
-use Rattle.rs_tool.specs.Words.{is_check, is_show, is_project, task_of}
-use Rattle.rs_tool.specs.declared.words.Task.{Task}
-use Rattle.rs_tool.specs.declared.words.Task.TheVariants as task
+use Rattle.rs_tool.specs.RunHeadline.{IsOfRun}
+use Rattle.rs_tool.specs.Runs as runs
+use Rattle.rs_tool.specs.Runs.{Runs}
+use Rattle.rs_tool.specs.declared.runs.RunOptions.{RunOptions}
+use Rattle.rs_tool.specs.Tasks.{ReadTheInput, SpellsCheck, SpellsRun, reads_input}
+use Rattle.rs_words.specs.Meaning.{SpellsTask}
+use Rattle.rs_words.proofs.Exact.{words_spell_one_task}
+use Rattle.rs_words.specs.declared.tasks.Task.{Task}
+use Rattle.rs_words.specs.declared.tasks.Task.TheVariants as task
 
-abbrev IsNoFine : Answer_data → Type 0
-IsNoFine a = a.verdict ≡ Fine → ⊥
+-- an answer that isn't that of a session which was accepted
+abbrev IsNoRun : Answer_data → Type 0
+IsNoRun a = IsOfRun (status_of a.verdict) → ⊥
 
-no-fine : (a b : Answer_data) → a ≡ b → (b.verdict ≡ Fine → ⊥) → IsNoFine a
-no-fine a b e h fine = h (ap (λ (x : Answer_data). x.verdict) (sym e) ∙ fine)
+no-run : (a b : Answer_data) → a ≡ b → IsNoRun b → IsNoRun a
+no-run a b e h = subst IsNoRun (sym e) h
 
-fault-is-no-fine : (bytes : List ℕ) (k : TextKind) (at : ℕ) → IsNoFine (fault_answer bytes k at)
-fault-is-no-fine bytes (kind.Expected w) at e = cc
-fault-is-no-fine bytes kind.UnknownRole at e = cc
-fault-is-no-fine bytes kind.UnboundName at e = cc
-fault-is-no-fine bytes kind.NameTwice at e = cc
-fault-is-no-fine bytes kind.TooDeep at e = cc
-fault-is-no-fine bytes kind.TooManyRoles at e = cc
-fault-is-no-fine bytes kind.TooManyNodes at e = cc
-fault-is-no-fine bytes kind.NoMemory at e = cc
-fault-is-no-fine bytes kind.Unguarded at e = cc
-fault-is-no-fine bytes kind.TooManyLabels at e = cc
-fault-is-no-fine bytes kind.BadByte at e = cc
-fault-is-no-fine bytes kind.NumberTooLarge at e = cc
-fault-is-no-fine bytes kind.NameTooLong at e = cc
+fault-is-no-run : (bytes : List ℕ) (k : TextKind) (at : ℕ) → IsNoRun (fault_answer bytes k at)
+fault-is-no-run bytes (kind.Expected w) at e = e
+fault-is-no-run bytes kind.UnknownRole at e = e
+fault-is-no-run bytes kind.UnboundName at e = e
+fault-is-no-run bytes kind.NameTwice at e = e
+fault-is-no-run bytes kind.TooDeep at e = e
+fault-is-no-run bytes kind.TooManyRoles at e = e
+fault-is-no-run bytes kind.TooManyNodes at e = e
+fault-is-no-run bytes kind.NoMemory at e = e
+fault-is-no-run bytes kind.Unguarded at e = e
+fault-is-no-run bytes kind.TooManyLabels at e = e
+fault-is-no-run bytes kind.BadByte at e = e
+fault-is-no-run bytes kind.NumberTooLarge at e = e
+fault-is-no-run bytes kind.NameTooLong at e = e
 
-wf-is-no-fine : (names : Names_data) (f : WfFault) → IsNoFine (wf_answer names f)
-wf-is-no-fine names (wf.SelfTalk n) e = cc
-wf-is-no-fine names (wf.NoArms n) e = cc
-wf-is-no-fine names (wf.TooManyArms n) e = cc
-wf-is-no-fine names (wf.TwiceLabel n l) e = cc
-wf-is-no-fine names (wf.BadNext n) e = cc
+wf-is-no-run : (names : Names_data) (f : WfFault) → IsNoRun (wf_answer names f)
+wf-is-no-run names (wf.SelfTalk n) e = e
+wf-is-no-run names (wf.NoArms n) e = e
+wf-is-no-run names (wf.TooManyArms n) e = e
+wf-is-no-run names (wf.TwiceLabel n l) e = e
+wf-is-no-run names (wf.BadNext n) e = e
 
-proj-is-no-fine : (names : Names_data) (f : ProjFault) → IsNoFine (proj_answer names f)
-proj-is-no-fine names (proj.Unmergeable r a b) e = cc
-proj-is-no-fine names (proj.Unreached r n) e = cc
-proj-is-no-fine names (proj.TooManyStates r) e = cc
-proj-is-no-fine names proj.NoMemory e = cc
+proj-is-no-run : (names : Names_data) (f : ProjFault) → IsNoRun (proj_answer names f)
+proj-is-no-run names (proj.Unmergeable r a b) e = e
+proj-is-no-run names (proj.Unreached r n) e = e
+proj-is-no-run names (proj.TooManyStates r) e = e
+proj-is-no-run names proj.NoMemory e = e
 
-search-is-no-fine : (names : Names_data) (role : Role) (f : SearchFault) → IsNoFine (search_answer names role f)
-search-is-no-fine names role (search.NotFound cut) e = cc
-search-is-no-fine names role (search.Forgets n) e = cc
-search-is-no-fine names role search.TooLarge e = cc
-search-is-no-fine names role search.NoMemory e = cc
+search-is-no-run : (names : Names_data) (role : Role) (f : SearchFault) → IsNoRun (search_answer names role f)
+search-is-no-run names role (search.NotFound cut) e = e
+search-is-no-run names role (search.Forgets n) e = e
+search-is-no-run names role search.TooLarge e = e
+search-is-no-run names role search.NoMemory e = e
 
-refusal-is-no-fine : (names : Names_data) (r : Refusal) → IsNoFine (refusal_answer names r)
-refusal-is-no-fine names (refusal.IllFormed f) e = wf-is-no-fine names f e
-refusal-is-no-fine names (refusal.Unprojectable f) e = proj-is-no-fine names f e
-refusal-is-no-fine names (refusal.IllMachine role f) e = cc
-refusal-is-no-fine names (refusal.Underivable u) e = search-is-no-fine names u.role u.fault e
-refusal-is-no-fine names refusal.NoMemory e = cc
+refusal-is-no-run : (names : Names_data) (r : Refusal) → IsNoRun (refusal_answer names r)
+refusal-is-no-run names (refusal.IllFormed f) e = wf-is-no-run names f e
+refusal-is-no-run names (refusal.Unprojectable f) e = proj-is-no-run names f e
+refusal-is-no-run names (refusal.IllMachine role f) e = e
+refusal-is-no-run names (refusal.Underivable u) e = search-is-no-run names u.role u.fault e
+refusal-is-no-run names refusal.NoMemory e = e
 
 -- machines that have derivations are safe
 derived-is-safe : (bound : ℕ) (bytes : List ℕ) (d : Document_data) (projections : List Projection_data) (machines : List Machine_data) (derivations : List Derivation_data) → SpellsDocument bytes d → HasMachines d projections machines
@@ -104,41 +112,77 @@ derived-is-safe bound bytes d projections machines derivations doc h found =
       safe = subst IsSafe h.machines_are (canonical_safe bound d.protocol projections machines derivations session found);
     }
 
-checked-is-safe : (bytes : List ℕ) (d : Document_data) (a : Answer_data) → SpellsDocument bytes d → Checks DEFAULT_BOUND d a → a.verdict ≡ Fine → SpellsSafeMachines bytes
-checked-is-safe bytes d a doc (IsRefused r h is) fine = absurd (no-fine a _ is (refusal-is-no-fine d.names r) fine)
-checked-is-safe bytes d a doc (IsAccepted projections machines derivations h found is) fine = derived-is-safe DEFAULT_BOUND bytes d projections machines derivations doc h found
+checked-is-safe : (bound : ℕ) (bytes : List ℕ) (d : Document_data) (a : Answer_data) → SpellsDocument bytes d → Checks bound d a → IsOfRun (status_of a.verdict) → SpellsSafeMachines bytes
+checked-is-safe bound bytes d a doc (IsRefused r h is) run = absurd (no-run a _ is (refusal-is-no-run d.names r) run)
+checked-is-safe bound bytes d a doc (IsAccepted projections machines derivations h found is) run = derived-is-safe bound bytes d projections machines derivations doc h found
 
-text-is-safe : (bytes : List ℕ) (a : Answer_data) → AnswersText task.Check bytes a → a.verdict ≡ Fine → SpellsSafeMachines bytes
-text-is-safe bytes a (IsDocument short d h answers) fine = checked-is-safe bytes d a h answers fine
-text-is-safe bytes a (IsTooLong long is) fine = absurd (no-fine a _ is (λ e. cc) fine)
-text-is-safe bytes a (IsFaulty short k at h is) fine = absurd (no-fine a _ is (fault-is-no-fine bytes k at) fine)
-text-is-safe bytes a (IsDerived short h is) fine = absurd (no-fine a _ is (λ e. cc) fine)
+run-is-safe : (options : RunOptions) (bytes : List ℕ) (d : Document_data) (a : Answer_data) → SpellsDocument bytes d → Runs options d a → IsOfRun (status_of a.verdict) → SpellsSafeMachines bytes
+run-is-safe options bytes d a doc (runs.IsRefused r h is) run = absurd (no-run a _ is (refusal-is-no-run d.names r) run)
+run-is-safe options bytes d a doc (runs.IsRun projections machines derivations h found tells) run = derived-is-safe options.bound bytes d projections machines derivations doc h found
 
--- words of a `check` ask for the task of checking
-check-is-the-task : (words : List (List ℕ)) (t : Task) → is_check words ≡ true → task_of words ≡ Some t → t ≡ task.Check
-check-is-the-task words t e f =
-    let g : Some task.Check ≡ Some t = subst (λ (b : Bool). (if b then Some task.Check else if is_show words then Some task.Show else if is_project words then Some task.Project else None) ≡ Some t) e f in cc
+-- what a task answers to a document tells that its machines are safe
+abbrev TellsSafe : Task → List ℕ → Answer_data → Type 0
+TellsSafe t bytes a = (d : Document_data) → SpellsDocument bytes d → AnswersDocument t d a → IsOfRun (status_of a.verdict) → SpellsSafeMachines bytes
 
-answered-is-safe : (words : List (List ℕ)) (bytes : List ℕ) (a : Answer_data) → is_check words ≡ true → Answers words bytes a → a.verdict ≡ Fine → SpellsSafeMachines bytes
-answered-is-safe words bytes a check (CarriesOut t is h) fine = text-is-safe bytes a (subst (λ (x : Task). AnswersText x bytes a) (check-is-the-task words t check is) h) fine
-answered-is-safe words bytes a check (NoCommand none is) fine = absurd (no-fine a _ is (λ e. cc) fine)
-answered-is-safe words bytes a check (NoSuchCommand named none is) fine = absurd (no-fine a _ is (λ e. cc) fine)
+text-is-safe : (t : Task) (bytes : List ℕ) (a : Answer_data) → TellsSafe t bytes a → AnswersText t bytes a → IsOfRun (status_of a.verdict) → SpellsSafeMachines bytes
+text-is-safe t bytes a safe (IsDocument short d h answers) run = safe d h answers run
+text-is-safe t bytes a safe (IsTooLong long is) run = absurd (no-run a _ is (λ e. e) run)
+text-is-safe t bytes a safe (IsFaulty short k at h is) run = absurd (no-run a _ is (fault-is-no-run bytes k at) run)
+text-is-safe t bytes a safe (IsDerived short h is) run = absurd (no-run a _ is (λ e. e) run)
 
-fine-verdict : (v : Verdict) → status.Fine ≡ status_of v → v ≡ Fine
-fine-verdict verdict.Fine e = refl
-fine-verdict verdict.Refused e = absurd cc
-fine-verdict verdict.Usage e = absurd cc
-fine-verdict verdict.Malformed e = absurd cc
-fine-verdict verdict.Unprojectable e = absurd cc
-fine-verdict verdict.TooLarge e = absurd cc
-fine-verdict verdict.NotBuilt e = absurd cc
+check-is-safe : (bound : ℕ) (bytes : List ℕ) (a : Answer_data) → AnswersText (task.Check bound false) bytes a → IsOfRun (status_of a.verdict) → SpellsSafeMachines bytes
+check-is-safe bound bytes a h run = text-is-safe (task.Check bound false) bytes a (λ d doc k is. checked-is-safe bound bytes d a doc k is) h run
 
-told-is-safe : (words : List (List ℕ)) (bytes : List ℕ) (old new : Option (List ℕ)) (s : Status) → is_check words ≡ true → Tells words bytes old new s → s ≡ status.Fine → SpellsSafeMachines bytes
-told-is-safe words bytes old new s check (TellsAll a h text is) fine = answered-is-safe words bytes a check h (fine-verdict a.verdict (sym fine ∙ is))
-told-is-safe words bytes old new s check (TellsPart a h text is) fine = absurd cc
-told-is-safe words bytes old new s check (TellsReadFault keeps is) fine = absurd cc
-told-is-safe words bytes old new s check (TellsNoMemory keeps is) fine = absurd cc
+-- what the words ask for is safe, where it was carried out on an accepted session
+checks-safely : (bound : ℕ) (bytes : List ℕ) (a : Answer_data) → AnswersTask (task.Check bound false) bytes a → IsOfRun (status_of a.verdict) → SpellsSafeMachines bytes
+checks-safely bound bytes a (IsNotBuilt not is) run = absurd (no-run a _ is (λ e. e) run)
+checks-safely bound bytes a (ReadsInput reads h) run = check-is-safe bound bytes a h run
+checks-safely bound bytes a (MakesPipeline number same h) run = absurd cc
 
-pub fine-is-safe : (words : List (List ℕ)) (o old new : Option (List ℕ)) (s : Status) → is_check words ≡ true → IfSome o (λ bytes. Tells words bytes old new s) → IfSome o (λ bytes. s ≡ status.Fine → SpellsSafeMachines bytes)
-fine-is-safe words None old new s check told = tt
-fine-is-safe words (Some bytes) old new s check told = λ fine. told-is-safe words bytes old new s check told fine
+runs-safely : (options : RunOptions) (bytes : List ℕ) (a : Answer_data) → AnswersTask (task.Run options.bound options.ring 1 options.limit options.seed) bytes a → IsOfRun (status_of a.verdict) → SpellsSafeMachines bytes
+runs-safely options bytes a (IsNotBuilt not is) run = absurd (no-run a _ is (λ e. e) run)
+runs-safely options bytes a (ReadsInput reads h) run = text-is-safe (task.Run options.bound options.ring 1 options.limit options.seed) bytes a (λ d doc k is. run-is-safe options bytes d a doc k is) h run
+runs-safely options bytes a (MakesPipeline number same h) run = absurd cc
+
+pipes-safely : (number : ℕ) (bytes : List ℕ) (a : Answer_data) → AnswersTask (task.Gen number) bytes a → IsOfRun (status_of a.verdict) → SpellsSafeMachines (pipeline_text (pipeline_of number))
+pipes-safely number bytes a (IsNotBuilt not is) run = absurd (no-run a _ is (λ e. e) run)
+pipes-safely number bytes a (ReadsInput reads h) run = absurd cc
+pipes-safely number bytes a (MakesPipeline other same h) run =
+    let is : other ≡ number = cc in
+    let checked : IsOfRun (status_of h.checked.verdict) = subst (λ (z : Answer_data). IsOfRun (status_of z.verdict)) h.is run in
+    subst (λ (n : ℕ). SpellsSafeMachines (pipeline_text (pipeline_of n))) is (check-is-safe DEFAULT_BOUND (pipeline_text (pipeline_of other)) h.checked h.checks checked)
+
+-- the answer to the words is that of the task that they spell
+task-is-answered : (words : List (List ℕ)) (t : Task) (bytes : List ℕ) (a : Answer_data) → SpellsTask words t → Answers words bytes a → AnswersTask t bytes a
+task-is-answered words t bytes a s (SpellsNothing none is) = absurd (none t s)
+task-is-answered words t bytes a s (CarriesOut u r h) = subst (λ (x : Task). AnswersTask x bytes a) (words_spell_one_task words u t r s) h
+
+told-is-run : (words : List (List ℕ)) (t : Task) (bytes : List ℕ) (old new : Option (List ℕ)) (s : Status) → SpellsTask words t → Tells words bytes old new s → IsOfRun s → (a : Answer_data) × AnswersTask t bytes a × IsOfRun (status_of a.verdict)
+told-is-run words t bytes old new s spells (TellsAll a h text is) run = (a, task-is-answered words t bytes a spells h, subst IsOfRun is run)
+told-is-run words t bytes old new s spells (TellsPart a h text is) run = absurd (subst IsOfRun is run)
+told-is-run words t bytes old new s spells (TellsReadFault keeps is) run = absurd (subst IsOfRun is run)
+told-is-run words t bytes old new s spells (TellsNoMemory keeps is) run = absurd (subst IsOfRun is run)
+
+fine-is-run : (s : Status) → s ≡ status.Fine → IsOfRun s
+fine-is-run s e = subst IsOfRun (sym e) tt
+
+pub fine-is-safe : (words : List (List ℕ)) (o old new : Option (List ℕ)) (s : Status) (bound : ℕ) → SpellsCheck words bound → ForInput words o (λ bytes. Tells words bytes old new s) → IfSome o (λ bytes. s ≡ status.Fine → SpellsSafeMachines bytes)
+fine-is-safe words None old new s bound check told = tt
+fine-is-safe words (Some bytes) old new s bound check told = λ fine.
+    let is = told-is-run words (task.Check bound false) bytes old new s check told.told (fine-is-run s fine) in
+    checks-safely bound bytes is.0 is.1 is.2
+
+pub runs-are-safe : (words : List (List ℕ)) (o old new : Option (List ℕ)) (s : Status) (options : RunOptions) → SpellsRun words options → ForInput words o (λ bytes. Tells words bytes old new s) → IfSome o (λ bytes. IsOfRun s → SpellsSafeMachines bytes)
+runs-are-safe words None old new s options spells told = tt
+runs-are-safe words (Some bytes) old new s options spells told = λ run.
+    let is = told-is-run words (task.Run options.bound options.ring 1 options.limit options.seed) bytes old new s spells told.told run in
+    runs-safely options bytes is.0 is.1 is.2
+
+pub pipeline-is-safe : (words : List (List ℕ)) (o old new : Option (List ℕ)) (s : Status) (number : ℕ) → SpellsTask words (task.Gen number) → ForInput words o (λ bytes. Tells words bytes old new s) → s ≡ status.Fine → SpellsSafeMachines (pipeline_text (pipeline_of number))
+pipeline-is-safe words o old new s number spells told fine =
+    let none : ReadTheInput words → ⊥ = λ read. no-gen (words_spell_one_task words read.0 (task.Gen number) read.1 spells) read.2 in
+    let is = told-is-run words (task.Gen number) [] old new s spells (told.unread none []) (fine-is-run s fine) in
+    pipes-safely number [] is.0 is.1 is.2
+  where
+    no-gen : {t : Task} → t ≡ task.Gen number → reads_input t ≡ true → ⊥
+    no-gen {t} e reads = let no : false ≡ true = subst (λ (x : Task). reads_input x ≡ true) e reads in cc

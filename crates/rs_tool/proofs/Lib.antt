@@ -1,6 +1,7 @@
 pub mod EachRole
 pub mod Derivings
 pub mod Answering
+pub mod Outcomes
 pub mod Headline
 pub mod Unique
 pub mod Complete

@@ -1,7 +1,7 @@
 -- There is an answer to all words and bytes.
 use Rattle.std.proofs.Common.{◌≡◌, ◌⊎◌, ℕ, zero, suc, ◌≤◌, ◌+◌, ◌++◌, ◌∷◌, [], List, length, Bool, true, false, Option, Some, None, refl, subst, inl, inr, arith, get_or, slice_get, ◌≢◌}
 use Rattle.std.proofs.lemmas.Option.{slice_get-get_or}
-use Rattle.std.specs.Prelude.{codes}
+use Rattle.std.specs.Prelude.{◌==◌, codes}
 use Rattle.std.proofs.lemmas.Bool.Decides.{leb_tells}
 use Rattle.rs_model.specs.Data.{Names_data, Protocol_data, Machine_data}
 use Rattle.rs_model.specs.declared.graph.Role.{Role}
@@ -22,8 +22,12 @@ use Rattle.rs_search.specs.Canonical.{IsFound, Refuses}
 use Rattle.rs_search.specs.declared.faults.SearchFault.{SearchFault}
 use Rattle.rs_search.specs.declared.faults.SearchFault.TheVariants as search
 use Rattle.rs_tool.specs.Derivations.{AreCanonical, AreFirstCanonical, IsUnderivable}
-use Rattle.rs_tool.specs.declared.derivations.TheConstants.{DEFAULT_BOUND}
-use Rattle.rs_tool.proofs.Derivings.{next_canonical, none_canonical, session_of}
+use Rattle.rs_pipeline.specs.Pipelines.{pipeline_text, pipeline_of, pipeline_summary}
+use Rattle.rs_words.specs.declared.limits.TheConstants.{DEFAULT_BOUND}
+use Rattle.rs_words.specs.Meaning.{IsInRange, IsMeaning}
+use Rattle.rs_words.proofs.Exact.{words_mean_something}
+use Rattle.rs_words.proofs.Ranges.{spelt_numbers_are_in_range}
+use Rattle.rs_tool.proofs.Derivings.{canonical_safe, next_canonical, none_canonical, session_of}
 use Rattle.rs_documents.proofs.SpeltSessions.{spelt_session}
 use Rattle.rs_wellformed.specs.Faults.{first_fault}
 use Rattle.rs_wellformed.specs.WellFormed.{IsWellFormed}
@@ -32,9 +36,9 @@ use Rattle.rs_wellformed.proofs.Faults.{no_fault}
 use Rattle.rs_documents.specs.declared.documents.Content.{Content}
 use Rattle.rs_documents.specs.declared.documents.Content.TheVariants as content
 use Rattle.rs_tool.specs.declared.statuses.Verdict.TheVariants.{Fine}
-use Rattle.rs_tool.specs.declared.words.Task.{Task}
-use Rattle.rs_tool.specs.declared.words.Task.TheVariants as task
-use Rattle.rs_tool.specs.Answers.{Answers, NoCommand, NoSuchCommand, CarriesOut, AnswersText, IsTooLong, IsFaulty, IsDerived, IsDocument, AnswersDocument}
+use Rattle.rs_words.specs.declared.tasks.Task.{Task}
+use Rattle.rs_words.specs.declared.tasks.Task.TheVariants as task
+use Rattle.rs_tool.specs.Answers.{Answers, SpellsNothing, CarriesOut, AnswersText, IsTooLong, IsFaulty, IsDerived, IsDocument, AnswersDocument, AnswersTask, IsNotBuilt, ReadsInput, MakesPipeline}
 use Rattle.rs_tool.specs.Checks as checks
 use Rattle.rs_documents.specs.Data.{Document_data}
 use Rattle.rs_tool.specs.Data.{Answer_data}
@@ -45,11 +49,15 @@ use Rattle.rs_tool.specs.Refusals.{HasNoDerivations, IsIllFormed, HasNoProjectio
 use Rattle.rs_tool.specs.declared.refusals.Refusal.{Refusal}
 use Rattle.rs_tool.specs.declared.refusals.Refusal.TheVariants as refusal
 use Rattle.rs_tool.specs.Report.{report}
+use Rattle.rs_tool.specs.Runs as runs
+use Rattle.rs_tool.specs.Runs.{Runs}
+use Rattle.rs_tool.specs.declared.runs.RunOptions.{RunOptions}
+use Rattle.rs_tool.proofs.Outcomes.{some_run}
 use Rattle.rs_tool.specs.Sessions.{HasMachines, HasProjections, IsUnprojectable, MachineRefusal, first_refusal, machines_of}
 use Rattle.rs_documents.specs.Canonical.{AreShown, AreCanonicalMachines}
 use Rattle.rs_tool.specs.Tables as tables
 use Rattle.rs_tool.specs.Tables.{Projects, tables_text}
-use Rattle.rs_tool.specs.Words.{names_command, task_of}
+use Rattle.rs_tool.specs.Tasks.{is_built, reads_input}
 use Rattle.rs_documents.proofs.CanShow.{role_names}
 use Rattle.rs_tool.proofs.EachRole.{next_projection, no_projections}
 use Rattle.rs_machines.proofs.Existence as of_machines
@@ -126,9 +134,16 @@ prepared : (bound : ℕ) (bytes : List ℕ) (d : Document_data) → SpellsDocume
 prepared bound bytes d doc (Some f) e = NotSo (refusal.IllFormed f) (IsWithoutSession _ (IsIllFormed f e))
 prepared bound bytes d doc None e = prepared_by bound bytes d doc e (first_ones d.protocol (no_fault d.protocol e) d.protocol.roles (omega arith))
 
-checked : (d : Document_data) → Prepared DEFAULT_BOUND d → Some_for task.Check d
-checked d (NotSo why h) = record { answer = refusal_answer d.names why; answers = checks.IsRefused why h refl }
-checked d (Derived projections machines derivations h found) = record { answer = report d.names.roles derivations; answers = checks.IsAccepted projections machines derivations h found refl }
+checked : (bound : ℕ) (d : Document_data) → Prepared bound d → Some_for (task.Check bound false) d
+checked bound d (NotSo why h) = record { answer = refusal_answer d.names why; answers = checks.IsRefused why h refl }
+checked bound d (Derived projections machines derivations h found) = record { answer = report d.names.roles derivations; answers = checks.IsAccepted projections machines derivations h found refl }
+
+run_answer : (options : RunOptions) (bytes : List ℕ) (d : Document_data) → SpellsDocument bytes d → Prepared options.bound d → (a : Answer_data) × Runs options d a
+run_answer options bytes d doc (NotSo why h) = (refusal_answer d.names why, runs.IsRefused why h refl)
+run_answer options bytes d doc (Derived projections machines derivations h found) =
+    let session = session_of d projections machines (spelt_session bytes d doc) h.projections_are.well_formed h.projections_are.projected h.machines_are h.well_formed in
+    let r = some_run options d.names machines derivations (canonical_safe options.bound d.protocol projections machines derivations session found) session.machines_fit in
+    (r.answer, runs.IsRun projections machines derivations h found r.tells)
 
 tabled : (d : Document_data) → first_fault d.protocol ≡ None → Decision d.protocol d.protocol.roles → Some_for task.Project d
 tabled d none (OneDoesnt role fault h) = record { answer = proj_answer d.names fault; answers = tables.HasNoProjection none role fault h refl }
@@ -161,30 +176,66 @@ shown bytes d h =
       };
     }
 
-document_answer : (t : Task) (bytes : List ℕ) (d : Document_data) → SpellsDocument bytes d → Some_for t d
-document_answer task.Check bytes d h = checked d (prepared DEFAULT_BOUND bytes d h (first_fault d.protocol) refl)
-document_answer task.Show bytes d h = shown bytes d h
-document_answer task.Project bytes d h = some_tables d (first_fault d.protocol) refl
+document_answer : (t : Task) (bytes : List ℕ) (d : Document_data) → IsInRange t → reads_input t ≡ true → SpellsDocument bytes d → Some_for t d
+document_answer (task.Check bound false) bytes d range reads h = checked bound d (prepared bound bytes d h (first_fault d.protocol) refl)
+document_answer (task.Check bound true) bytes d range reads h = absurd cc
+document_answer task.Verify bytes d range reads h = absurd cc
+document_answer task.Show bytes d range reads h = shown bytes d h
+document_answer task.Project bytes d range reads h = some_tables d (first_fault d.protocol) refl
+document_answer (task.Run bound ring workers limit seed) bytes d range reads h =
+    let r = run_answer (record { bound = bound; ring = ring; limit = limit; seed = seed }) bytes d h (prepared bound bytes d h (first_fault d.protocol) refl) in
+    record { answer = r.0; answers = r.1 }
+document_answer (task.Demo kind ring workers) bytes d range reads h = absurd cc
+document_answer (task.Gen number) bytes d range reads h = absurd cc
 
 record Some_text (t : Task) (bytes : List ℕ) : Type 0 where
   answer : Answer_data
   answers : AnswersText t bytes answer
 
-of_content : (t : Task) (bytes : List ℕ) → length bytes ≤ MOST_BYTES → (what : Content) → IsContent bytes what → Some_text t bytes
-of_content t bytes short (content.Document d) h = let a = document_answer t bytes d h in record { answer = a.answer; answers = IsDocument short d h a.answers }
-of_content t bytes short content.Derivations h = record { answer = not_built; answers = IsDerived short h refl }
-of_content t bytes short (content.Fault f) h = record { answer = fault_answer bytes f.kind f.at; answers = IsFaulty short f.kind f.at h refl }
+of_content : (t : Task) (bytes : List ℕ) → IsInRange t → reads_input t ≡ true → length bytes ≤ MOST_BYTES → (what : Content) → IsContent bytes what → Some_text t bytes
+of_content t bytes range reads short (content.Document d) h = let a = document_answer t bytes d range reads h in record { answer = a.answer; answers = IsDocument short d h a.answers }
+of_content t bytes range reads short content.Derivations h = record { answer = not_built; answers = IsDerived short h refl }
+of_content t bytes range reads short (content.Fault f) h = record { answer = fault_answer bytes f.kind f.at; answers = IsFaulty short f.kind f.at h refl }
 
-of_text : (t : Task) (bytes : List ℕ) → Some_text t bytes
-of_text t bytes = elim (leb_tells (length bytes) MOST_BYTES) [
-  | inl short ↦ let f = some_found bytes in of_content t bytes short.1 f.what f.is
+of_text : (t : Task) (bytes : List ℕ) → IsInRange t → reads_input t ≡ true → Some_text t bytes
+of_text t bytes range reads = elim (leb_tells (length bytes) MOST_BYTES) [
+  | inl short ↦ let f = some_found bytes in of_content t bytes range reads short.1 f.what f.is
   | inr long ↦ record { answer = too_large (codes "text"); answers = IsTooLong long.1 refl }
 ]
 
+record Some_task (t : Task) (bytes : List ℕ) : Type 0 where
+  answer : Answer_data
+  answers : AnswersTask t bytes answer
+
+of_input : (t : Task) (bytes : List ℕ) → IsInRange t → reads_input t ≡ true → Some_task t bytes
+of_input t bytes range reads = let a = of_text t bytes range reads in record { answer = a.answer; answers = ReadsInput reads a.answers }
+
+not_yet : (t : Task) (bytes : List ℕ) → is_built t ≡ false → Some_task t bytes
+not_yet t bytes not = record { answer = not_built; answers = IsNotBuilt not refl }
+
+of_pipeline : (number : ℕ) (bytes : List ℕ) → Some_task (task.Gen number) bytes
+of_pipeline number bytes =
+    let c = of_text (task.Check DEFAULT_BOUND false) (pipeline_text (pipeline_of number)) (omega arith, omega arith) refl in
+    let a : Answer_data = record { text = pipeline_summary (pipeline_of number) ++ c.answer.text; verdict = c.answer.verdict } in
+    record { answer = a; answers = MakesPipeline number refl (record { checked = c.answer; checks = c.answers; is = refl }) }
+
+of_run : (bound : ℕ) (ring : Option ℕ) (workers limit seed : ℕ) (bytes : List ℕ) → IsInRange (task.Run bound ring workers limit seed) → (one : Bool) → (workers == 1) ≡ one → Some_task (task.Run bound ring workers limit seed) bytes
+of_run bound ring workers limit seed bytes range true one = of_input (task.Run bound ring workers limit seed) bytes range one
+of_run bound ring workers limit seed bytes range false one = not_yet (task.Run bound ring workers limit seed) bytes one
+
+of_task : (t : Task) (bytes : List ℕ) → IsInRange t → Some_task t bytes
+of_task (task.Check bound false) bytes range = of_input (task.Check bound false) bytes range refl
+of_task (task.Check bound true) bytes range = not_yet (task.Check bound true) bytes refl
+of_task task.Verify bytes range = not_yet task.Verify bytes refl
+of_task task.Show bytes range = of_input task.Show bytes range refl
+of_task task.Project bytes range = of_input task.Project bytes range refl
+of_task (task.Run bound ring workers limit seed) bytes range = of_run bound ring workers limit seed bytes range (workers == 1) refl
+of_task (task.Demo kind ring workers) bytes range = not_yet (task.Demo kind ring workers) bytes refl
+of_task (task.Gen number) bytes range = of_pipeline number bytes
+
 pub some_answer : (words : List (List ℕ)) (bytes : List ℕ) → (a : Answer_data) × Answers words bytes a
-some_answer words bytes = go (task_of words) (names_command words) refl refl
+some_answer words bytes = let m = words_mean_something words in of_meaning m.0 m.1
   where
-    go : (o : Option Task) (command : Bool) → task_of words ≡ o → names_command words ≡ command → (a : Answer_data) × Answers words bytes a
-    go (Some t) command is _ = let a = of_text t bytes in (a.answer, CarriesOut t is a.answers)
-    go None true is named = (not_built, NoSuchCommand named is refl)
-    go None false is named = (usage, NoCommand named refl)
+    of_meaning : (o : Option Task) → IsMeaning words o → (a : Answer_data) × Answers words bytes a
+    of_meaning None none = (usage, SpellsNothing none refl)
+    of_meaning (Some t) s = let a = of_task t bytes (spelt_numbers_are_in_range words t s) in (a.answer, CarriesOut t s a.answers)

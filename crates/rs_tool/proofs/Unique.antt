@@ -17,7 +17,9 @@ use Rattle.rs_search.specs.declared.faults.SearchFault.{SearchFault}
 use Rattle.rs_search.proofs.Determined.{not_both_ways}
 use Rattle.rs_search.proofs.Determined as searched
 use Rattle.rs_tool.specs.Derivations.{AreCanonical, AreFirstCanonical, IsUnderivable}
-use Rattle.rs_tool.specs.declared.derivations.TheConstants.{DEFAULT_BOUND}
+use Rattle.rs_pipeline.specs.Pipelines.{pipeline_text, pipeline_of, pipeline_summary}
+use Rattle.rs_words.specs.declared.limits.TheConstants.{DEFAULT_BOUND}
+use Rattle.rs_words.proofs.Exact.{words_spell_one_task}
 use Rattle.rs_wellformed.specs.WellFormed.{IsWellFormed}
 use Rattle.rs_wellformed.proofs.Faults.{no_fault}
 use Rattle.rs_text.specs.declared.faults.TextKind.{TextKind}
@@ -25,9 +27,9 @@ use Rattle.rs_text.specs.declared.faults.TextKind.TheVariants as kind
 use Rattle.rs_tool.specs.declared.statuses.Verdict.TheVariants.{Fine}
 use Rattle.rs_documents.specs.declared.documents.Content.{Content}
 use Rattle.rs_documents.specs.declared.documents.Content.TheVariants as content
-use Rattle.rs_tool.specs.declared.words.Task.{Task}
-use Rattle.rs_tool.specs.declared.words.Task.TheVariants as task
-use Rattle.rs_tool.specs.Answers.{Answers, NoCommand, NoSuchCommand, CarriesOut, AnswersText, IsTooLong, IsFaulty, IsDerived, IsDocument, AnswersDocument}
+use Rattle.rs_words.specs.declared.tasks.Task.{Task}
+use Rattle.rs_words.specs.declared.tasks.Task.TheVariants as task
+use Rattle.rs_tool.specs.Answers.{Answers, SpellsNothing, CarriesOut, AnswersText, IsTooLong, IsFaulty, IsDerived, IsDocument, AnswersDocument, AnswersPipeline, AnswersTask, IsNotBuilt, ReadsInput, MakesPipeline}
 use Rattle.rs_tool.specs.Checks.{Checks, IsRefused, IsAccepted}
 use Rattle.rs_documents.specs.Data.{Document_data}
 use Rattle.rs_tool.specs.Data.{Answer_data}
@@ -37,12 +39,18 @@ use Rattle.rs_tool.specs.Refusals.{HasNoDerivations, HasNoSession, IsIllFormed, 
 use Rattle.rs_tool.specs.declared.refusals.Refusal.{Refusal}
 use Rattle.rs_tool.specs.declared.refusals.Refusal.TheVariants as refusal
 use Rattle.rs_tool.specs.Report.{report}
+use Rattle.rs_tool.specs.Runs as runs
+use Rattle.rs_tool.specs.Runs.{Runs, TellsRun}
+use Rattle.rs_tool.specs.declared.runs.RunOptions.{RunOptions}
+use Rattle.rs_tool.proofs.Derivings.{session_of}
+use Rattle.rs_tool.proofs.Outcomes.{one_run}
+use Rattle.rs_documents.proofs.SpeltSessions.{spelt_session}
 use Rattle.rs_tool.specs.Sessions.{HasMachines, HasProjections, IsUnprojectable, MachineRefusal, first_refusal, machines_of}
 use Rattle.rs_documents.specs.Canonical.{AreCanonicalMachines, AreShown}
 use Rattle.rs_tool.specs.Shown.{Shows}
 use Rattle.rs_tool.specs.Tables as tables
 use Rattle.rs_tool.specs.Tables.{Projects, tables_text}
-use Rattle.rs_tool.specs.Words.{names_command, task_of}
+use Rattle.rs_tool.specs.Tasks.{is_built, reads_input}
 use Rattle.rs_documents.proofs.CanShow.{role_names}
 use Rattle.rs_project.proofs.OneProjection.{not-both, one-projection}
 use Rattle.rs_project.proofs.OneAnswer.{one-refusal}
@@ -244,6 +252,18 @@ one_check bound d a b (IsRefused r h x) (IsAccepted ps ms ds k f y) = absurd (no
 one_check bound d a b (IsAccepted ps ms ds h f x) (IsRefused s k y) = absurd (not_refused bound d ps ms ds s h f k)
 one_check bound d a b (IsAccepted ps ms ds h f x) (IsAccepted qs ns es k g y) = x ∙ ap (report d.names.roles) (one_session_derived bound d ps qs ms ns ds es h k f g) ∙ sym y
 
+one_of_run : (options : RunOptions) (bytes : List ℕ) (d : Document_data) (a b : Answer_data) → SpellsDocument bytes d → Runs options d a → Runs options d b → a ≡ b
+one_of_run options bytes d a b doc (runs.IsRefused r h x) (runs.IsRefused s k y) = x ∙ ap (refusal_answer d.names) (one_refusal options.bound d r s h k) ∙ sym y
+one_of_run options bytes d a b doc (runs.IsRefused r h x) (runs.IsRun ps ms ds k f y) = absurd (not_refused options.bound d ps ms ds r k f h)
+one_of_run options bytes d a b doc (runs.IsRun ps ms ds h f x) (runs.IsRefused s k y) = absurd (not_refused options.bound d ps ms ds s h f k)
+one_of_run options bytes d a b doc (runs.IsRun ps ms ds h f x) (runs.IsRun qs ns es k g y) =
+    let same = same_session d ps qs ms ns h k in
+    let derivations = one_session_derived options.bound d ps qs ms ns ds es h k f g in
+    let session = session_of d qs ns (spelt_session bytes d doc) k.projections_are.well_formed k.projections_are.projected k.machines_are k.well_formed in
+    let P : List Machine_data → Type 0 = λ z. TellsRun options d.names z ds a in
+    let Q : List Derivation_data → Type 0 = λ z. TellsRun options d.names ns z a in
+    one_run options d.names ns es a b session.machines_fit (subst Q derivations (subst P same.1 x)) y
+
 one_lines : (names : Names_data) (machines : List (Option Machine_data)) (x y : List ℕ) → AreShown names machines → AreCanonicalMachines names machines x → AreCanonicalMachines names machines y → x ≡ y
 one_lines names [] x y s h k = h ∙ sym k
 one_lines names (None ∷ ms) x y s h k = one_lines names ms x y s.1 h k
@@ -259,7 +279,12 @@ one_show bytes d a b doc h k =
     ap (λ z. record { text = z; verdict = a.verdict }) text ∙ ap (λ z. record { text = b.text; verdict = z }) (h.fine ∙ sym k.fine)
 
 one_of_document : (t : Task) (bytes : List ℕ) (d : Document_data) (a b : Answer_data) → SpellsDocument bytes d → AnswersDocument t d a → AnswersDocument t d b → a ≡ b
-one_of_document task.Check bytes d a b doc h k = one_check DEFAULT_BOUND d a b h k
+one_of_document (task.Check bound false) bytes d a b doc h k = one_check bound d a b h k
+one_of_document (task.Check bound true) bytes d a b doc h k = absurd h
+one_of_document task.Verify bytes d a b doc h k = absurd h
+one_of_document (task.Run bound ring workers limit seed) bytes d a b doc h k = one_of_run (record { bound = bound; ring = ring; limit = limit; seed = seed }) bytes d a b doc h k
+one_of_document (task.Demo kind ring workers) bytes d a b doc h k = absurd h
+one_of_document (task.Gen number) bytes d a b doc h k = absurd h
 one_of_document task.Show bytes d a b doc h k = one_show bytes d a b doc h k
 one_of_document task.Project bytes d a b doc h k = one_tables d a b h k
 
@@ -288,36 +313,43 @@ one_text t bytes a b (IsDocument s d h x) (IsDocument r e g y) =
     let is : d ≡ e = cc in
     one_of_document t bytes e a b g (subst (λ (z : Document_data). AnswersDocument t z a) is x) y
 
--- words that are carried out name a command
-named_by : (a b c d e f g : Bool) → a ≡ true ⊎ (c ≡ true ⊎ d ≡ true) → (a || (b || (c || (d || (e || (f || (g || false))))))) ≡ true
-named_by true b c d e f g h = refl
-named_by false true c d e f g h = refl
-named_by false false true d e f g h = refl
-named_by false false false true e f g h = refl
-named_by false false false false e f g (inl h) = absurd cc
-named_by false false false false e f g (inr (inl h)) = absurd cc
-named_by false false false false e f g (inr (inr h)) = absurd cc
+one_pipeline : (number : ℕ) (a b : Answer_data) → AnswersPipeline number a → AnswersPipeline number b → a ≡ b
+one_pipeline number a b h k =
+    h.is ∙ ap (λ (z : Answer_data). record { text = pipeline_summary (pipeline_of number) ++ z.text; verdict = z.verdict }) (one_text (task.Check DEFAULT_BOUND false) (pipeline_text (pipeline_of number)) h.checked k.checked h.checks k.checks) ∙ sym k.is
 
-task_word : (a c d : Bool) (t : Task) → (if a then Some task.Check else if c then Some task.Show else if d then Some task.Project else None) ≡ Some t → a ≡ true ⊎ (c ≡ true ⊎ d ≡ true)
-task_word true c d t h = inl refl
-task_word false true d t h = inr (inl refl)
-task_word false false true t h = inr (inr refl)
-task_word false false false t h = absurd cc
+-- what reads the input is built, and isn't `gen`
+reading_is_built : (t : Task) → is_built t ≡ false → reads_input t ≡ true → ⊥
+reading_is_built (task.Check bound true) not reads = cc
+reading_is_built (task.Check bound false) not reads = cc
+reading_is_built task.Verify not reads = cc
+reading_is_built task.Show not reads = cc
+reading_is_built task.Project not reads = cc
+reading_is_built (task.Run bound ring workers limit seed) not reads = let no : false ≡ true = sym not ∙ reads in cc
+reading_is_built (task.Demo kind ring workers) not reads = cc
+reading_is_built (task.Gen number) not reads = cc
 
-task_named : (words : List (List ℕ)) (t : Task) → task_of words ≡ Some t → names_command words ≡ true
-task_named [] t e = absurd cc
-task_named (w ∷ []) t e =
-    named_by (bytes_eq w (codes "check")) (bytes_eq w (codes "verify")) (bytes_eq w (codes "show")) (bytes_eq w (codes "project")) (bytes_eq w (codes "run")) (bytes_eq w (codes "demo")) (bytes_eq w (codes "gen"))
-    (task_word (bytes_eq w (codes "check")) (bytes_eq w (codes "show")) (bytes_eq w (codes "project")) t e)
-task_named (w ∷ v ∷ ws) t e = absurd cc
+gen_is_built : (t : Task) (number : ℕ) → t ≡ task.Gen number → is_built t ≡ false → ⊥
+gen_is_built t number e not = let no : true ≡ false = subst (λ (x : Task). is_built x ≡ false) e not in cc
+
+gen_reads_nothing : (t : Task) (number : ℕ) → t ≡ task.Gen number → reads_input t ≡ true → ⊥
+gen_reads_nothing t number e reads = let no : false ≡ true = subst (λ (x : Task). reads_input x ≡ true) e reads in cc
+
+one_task_answer : (t : Task) (bytes : List ℕ) (a b : Answer_data) → AnswersTask t bytes a → AnswersTask t bytes b → a ≡ b
+one_task_answer t bytes a b (IsNotBuilt n x) (IsNotBuilt m y) = x ∙ sym y
+one_task_answer t bytes a b (IsNotBuilt n x) (ReadsInput r k) = absurd (reading_is_built t n r)
+one_task_answer t bytes a b (IsNotBuilt n x) (MakesPipeline number e k) = absurd (gen_is_built t number e n)
+one_task_answer t bytes a b (ReadsInput r h) (IsNotBuilt m y) = absurd (reading_is_built t m r)
+one_task_answer t bytes a b (ReadsInput r h) (ReadsInput q k) = one_text t bytes a b h k
+one_task_answer t bytes a b (ReadsInput r h) (MakesPipeline number e k) = absurd (gen_reads_nothing t number e r)
+one_task_answer t bytes a b (MakesPipeline number e h) (IsNotBuilt m y) = absurd (gen_is_built t number e m)
+one_task_answer t bytes a b (MakesPipeline number e h) (ReadsInput q k) = absurd (gen_reads_nothing t number e q)
+one_task_answer t bytes a b (MakesPipeline number e h) (MakesPipeline other f k) =
+    let same : task.Gen number ≡ task.Gen other = sym e ∙ f in
+    let is : number ≡ other = cc in
+    one_pipeline other a b (subst (λ (n : ℕ). AnswersPipeline n a) is h) k
 
 pub one_answer : (words : List (List ℕ)) (bytes : List ℕ) (a b : Answer_data) → Answers words bytes a → Answers words bytes b → a ≡ b
-one_answer words bytes a b (CarriesOut t x h) (CarriesOut u y k) = let same : Some t ≡ Some u = sym x ∙ y in let is : t ≡ u = cc in one_text u bytes a b (subst (λ (z : Task). AnswersText z bytes a) is h) k
-one_answer words bytes a b (CarriesOut t x h) (NoCommand n e) = let f = task_named words t x in absurd cc
-one_answer words bytes a b (CarriesOut t x h) (NoSuchCommand n y e) = absurd cc
-one_answer words bytes a b (NoCommand n e) (NoCommand m f) = e ∙ sym f
-one_answer words bytes a b (NoCommand n e) (NoSuchCommand m y f) = absurd cc
-one_answer words bytes a b (NoCommand n e) (CarriesOut u y k) = let f = task_named words u y in absurd cc
-one_answer words bytes a b (NoSuchCommand n x e) (NoSuchCommand m y f) = e ∙ sym f
-one_answer words bytes a b (NoSuchCommand n x e) (NoCommand m f) = absurd cc
-one_answer words bytes a b (NoSuchCommand n x e) (CarriesOut u y k) = absurd cc
+one_answer words bytes a b (SpellsNothing n x) (SpellsNothing m y) = x ∙ sym y
+one_answer words bytes a b (SpellsNothing n x) (CarriesOut u s k) = absurd (n u s)
+one_answer words bytes a b (CarriesOut t s h) (SpellsNothing m y) = absurd (m t s)
+one_answer words bytes a b (CarriesOut t s h) (CarriesOut u r k) = one_task_answer u bytes a b (subst (λ (x : Task). AnswersTask x bytes a) (words_spell_one_task words t u s r) h) k

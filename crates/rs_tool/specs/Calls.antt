@@ -1,12 +1,12 @@
 -- Believed: what a call of the program does.
-use Rattle.std.specs.Prelude.{◌≡◌, ◌⊎◌, ℕ, ◌≤◌, List, length, true, false, Option, IfSome}
+use Rattle.std.specs.Prelude.{◌≡◌, ◌⊎◌, ℕ, ◌≤◌, List, length, Option, IfSome}
 use Rattle.std.specs.Io.KnownBytes.{Appends, Keeps, IsAtEnd}
 use Rattle.rs_io.specs.Prefix.{AppendsPrefix}
 use Rattle.rs_model.specs.declared.limits.TheConstants.{MOST_BYTES}
 use Rattle.rs_tool.specs.Answers.{Answers}
 use Rattle.rs_tool.specs.Data.{Answer_data}
 use Rattle.rs_tool.specs.Statuses.{status_of}
-use Rattle.rs_tool.specs.Words.{reads}
+use Rattle.rs_tool.specs.Tasks.{ReadTheInput}
 use Rattle.rs_tool.specs.declared.statuses.Serial.{Serial}
 use Rattle.rs_tool.specs.declared.statuses.Serial.TheVariants.{Answered, NeedsWorkers}
 use Rattle.rs_tool.specs.declared.statuses.Status.{Status}
@@ -25,6 +25,11 @@ pub data Tells (words : List (List ℕ)) (bytes : List ℕ) (old new : Option (L
   -- nothing, since memory was refused
   TellsNoMemory : Keeps old new → status ≡ NoMemory → Tells words bytes old new status
 
+-- what holds of the bytes that the source has left, where it tells them; and of any bytes, where the words read nothing
+pub record ForInput (words : List (List ℕ)) (left : Option (List ℕ)) (fact : List ℕ → Type 0) : Type 0 where
+  pub told : IfSome left fact
+  pub unread : (ReadTheInput words → ⊥) → (bytes : List ℕ) → fact bytes
+
 -- the call stopped before its answer was made
 abbrev pub IsStopped : Status → Type 0
 IsStopped status = (status ≡ ReadFault) ⊎ (status ≡ NoMemory)
@@ -32,16 +37,16 @@ IsStopped status = (status ≡ ReadFault) ⊎ (status ≡ NoMemory)
 -- what a call with these words does with its source and its sink: by what the source has left and the sink has written
 -- before and behind the call, and by whether the faults of each rose
 pub record Ends {S : Type 0} (words : List (List ℕ)) (left later written new : Option (List ℕ)) (read_rose write_rose : Type 0) (source behind : S) (status : Status) : Type 0 where
-  -- where the source tells its bytes, the sink gets the answer to them
-  pub answer : IfSome left (λ bytes. Tells words bytes written new status)
+  -- the sink gets the answer
+  pub answer : ForInput words left (λ bytes. Tells words bytes written new status)
   -- a call that stopped wrote nothing
   pub stopped : IsStopped status → Keeps written new
   -- a fault is told only where the faults rose
   pub read_fault : status ≡ ReadFault → read_rose
   pub write_fault : status ≡ WriteFault → write_rose
   -- words that read nothing leave the source alone; others read a text that isn't too long to its end
-  pub unread : reads words ≡ false → behind ≡ source
-  pub end : reads words ≡ true → IfSome left (λ bytes. length bytes ≤ MOST_BYTES → (IsStopped status → ⊥) → IsAtEnd later)
+  pub unread : (ReadTheInput words → ⊥) → behind ≡ source
+  pub end : ReadTheInput words → IfSome left (λ bytes. length bytes ≤ MOST_BYTES → (IsStopped status → ⊥) → IsAtEnd later)
 
 -- the call carried its words out, and no worker was needed
 abbrev pub IsAnswered : Serial → Type 0

@@ -1,5 +1,5 @@
 -- Believed: what a `check` doesn't refuse.
-use Rattle.std.specs.Prelude.{◌≡◌, ◌⊎◌, ℕ, ◌≤◌, List, length, Some, slice_get, true, Option, IfSome}
+use Rattle.std.specs.Prelude.{◌≡◌, ◌⊎◌, ℕ, ◌≤◌, List, length, Some, slice_get, Option, IfSome}
 use Rattle.rs_documents.specs.Data.{Document_data}
 use Rattle.rs_documents.specs.Documents.{SpellsDocument}
 use Rattle.rs_model.specs.Data.{Machine_data}
@@ -10,8 +10,7 @@ use Rattle.rs_project.specs.Numbered.{AreNumberedProjections}
 use Rattle.rs_search.specs.Canonical.{IsDerivable}
 use Rattle.rs_wellformed.specs.WellFormed.{IsWellFormed}
 use Rattle.rs_tool.specs.Machines.{machines_of}
-use Rattle.rs_tool.specs.Words.{is_check}
-use Rattle.rs_tool.specs.declared.derivations.TheConstants.{DEFAULT_BOUND}
+use Rattle.rs_tool.specs.Tasks.{SpellsCheck}
 use Rattle.rs_tool.specs.declared.statuses.Status.{Status}
 use Rattle.rs_tool.specs.declared.statuses.Status.TheVariants.{Fine, NoMemory}
 
@@ -37,7 +36,7 @@ pub record SpellsDerivableSession (bound : ℕ) (bytes : List ℕ) : Type 0 wher
   pub machines_fit : AllFit document.protocol.roles (machines_of document.machines projections)
   pub derivable : AreDerivable bound (machines_of document.machines projections) projections
 
--- a `check` of such a text, in which no fault of the source or the sink rises, is fine or wants memory
+-- a `check` of such a text within the bound, in which no fault of the source or the sink rises, is fine or wants memory
 abbrev pub IsComplete : List (List ℕ) → Option (List ℕ) → Type 0 → Type 0 → Status → Type 0
-IsComplete words left read_rose write_rose status = is_check words ≡ true → IfSome left (λ bytes. SpellsDerivableSession DEFAULT_BOUND bytes
+IsComplete words left read_rose write_rose status = (bound : ℕ) → SpellsCheck words bound → IfSome left (λ bytes. SpellsDerivableSession bound bytes
     → (read_rose → ⊥) → (write_rose → ⊥) → (status ≡ Fine) ⊎ (status ≡ NoMemory))

@@ -9,9 +9,12 @@ pub mod Machines
 pub mod RefusalTexts
 pub mod Refusals
 pub mod Report
+pub mod RunHeadline
+pub mod Runs
 pub mod Sessions
 pub mod Shown
 pub mod Statuses
 pub mod Tables
+pub mod Tasks
 pub mod Texts
-pub mod Words
+pub mod TranscriptTexts

@@ -18,6 +18,8 @@ code_of status.TooLarge = 5
 code_of status.ReadFault = 6
 code_of status.WriteFault = 7
 code_of status.NoMemory = 8
+code_of status.Stopped = 9
+code_of status.Full = 10
 code_of status.NotBuilt = 12
 
 -- the status of an answer that was written whole
@@ -28,6 +30,8 @@ status_of verdict.Usage = status.Usage
 status_of verdict.Malformed = status.Malformed
 status_of verdict.Unprojectable = status.Unprojectable
 status_of verdict.TooLarge = status.TooLarge
+status_of verdict.Stopped = status.Stopped
+status_of verdict.Full = status.Full
 status_of verdict.NotBuilt = status.NotBuilt
 
 -- the status of a call that stopped before its answer was made

@@ -1,19 +1,23 @@
 //! The answer of the program to its words and its input.
 
-ghost use Rattle.std.specs.Prelude.{◌≡◌, ◌≤◌, ℕ, List, length, map, IfOk, None};
-ghost use Rattle.rs_tool.specs.Answers.{Answers, AnswersText};
-ghost use Rattle.rs_tool.specs.Words.{bytes_of_words, task_of};
+ghost use Rattle.std.specs.Prelude.{◌≡◌, length, true, IfOk};
+ghost use Rattle.rs_documents.specs.Canonical.{CanBeShown};
+ghost use Rattle.rs_documents.specs.Reading.{IsReady};
+ghost use Rattle.rs_tool.specs.Answers.{AnswersDocument, AnswersText};
+ghost use Rattle.rs_tool.specs.Tasks.{reads_input};
+ghost use Rattle.rs_words.specs.Meaning.{IsInRange};
 
 use crate::checks::check;
-use crate::derivations::DEFAULT_BOUND;
-use rs_documents::{Content, read_document};
-use crate::refusal_texts::{fault_answer, not_built, usage};
+use crate::refusal_texts::{fault_answer, not_built, too_large};
+use crate::runs::{RunOptions, run};
 use crate::shown::show;
 use crate::statuses::Verdict;
 use crate::tables::project_all;
-use crate::words::{Task, names_command};
+use crate::texts::Piece::Words;
+use rs_documents::{Content, Document, read_document};
 use rs_model::{MOST_BYTES, NoMemory};
 use rs_text::Text;
+use rs_words::Task;
 use std::alloc::Global;
 use std::marker::Model;
 
@@ -32,31 +36,51 @@ impl Model for Answer {
     ghost view = { λ a. record { text = a.text; verdict = a.verdict } };
 }
 
-/// The answer of the task to a text that isn't too long.
-pub fn answer_to_text(alloc: Global, task: Task, bytes: &[u8]) -> Result<Answer, NoMemory>
-    requires { length bytes.now ≤ MOST_BYTES }
-    ensures { IfOk result (AnswersText task bytes.now) }
+/// The answer of the task, which reads the input, to a document.
+fn answer_to_document(alloc: Global, task: Task, document: &Document) -> Result<Answer, NoMemory>
+    requires range { IsInRange task }
+    requires reads { reads_input task ≡ true }
+    requires ready { IsReady document.now }
+    requires roles { length document.now.names.roles ≡ document.now.protocol.roles }
+    requires shown { CanBeShown document.now }
+    ensures { IfOk result (AnswersDocument task document.now) }
 {
-    let document = match read_document(alloc, bytes)? {
-        Content::Document(document) => document,
-        Content::Derivations => return not_built(alloc),
-        Content::Fault(fault) => return fault_answer(alloc, bytes, fault),
-    };
     match task {
-        Task::Check => check(alloc, &document, DEFAULT_BOUND),
-        Task::Show => show(alloc, &document),
-        Task::Project => project_all(alloc, &document),
+        Task::Check { bound, .. } => check(alloc, document, bound),
+        Task::Show => show(alloc, document),
+        Task::Project => project_all(alloc, document),
+        Task::Run {
+            bound,
+            ring,
+            limit,
+            seed,
+            ..
+        } => run(
+            alloc,
+            document,
+            RunOptions {
+                bound,
+                ring,
+                limit,
+                seed,
+            },
+        ),
+        _ => unreachable!(),
     }
 }
 
-/// The answer to words that aren't carried out, whatever the input is.
-pub fn answer_to_words(alloc: Global, words: &[String]) -> Result<Answer, NoMemory>
-    requires { task_of (bytes_of_words words.now) ≡ None }
-    ensures { IfOk result (λ a. (bytes : List ℕ) → Answers (bytes_of_words words.now) bytes a) }
+/// The answer of the task, which reads the input, to a text.
+pub fn answer_to_text(alloc: Global, task: Task, bytes: &[u8]) -> Result<Answer, NoMemory>
+    requires range { IsInRange task }
+    requires reads { reads_input task ≡ true }
+    ensures { IfOk result (AnswersText task bytes.now) }
 {
-    if names_command(words) {
-        not_built(alloc)
-    } else {
-        usage(alloc)
+    if bytes.len() > MOST_BYTES {
+        return too_large(alloc, &[Words(b"text")]);
+    }
+    match read_document(alloc, bytes)? {
+        Content::Document(document) => answer_to_document(alloc, task, &document),
+        Content::Derivations => not_built(alloc),
+        Content::Fault(fault) => fault_answer(alloc, bytes, fault),
     }
 }

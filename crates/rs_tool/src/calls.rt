@@ -3,39 +3,85 @@
 ghost use Rattle.std.specs.Prelude.{◌≡◌, ◌≤◌, ◌<◌, ℕ, List, length, IfOk, IfSome, OnOk, Err, true, false};
 ghost use Rattle.std.specs.Io.KnownBytes.{IsAtEnd};
 ghost use Rattle.rs_io.specs.Faults.{Rose};
-ghost use Rattle.rs_tool.specs.Answers.{Answers};
-ghost use Rattle.rs_tool.specs.Calls.{Ends, IsAnswered, IfAnswered};
+ghost use Rattle.rs_pipeline.specs.Pipelines.{pipeline_text, pipeline_of};
+ghost use Rattle.rs_tool.specs.Answers.{Answers, AnswersTask};
+ghost use Rattle.rs_tool.specs.Calls.{Ends, ForInput, IsAnswered, IfAnswered};
 ghost use Rattle.rs_tool.specs.Completeness.{IsComplete};
 ghost use Rattle.rs_tool.specs.Headline.{SpellsSafeMachines};
-ghost use Rattle.rs_tool.specs.Words.{bytes_of_words, is_check, reads};
+ghost use Rattle.rs_tool.specs.RunHeadline.{IsOfRun};
+ghost use Rattle.rs_tool.specs.Tasks.{ReadTheInput, SpellsCheck, SpellsRun, reads_input};
+ghost use Rattle.rs_tool.specs.declared.runs.RunOptions.{RunOptions};
+ghost use Rattle.rs_words.specs.Meaning.{IsInRange, SpellsTask};
+ghost use Rattle.rs_words.specs.Words.{bytes_of_words};
 
-use crate::answers::{Answer, answer_to_text, answer_to_words};
-use crate::refusal_texts::too_large;
+use crate::answers::{Answer, answer_to_text};
+use crate::pipelines::answer_to_gen;
+use crate::refusal_texts::{not_built, too_large, usage};
 use crate::statuses::{Reply, Serial, Status, Stop};
+use crate::tasks::reads_input;
 use crate::texts::Piece::Words;
-use crate::words::task_of;
 use rs_io::{ReadStop, Sink, Source, read_all, write_all};
-use rs_model::MOST_BYTES;
+use rs_model::{MOST_BYTES, NoMemory};
+use rs_words::{Task, read_words};
 use std::alloc::Global;
 use std::sync::Wait;
 use std::thread::Threads;
 
-/// The answer to the words and to all that the source has left; words that aren't carried out read nothing.
-fn answer_to<S: Source>(alloc: Global, words: &[String], source: &mut S) -> Result<Answer, Stop>
-    ensures answer { IfSome (S.left source.old) (λ bytes. IfOk result (Answers (bytes_of_words words.now) bytes)) }
-    ensures end { reads (bytes_of_words words.now) ≡ true
-        → IfSome (S.left source.old) (λ bytes. length bytes ≤ MOST_BYTES → OnOk result (IsAtEnd (S.left source.new))) }
-    ensures unread { reads (bytes_of_words words.now) ≡ false → source.new ≡ source.old }
+/// The answer of the task, which reads the input, to all that the source has left.
+fn answer_to_input<S: Source>(alloc: Global, task: Task, source: &mut S) -> Result<Answer, Stop>
+    requires range { IsInRange task }
+    requires reads { reads_input task ≡ true }
+    ensures answer { IfSome (S.left source.old) (λ bytes. IfOk result (AnswersTask task bytes)) }
+    ensures end { IfSome (S.left source.old) (λ bytes. length bytes ≤ MOST_BYTES → OnOk result (IsAtEnd (S.left source.new))) }
     ensures read_fault { result ≡ Err Stop.ReadFault → Rose (S.faults source.old) (S.faults source.new) (S.last source.new) }
 {
-    let Some(task) = task_of(words) else {
-        return Ok(answer_to_words(alloc, words)?);
-    };
     match read_all(alloc, source, MOST_BYTES) {
         Ok(bytes) => Ok(answer_to_text(alloc, task, bytes.as_slice())?),
         Err(ReadStop::TooLong) => Ok(too_large(alloc, &[Words(b"text")])?),
         Err(ReadStop::ReadFault) => Err(Stop::ReadFault),
         Err(ReadStop::NoMemory) => Err(Stop::NoMemory),
+    }
+}
+
+/// The answer of a task that doesn't read the input.
+fn answer_without_input(alloc: Global, task: Task) -> Result<Answer, NoMemory>
+    requires { reads_input task ≡ false }
+    ensures { IfOk result (λ a. (bytes : List ℕ) → AnswersTask task bytes a) }
+{
+    match task {
+        Task::Gen { number } => answer_to_gen(alloc, number),
+        _ => not_built(alloc),
+    }
+}
+
+/// The answer of the task to all that the source has left, or whatever that is.
+fn answer_to_task<S: Source>(alloc: Global, task: Task, source: &mut S) -> Result<Answer, Stop>
+    requires { IsInRange task }
+    ensures answer { IfSome (S.left source.old) (λ bytes. IfOk result (AnswersTask task bytes)) }
+    ensures unasked { reads_input task ≡ false → IfOk result (λ a. (bytes : List ℕ) → AnswersTask task bytes a) }
+    ensures end { reads_input task ≡ true
+        → IfSome (S.left source.old) (λ bytes. length bytes ≤ MOST_BYTES → OnOk result (IsAtEnd (S.left source.new))) }
+    ensures unread { reads_input task ≡ false → source.new ≡ source.old }
+    ensures read_fault { result ≡ Err Stop.ReadFault → Rose (S.faults source.old) (S.faults source.new) (S.last source.new) }
+{
+    if reads_input(task) {
+        answer_to_input(alloc, task, source)
+    } else {
+        Ok(answer_without_input(alloc, task)?)
+    }
+}
+
+/// The answer to the words and to all that the source has left; words that don't ask for it read nothing.
+fn answer_to<S: Source>(alloc: Global, words: &[String], source: &mut S) -> Result<Answer, Stop>
+    ensures answer { IfOk result (λ a. ForInput (bytes_of_words words.now) (S.left source.old) (λ bytes. Answers (bytes_of_words words.now) bytes a)) }
+    ensures end { ReadTheInput (bytes_of_words words.now)
+        → IfSome (S.left source.old) (λ bytes. length bytes ≤ MOST_BYTES → OnOk result (IsAtEnd (S.left source.new))) }
+    ensures unread { (ReadTheInput (bytes_of_words words.now) → ⊥) → source.new ≡ source.old }
+    ensures read_fault { result ≡ Err Stop.ReadFault → Rose (S.faults source.old) (S.faults source.new) (S.last source.new) }
+{
+    match read_words(alloc, words)? {
+        Some(task) => answer_to_task(alloc, task, source),
+        None => Ok(usage(alloc)?),
     }
 }
 
@@ -61,9 +107,9 @@ fn carry_out<S: Source, K: Sink>(
 
 /// Carries out the words, as the program does, without threads.
 ///
-/// `check`, `show` and `project` read the source to its end and write their answer. The text of an answer is made whole
+/// `check`, `show`, `project` and `run` read the source to its end and write their answer. The text of an answer is made whole
 /// before its first byte is written: with the statuses `ReadFault` and `NoMemory` nothing is written, with `WriteFault`
-/// a first part of the text. Words that aren't carried out read nothing.
+/// a first part of the text. `gen`, words that spell no task and tasks that aren't built yet read nothing.
 pub fn command_serial<S: Source, K: Sink>(
     alloc: Global,
     words: &[String],
@@ -75,8 +121,12 @@ pub fn command_serial<S: Source, K: Sink>(
         (S.left source.old) (S.left source.new) (K.written sink.old) (K.written sink.new)
         (Rose (S.faults source.old) (S.faults source.new) (S.last source.new)) (Rose (K.faults sink.old) (K.faults sink.new) (K.last sink.new))
         source.old source.new status) }
-    ensures headline { IfAnswered result (λ status. is_check (bytes_of_words words.now) ≡ true
+    ensures headline { IfAnswered result (λ status. (bound : ℕ) → SpellsCheck (bytes_of_words words.now) bound
         → IfSome (S.left source.old) (λ bytes. status ≡ Status.Fine → SpellsSafeMachines bytes)) }
+    ensures run { IfAnswered result (λ status. (options : RunOptions) → SpellsRun (bytes_of_words words.now) options
+        → IfSome (S.left source.old) (λ bytes. IsOfRun status → SpellsSafeMachines bytes)) }
+    ensures pipeline { IfAnswered result (λ status. (number : ℕ) → SpellsTask (bytes_of_words words.now) (Task.Gen number)
+        → status ≡ Status.Fine → SpellsSafeMachines (pipeline_text (pipeline_of number))) }
     ensures complete { IfAnswered result (λ status. IsComplete (bytes_of_words words.now) (S.left source.old)
         (Rose (S.faults source.old) (S.faults source.new) (S.last source.new)) (Rose (K.faults sink.old) (K.faults sink.new) (K.last sink.new)) status) }
 {
@@ -97,8 +147,12 @@ pub fn command<R: Threads + Wait + Sync, S: Source, K: Sink>(
         (S.left source.old) (S.left source.new) (K.written sink.old) (K.written sink.new)
         (Rose (S.faults source.old) (S.faults source.new) (S.last source.new)) (Rose (K.faults sink.old) (K.faults sink.new) (K.last sink.new))
         source.old source.new result.status }
-    ensures headline { is_check (bytes_of_words words.now) ≡ true
+    ensures headline { (bound : ℕ) → SpellsCheck (bytes_of_words words.now) bound
         → IfSome (S.left source.old) (λ bytes. result.status ≡ Status.Fine → SpellsSafeMachines bytes) }
+    ensures run { (options : RunOptions) → SpellsRun (bytes_of_words words.now) options
+        → IfSome (S.left source.old) (λ bytes. IsOfRun result.status → SpellsSafeMachines bytes) }
+    ensures pipeline { (number : ℕ) → SpellsTask (bytes_of_words words.now) (Task.Gen number)
+        → result.status ≡ Status.Fine → SpellsSafeMachines (pipeline_text (pipeline_of number)) }
     ensures complete { IsComplete (bytes_of_words words.now) (S.left source.old)
         (Rose (S.faults source.old) (S.faults source.new) (S.last source.new)) (Rose (K.faults sink.old) (K.faults sink.new) (K.last sink.new)) result.status }
 {

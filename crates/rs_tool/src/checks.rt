@@ -7,9 +7,9 @@ ghost use Rattle.rs_documents.specs.Reading.{IsReady};
 
 use crate::answers::Answer;
 use crate::derivations::{DerivedSession, accept_derived, derived_session};
-use rs_documents::Document;
 use crate::refusals::refusal_answer;
 use crate::report::report;
+use rs_documents::Document;
 use rs_model::NoMemory;
 use std::alloc::Global;
 

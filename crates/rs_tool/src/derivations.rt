@@ -8,18 +8,15 @@ ghost use Rattle.rs_documents.specs.Reading.{IsReady};
 ghost use Rattle.rs_tool.specs.Refusals.{HasNoDerivations};
 ghost use Rattle.rs_tool.specs.Sessions.{HasMachines};
 
-use rs_documents::Document;
 use crate::refusals::Refusal;
 use crate::sessions::{Session, session_of};
 use rs_derive::Derivation;
+use rs_documents::Document;
 use rs_model::{Machine, Protocol, Role};
 use rs_project::Projection;
 use rs_safety::{Accepted, accept};
 use rs_search::{SearchFault, search};
 use std::alloc::Global;
-
-/// The bound of the search, where none is asked for.
-pub const DEFAULT_BOUND: u8 = 16;
 
 /// The first role for whose machine the search finds no derivation, and why.
 #[derive(Clone, Copy, Debug)]

@@ -6,22 +6,27 @@ mod calls;
 mod checks;
 mod derivations;
 pub mod laws;
+mod pipelines;
 mod refusal_texts;
 mod refusals;
 mod report;
+mod runs;
 mod sessions;
 mod shown;
 mod statuses;
 mod tables;
+mod tasks;
 mod texts;
-mod words;
+mod transcript_texts;
 
 pub use calls::{command, command_serial};
 pub use derivations::{
-    DEFAULT_BOUND, DerivedSession, Underivable, accept_derived, derivations_of, derived_session,
+    DerivedSession, Underivable, accept_derived, derivations_of, derived_session,
 };
 pub use refusals::Refusal;
 pub use rs_documents::{Content, Document, print_document, read_document};
+pub use rs_words::DEFAULT_BOUND;
+pub use runs::{RunOptions, run};
 pub use sessions::{Session, first_refusal, machines_of, projections_of, session_of};
 pub use statuses::{Reply, Serial, Status};
 

@@ -18,7 +18,7 @@ use rs_wellformed::WfFault;
 use std::alloc::Global;
 
 /// The pieces, behind the words that tell their kind, and the end of the line.
-fn line_of_answer(
+pub fn line_of_answer(
     alloc: Global,
     kind: &[u8],
     what: &[Piece],
@@ -141,13 +141,13 @@ fn name_at(names: &[Name], place: usize) -> &[u8]
     }
 }
 
-fn label_name(names: &Names, label: Label) -> &[u8]
+pub fn label_name(names: &Names, label: Label) -> &[u8]
     ensures { result.now ≡ spec.label_name names.now label }
 {
     name_at(names.labels.as_slice(), usize::from(label.0))
 }
 
-fn role_name(names: &Names, role: Role) -> &[u8]
+pub fn role_name(names: &Names, role: Role) -> &[u8]
     ensures { result.now ≡ spec.role_name names.now role }
 {
     name_at(names.roles.as_slice(), usize::from(role.0))

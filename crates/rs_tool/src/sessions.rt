@@ -8,8 +8,8 @@ ghost use Rattle.rs_tool.specs.Refusals.{HasNoSession};
 ghost use Rattle.rs_tool.specs.Sessions.{HasMachines, Refuses, first_refusal, machine_or, machines_of};
 ghost use Rattle.rs_wellformed.specs.WellFormed.{IsWellFormed};
 
-use rs_documents::Document;
 use crate::refusals::Refusal;
+use rs_documents::Document;
 use rs_model::{Machine, MachineFault, NoMemory, Protocol, Role};
 use rs_project::{ProjFault, Projection, project};
 use rs_wellformed::well_formed;

@@ -26,6 +26,10 @@ pub enum Status {
     WriteFault,
     /// Memory was refused.
     NoMemory,
+    /// A role was stopped at the limit of its acts.
+    Stopped,
+    /// No role could move, since a queue was full.
+    Full,
     /// The words or the text ask for what isn't built yet.
     NotBuilt,
 }
@@ -45,6 +49,8 @@ impl Status {
             Status::ReadFault => 6,
             Status::WriteFault => 7,
             Status::NoMemory => 8,
+            Status::Stopped => 9,
+            Status::Full => 10,
             Status::NotBuilt => 12,
         }
     }
@@ -59,6 +65,8 @@ pub enum Verdict {
     Malformed,
     Unprojectable,
     TooLarge,
+    Stopped,
+    Full,
     NotBuilt,
 }
 
@@ -76,6 +84,8 @@ impl From<Verdict> for Status {
             Verdict::Malformed => Status::Malformed,
             Verdict::Unprojectable => Status::Unprojectable,
             Verdict::TooLarge => Status::TooLarge,
+            Verdict::Stopped => Status::Stopped,
+            Verdict::Full => Status::Full,
             Verdict::NotBuilt => Status::NotBuilt,
         }
     }

@@ -40,29 +40,149 @@ fn answer<R: Threads + Wait + Sync>(
     Ok((reply.status, sink.bytes().to_vec(alloc)?))
 }
 
+/// The same, with a source that fails when it is read.
+fn answer_unread<R: Threads + Wait + Sync>(
+    rt: &R,
+    alloc: Global,
+    words: &[&str],
+) -> Result<(Status, Vec<u8>), Fail> {
+    let words = strings(alloc, words)?;
+    let mut source = MemSource::new(Vec::new(alloc), 65_536, [1].to_vec(alloc)?);
+    let mut sink = MemSink::new(alloc, 65_536, 65_536, Vec::new(alloc))?;
+    let reply = command(rt, alloc, words.as_slice(), &mut source, &mut sink);
+    Ok((reply.status, sink.bytes().to_vec(alloc)?))
+}
+
 #[test]
-fn texts_and_words_have_their_answers(rt: HostRuntime) -> Result<(), Fail> {
+fn words_that_read_nothing_have_their_answers(rt: HostRuntime) -> Result<(), Fail> {
+    let alloc = rt.alloc();
+    let usage = "usage\n";
+    let not_built = "not built\n";
+    for (words, status, written) in [
+        ([].as_slice(), Status::Usage, usage),
+        (["check", "x"].as_slice(), Status::Usage, usage),
+        (["check", "--bound", "0"].as_slice(), Status::Usage, usage),
+        (["check", "--bound", "65"].as_slice(), Status::Usage, usage),
+        (["check", "--bound", "016"].as_slice(), Status::Usage, usage),
+        (
+            ["check", "--bound", "8", "--bound", "8"].as_slice(),
+            Status::Usage,
+            usage,
+        ),
+        (["demo"].as_slice(), Status::Usage, usage),
+        (["demo", "square"].as_slice(), Status::Usage, usage),
+        (["gen", "-1"].as_slice(), Status::Usage, usage),
+        (["frob"].as_slice(), Status::Usage, usage),
+        (["Check"].as_slice(), Status::Usage, usage),
+        (
+            ["run", "--workers", "2", "--bound", "65"].as_slice(),
+            Status::Usage,
+            usage,
+        ),
+        (["verify"].as_slice(), Status::NotBuilt, not_built),
+        (
+            ["check", "--derivations"].as_slice(),
+            Status::NotBuilt,
+            not_built,
+        ),
+        (
+            ["run", "--workers", "2"].as_slice(),
+            Status::NotBuilt,
+            not_built,
+        ),
+        (
+            ["demo", "--", "stream"].as_slice(),
+            Status::NotBuilt,
+            not_built,
+        ),
+        (
+            ["gen", "0"].as_slice(),
+            Status::Fine,
+            "roles 2 ahead 0 rounds 1\naccepted\nR0: nodes 3 pending 1 rank 0\nR1: nodes 3 pending 1 rank 0\nroom 3\n",
+        ),
+        (
+            ["gen", "3"].as_slice(),
+            Status::Fine,
+            "roles 5 ahead 3 rounds 4\naccepted\nR0: nodes 17 pending 3 rank 5\nR1: nodes 12 pending 1 rank 0\nR2: nodes 12 pending 1 rank 0\nR3: nodes 12 pending 1 rank 0\nR4: nodes 12 pending 1 rank 0\nroom 22\n",
+        ),
+        (
+            ["gen", "4294967295"].as_slice(),
+            Status::Fine,
+            "roles 5 ahead 0 rounds 57\naccepted\nR0: nodes 171 pending 1 rank 0\nR1: nodes 171 pending 1 rank 0\nR2: nodes 171 pending 1 rank 0\nR3: nodes 171 pending 1 rank 0\nR4: nodes 171 pending 1 rank 0\nroom 3\n",
+        ),
+    ] {
+        let (found, bytes) = answer_unread(&rt, alloc, words)?;
+        assert_eq!(rt; found, status, "{written}");
+        assert_eq!(rt; bytes.as_slice(), written.as_bytes());
+    }
+    let (found, bytes) = answer_unread(&rt, alloc, &["gen", "4269"])?;
+    let mut written = String::from_str(
+        alloc,
+        "roles 15 ahead 4 rounds 61\naccepted\nR0: nodes 190 pending 4 rank 7\n",
+    )?;
+    for role in 1..15 {
+        let line = format!(in alloc; "R{role}: nodes 183 pending 1 rank 0\n")?;
+        written.push_str(line.as_str())?;
+    }
+    written.push_str("room 37\n")?;
+    assert_eq!(rt; found, Status::Fine);
+    assert_eq!(rt; bytes.as_slice(), written.as_bytes());
+    Ok(())
+}
+
+/// B's machine sends before it receives sixteen messages.
+fn sixteen_behind(alloc: Global) -> Result<String, Fail> {
+    let mut text = String::from_str(alloc, "roles A, B\nprotocol ")?;
+    text.push_str(repeated(
+        alloc,
+        "",
+        "A->B:x(). ",
+        16,
+        "B->A:y(). end\nmachine B: A!y(). ",
+    )?
+    .as_str())?;
+    text.push_str(repeated(alloc, "", "A?x(). ", 16, "end\n")?.as_str())?;
+    Ok(text)
+}
+
+#[test]
+fn words_give_the_bound(rt: HostRuntime) -> Result<(), Fail> {
+    let alloc = rt.alloc();
+    let text = sixteen_behind(alloc)?;
+    let accepted =
+        "accepted\nA: nodes 19 pending 1 rank 0\nB: nodes 34 pending 16 rank 16\nroom 289\n";
+    for (words, status, written) in [
+        (
+            ["check", "--bound", "16"].as_slice(),
+            Status::Fine,
+            accepted,
+        ),
+        (["check", "--bound=16"].as_slice(), Status::Fine, accepted),
+        (
+            ["check", "--bound", "64", "--"].as_slice(),
+            Status::Fine,
+            accepted,
+        ),
+        (
+            ["check", "--bound", "15"].as_slice(),
+            Status::Refused,
+            "refused\nB: not found, cut yes\n",
+        ),
+    ] {
+        let (found, bytes) = answer(&rt, alloc, words, text.as_bytes())?;
+        assert_eq!(rt; found, status, "{written}");
+        assert_eq!(rt; bytes.as_slice(), written.as_bytes());
+    }
+    Ok(())
+}
+
+#[test]
+fn texts_have_their_answers(rt: HostRuntime) -> Result<(), Fail> {
     let alloc = rt.alloc();
     let check = ["check"].as_slice();
     let show = ["show"].as_slice();
     let project = ["project"].as_slice();
     for (words, text, status, written) in [
-        // words
-        ([].as_slice(), SESSION, Status::Usage, "usage\n"),
-        (["frob"].as_slice(), SESSION, Status::Usage, "usage\n"),
-        (["Check"].as_slice(), SESSION, Status::Usage, "usage\n"),
-        (
-            ["check", "x"].as_slice(),
-            SESSION,
-            Status::NotBuilt,
-            "not built\n",
-        ),
-        (
-            ["gen", "3"].as_slice(),
-            SESSION,
-            Status::NotBuilt,
-            "not built\n",
-        ),
         // accepted
         (check, SESSION, Status::Fine, REPORT),
         (
@@ -378,13 +498,7 @@ fn machines_of_their_own_are_accepted_or_refused(rt: HostRuntime) -> Result<(), 
             Status::Refused,
             "refused\nB: not found, cut no\n",
         ),
-        // as far ahead as the bound allows
-        (
-            "roles A, B\nprotocol A->B:x(). A->B:x(). A->B:x(). A->B:x(). A->B:x(). A->B:x(). A->B:x(). A->B:x(). A->B:x(). A->B:x(). A->B:x(). A->B:x(). A->B:x(). A->B:x(). A->B:x(). A->B:x(). B->A:y(). end\nmachine B: A!y(). A?x(). A?x(). A?x(). A?x(). A?x(). A?x(). A?x(). A?x(). A?x(). A?x(). A?x(). A?x(). A?x(). A?x(). A?x(). A?x(). end\n",
-            Status::Fine,
-            "accepted\nA: nodes 19 pending 1 rank 0\nB: nodes 34 pending 16 rank 16\nroom 289\n",
-        ),
-        // .. and one more
+        // further ahead than the bound allows
         (
             "roles A, B\nprotocol A->B:x(). A->B:x(). A->B:x(). A->B:x(). A->B:x(). A->B:x(). A->B:x(). A->B:x(). A->B:x(). A->B:x(). A->B:x(). A->B:x(). A->B:x(). A->B:x(). A->B:x(). A->B:x(). A->B:x(). B->A:y(). end\nmachine B: A!y(). A?x(). A?x(). A?x(). A?x(). A?x(). A?x(). A?x(). A?x(). A?x(). A?x(). A?x(). A?x(). A?x(). A?x(). A?x(). A?x(). A?x(). end\n",
             Status::Refused,
@@ -412,6 +526,169 @@ fn machines_of_their_own_are_accepted_or_refused(rt: HostRuntime) -> Result<(), 
         let (found, bytes) = answer(&rt, alloc, &["check"], text.as_bytes())?;
         assert_eq!(rt; found, status, "{text}");
         assert_eq!(rt; bytes.as_slice(), written.as_bytes(), "{text}");
+    }
+    Ok(())
+}
+
+#[test]
+fn sessions_run(rt: HostRuntime) -> Result<(), Fail> {
+    let alloc = rt.alloc();
+    for (text, status, written) in [
+        // B sends first
+        (
+            "roles A, B\nprotocol A->B:x(). B->A:y(). end\nmachine B: A!y(). A?x(). end\n",
+            Status::Fine,
+            "ended\nA: B!x B?y\nB: A!y A?x\n",
+        ),
+        // there is nothing to do
+        (
+            "roles A, B\nprotocol end\n",
+            Status::Fine,
+            "ended\nA:\nB:\n",
+        ),
+        // the double buffer with an end, K one `ready` ahead
+        (
+            "roles K, S, T\nprotocol rec X. K->S:ready(). T->K:ready(). S->K{copy(bytes). K->T:copy(bytes). X, stop(). K->S:ready(). K->T:stop(). end}\nmachine K: S!ready(). rec X. S!ready(). T?ready(). S?{copy(bytes). T!copy(bytes). X, stop(). T!stop(). end}\n",
+            Status::Fine,
+            "ended\nK: S!ready S!ready T?ready S?copy(816b4b) T!copy S!ready T?ready S?stop T!stop\nS: K?ready K!copy K?ready K!stop K?ready\nT: K!ready K?copy(aa1f) K!ready K?stop\n",
+        ),
+        // a value of each sort
+        (
+            "roles A, B\nprotocol A->B:x(nat). end\n",
+            Status::Fine,
+            "ended\nA: B!x\nB: A?x(21468)\n",
+        ),
+        (
+            "roles A, B\nprotocol A->B:x(bool). end\n",
+            Status::Fine,
+            "ended\nA: B!x\nB: A?x(false)\n",
+        ),
+        (
+            "roles A, B\nprotocol A->B:x(). A->B:x(). A->B:y(bool). end\n",
+            Status::Fine,
+            "ended\nA: B!x B!x B!y\nB: A?x A?x A?y(true)\n",
+        ),
+        (
+            "roles A, B\nprotocol A->B:x(int). end\n",
+            Status::Fine,
+            "ended\nA: B!x\nB: A?x(5084)\n",
+        ),
+        (
+            "roles A, B\nprotocol A->B:x(bytes). end\n",
+            Status::Fine,
+            "ended\nA: B!x\nB: A?x(0465aa)\n",
+        ),
+        (
+            "roles A, B\nprotocol A->B:x(list). end\n",
+            Status::Fine,
+            "ended\nA: B!x\nB: A?x([-6396,5733,-12886])\n",
+        ),
+        // .. and of those without an item
+        (
+            "roles A, B\nprotocol B->A:u(). B->A:u(). B->A:x(bytes). end\n",
+            Status::Fine,
+            "ended\nA: B?u B?u B?x()\nB: A!u A!u A!x\n",
+        ),
+        (
+            "roles A, B\nprotocol B->A:u(). B->A:u(). B->A:x(list). end\n",
+            Status::Fine,
+            "ended\nA: B?u B?u B?x([])\nB: A!u A!u A!x\n",
+        ),
+        // what is refused isn't run
+        (
+            "roles A, B\nprotocol A->B:x(). B->A:y(). end\nmachine A: B?y(). B!x(). end\n",
+            Status::Refused,
+            "refused\nA: not found, cut no\n",
+        ),
+        (
+            "roles A, B\nprotocol A->A:x(). end\n",
+            Status::Malformed,
+            "malformed protocol: node 0 talks to itself\n",
+        ),
+    ] {
+        let (found, bytes) = answer(&rt, alloc, &["run"], text.as_bytes())?;
+        assert_eq!(rt; found, status, "{text}");
+        assert_eq!(rt; bytes.as_slice(), written.as_bytes(), "{text}");
+    }
+    Ok(())
+}
+
+/// Each sends twice before it receives.
+const TWICE: &str =
+    "roles A, B\nprotocol A->B:x(). A->B:x(). B->A:y(). B->A:y(). end\nmachine B: A!y(). A!y(). A?x(). A?x(). end\n";
+
+/// One message.
+const ONE: &str = "roles A, B\nprotocol A->B:x(nat). end\n";
+
+#[test]
+fn words_give_the_options_of_a_run(rt: HostRuntime) -> Result<(), Fail> {
+    let alloc = rt.alloc();
+    for (words, text, status, written) in [
+        (
+            ["run", "--ring", "1"].as_slice(),
+            TWICE,
+            Status::Full,
+            "full A->B sent 1 taken 0\n",
+        ),
+        (
+            ["run", "--ring=11"].as_slice(),
+            TWICE,
+            Status::Fine,
+            "ended\nA: B!x B!x B?y B?y\nB: A!y A!y A?x A?x\n",
+        ),
+        (
+            ["run", "--limit", "3"].as_slice(),
+            "roles K, S, T\nprotocol rec X. K->S:ready(). T->K:ready(). S->K:copy(bytes). K->T:copy(bytes). X\nmachine K: S!ready(). rec X. S!ready(). T?ready(). S?copy(bytes). T!copy(bytes). X\n",
+            Status::Stopped,
+            "stopped K\n",
+        ),
+        // a role that ends with its last act isn't stopped
+        (
+            ["run", "--limit", "4"].as_slice(),
+            TWICE,
+            Status::Fine,
+            "ended\nA: B!x B!x B?y B?y\nB: A!y A!y A?x A?x\n",
+        ),
+        (
+            ["run", "--limit", "3"].as_slice(),
+            TWICE,
+            Status::Stopped,
+            "stopped A\n",
+        ),
+        (
+            ["run", "--seed", "1"].as_slice(),
+            ONE,
+            Status::Fine,
+            "ended\nA: B!x\nB: A?x(5758)\n",
+        ),
+        (
+            ["run", "--workers", "1", "--seed=0"].as_slice(),
+            ONE,
+            Status::Fine,
+            "ended\nA: B!x\nB: A?x(21468)\n",
+        ),
+        (
+            ["run", "--bound", "1"].as_slice(),
+            TWICE,
+            Status::Refused,
+            "refused\nB: not found, cut yes\n",
+        ),
+        (
+            ["run", "--workers", "2"].as_slice(),
+            ONE,
+            Status::NotBuilt,
+            "not built\n",
+        ),
+        (
+            ["run", "--ring", "0"].as_slice(),
+            ONE,
+            Status::Usage,
+            "usage\n",
+        ),
+    ] {
+        let (found, bytes) = answer(&rt, alloc, words, text.as_bytes())?;
+        assert_eq!(rt; found, status, "{written}");
+        assert_eq!(rt; bytes.as_slice(), written.as_bytes());
     }
     Ok(())
 }

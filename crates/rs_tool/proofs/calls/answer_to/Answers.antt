@@ -1,21 +1,24 @@
-use Rattle.std.proofs.Common.{sym}
-use Rattle.rs_tool.specs.Answers.{Answers, CarriesOut}
-use Rattle.rs_tool.specs.Words.{bytes_of_words}
-use Rattle.rs_tool.proofs.Answering.{of_long, of_told, where_told}
+use Rattle.rs_words.specs.Words.{bytes_of_words}
+use Rattle.rs_words.proofs.Ranges.{spelt_numbers_are_in_range}
+use Rattle.rs_tool.proofs.Answering.{for_task_made, nothing_reads, read_by_task, unread_by_task}
 use Rattle.rs_tool.proofs.calls.answer_to.Goals as goal
 
-pub returns-in_default-clause-answer : goal.returns-in_default-clause-answer
-returns-in_default-clause-answer g c = where_told (g.S.Source.left c.args.source.now) _ c.in_ok-answer_to_words.ensures
+pub answer_to_task-requires : goal.answer_to_task-requires
+answer_to_task-requires g c = spelt_numbers_are_in_range (bytes_of_words c.args.words.now) c.in-Some.task (rw c.in-Some.is at c.in_ok-task.ensures)
 
-pub returns-in_ok-answer_to_text-in-Ok-clause-answer : goal.returns-in_ok-answer_to_text-in-Ok-clause-answer
-returns-in_ok-answer_to_text-in-Ok-clause-answer g c =
-    of_told (g.S.Source.left c.args.source.now) c.in-Ok.bytes.items (λ b. Answers (bytes_of_words c.args.words.now) b c.in_ok-answer_to_text-in-Ok.field-0) c.in-Ok.ensures.all
-    (CarriesOut c.in-Some.task (sym c.in-Some.ensures) (rw c.as_slice.ensures.value at c.in_ok-answer_to_text-in-Ok.ensures))
+pub returns-in-Some-clause-answer : goal.returns-in-Some-clause-answer
+returns-in-Some-clause-answer g c =
+    for_task_made (bytes_of_words c.args.words.now) c.in-Some.task (g.S.Source.left c.args.source.now) c.answer_to_task.result (rw c.in-Some.is at c.in_ok-task.ensures) c.answer_to_task.ensures.answer c.answer_to_task.ensures.unasked
 
-pub returns-in_ok-answer_to_text-in-Ok-clause-end : goal.returns-in_ok-answer_to_text-in-Ok-clause-end
-returns-in_ok-answer_to_text-in-Ok-clause-end g c = λ r. where_told (g.S.Source.left c.args.source.now) _ (λ bytes. λ le. c.in-Ok.ensures.end)
+pub returns-in-Some-clause-end : goal.returns-in-Some-clause-end
+returns-in-Some-clause-end g c = read_by_task (bytes_of_words c.args.words.now) c.in-Some.task _ (rw c.in-Some.is at c.in_ok-task.ensures) c.answer_to_task.ensures.end
 
-pub returns-in_ok-too_large-in-Err-TooLong-clause-answer : goal.returns-in_ok-too_large-in-Err-TooLong-clause-answer
-returns-in_ok-too_large-in-Err-TooLong-clause-answer g c =
-    of_long (bytes_of_words c.args.words.now) c.in-Some.task (g.S.Source.left c.args.source.now) c.in_ok-too_large-in-Err-TooLong.field-0 (sym c.in-Some.ensures) (c.read_all.ensures.too_long (rw c.in-Err-TooLong.field-0-is at c.in-Err-TooLong.is))
-    c.in_ok-too_large-in-Err-TooLong.ensures
+pub returns-in-Some-clause-unread : goal.returns-in-Some-clause-unread
+returns-in-Some-clause-unread g c =
+    unread_by_task (bytes_of_words c.args.words.now) c.in-Some.task c.args.source.now c.answer_to_task.new.source (rw c.in-Some.is at c.in_ok-task.ensures) c.answer_to_task.ensures.unread
+
+pub returns-in_err-usage-in-None-clause-end : goal.returns-in_err-usage-in-None-clause-end
+returns-in_err-usage-in-None-clause-end g c = λ read. absurd (nothing_reads (bytes_of_words c.args.words.now) (rw c.in-None.is at c.in_ok-task.ensures) read)
+
+pub returns-in_ok-usage-in-None-clause-end : goal.returns-in_ok-usage-in-None-clause-end
+returns-in_ok-usage-in-None-clause-end g c = λ read. absurd (nothing_reads (bytes_of_words c.args.words.now) (rw c.in-None.is at c.in_ok-task.ensures) read)

@@ -1,12 +1,20 @@
-use Rattle.rs_tool.specs.Words.{bytes_of_words}
+use Rattle.rs_words.specs.Words.{bytes_of_words}
 use Rattle.rs_io.specs.Faults.{Rose}
 use Rattle.rs_tool.proofs.Complete.{complete}
-use Rattle.rs_tool.proofs.Headline.{fine-is-safe}
+use Rattle.rs_tool.proofs.Headline.{fine-is-safe, pipeline-is-safe, runs-are-safe}
 use Rattle.rs_tool.proofs.calls.command_serial.Goals as goal
 
 pub returns-clause-headline : goal.returns-clause-headline
-returns-clause-headline g c = λ check.
-    fine-is-safe (bytes_of_words c.args.words.now) (g.S.Source.left c.args.source.now) (g.K.Sink.written c.args.sink.now) (g.K.Sink.written c.carry_out.new.sink) c.carry_out.result check c.carry_out.ensures.answer
+returns-clause-headline g c = λ bound check.
+    fine-is-safe (bytes_of_words c.args.words.now) (g.S.Source.left c.args.source.now) (g.K.Sink.written c.args.sink.now) (g.K.Sink.written c.carry_out.new.sink) c.carry_out.result bound check c.carry_out.ensures.answer
+
+pub returns-clause-run : goal.returns-clause-run
+returns-clause-run g c = λ options spells.
+    runs-are-safe (bytes_of_words c.args.words.now) (g.S.Source.left c.args.source.now) (g.K.Sink.written c.args.sink.now) (g.K.Sink.written c.carry_out.new.sink) c.carry_out.result options spells c.carry_out.ensures.answer
+
+pub returns-clause-pipeline : goal.returns-clause-pipeline
+returns-clause-pipeline g c = λ number spells.
+    pipeline-is-safe (bytes_of_words c.args.words.now) (g.S.Source.left c.args.source.now) (g.K.Sink.written c.args.sink.now) (g.K.Sink.written c.carry_out.new.sink) c.carry_out.result number spells c.carry_out.ensures.answer
 
 pub returns-clause-complete : goal.returns-clause-complete
 returns-clause-complete g c =

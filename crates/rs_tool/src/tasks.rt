@@ -1,0 +1,33 @@
+//! Which tasks are built, and which of them read the input.
+
+ghost use Rattle.std.specs.Prelude.{◌≡◌};
+ghost use Rattle.rs_tool.specs.Tasks as spec;
+
+use rs_words::Task;
+
+/// Whether the task is carried out on the text of the input.
+pub fn reads_input(task: Task) -> bool
+    ensures { result ≡ spec.reads_input task }
+{
+    match task {
+        Task::Check { derivations, .. } => !derivations,
+        Task::Show => true,
+        Task::Project => true,
+        Task::Run { workers, .. } => workers == 1,
+        _ => false,
+    }
+}
+
+/// Whether the task is carried out.
+pub fn is_built(task: Task) -> bool
+    ensures { result ≡ spec.is_built task }
+{
+    match task {
+        Task::Check { derivations, .. } => !derivations,
+        Task::Show => true,
+        Task::Project => true,
+        Task::Run { workers, .. } => workers == 1,
+        Task::Gen { .. } => true,
+        _ => false,
+    }
+}
