@@ -62,11 +62,13 @@ module _ {A : Type 0} (b : Behaviour A) where
           let rest = on e in
           let P : ℕ → Type 0 = λ z. CanMoveWithin ms capacity l.at z → ⊥ in
           let Q : Configuration → Type 0 = λ z. (r : ℕ) → suc p ≤ r → r < suc p + many → CanMoveWithin ms capacity z r → ⊥ in
-          let others = subst Q here.0 rest.1 in
-          (rest.0 ∙ here.0, λ r low high. elim (eqb_tells r p) [
-            | inl x ↦ subst P (sym x.1) here.1
-            | inr x ↦ others r (omega (arith, x.1)) (omega arith)
-          ])
+          let others = subst Q here.0 rest.1 in (
+            rest.0 ∙ here.0,
+            λ r low high. elim (eqb_tells r p) [
+              | inl x ↦ subst P (sym x.1) here.1
+              | inr x ↦ others r (omega (arith, x.1)) (omega arith)
+            ],
+          )
 
   -- a configuration that is reached, in which none can go on, though some role hasn't ended
   record Blocked (ms : List Machine_data) (capacity : ℕ) (c : Configuration) : Type 0 where

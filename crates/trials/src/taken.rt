@@ -7,8 +7,8 @@ use crate::session::{Session, session_of};
 use rs_alive::{AliveFault, taken_within};
 use rs_core::{Core, Event};
 use rs_model::{Machine, NoMemory, Role};
-use rs_safety::{Accepted, accept};
-use rs_tool::{Content, read_document};
+use rs_safety::Accepted;
+use rs_tool::accept_derived;
 use std::alloc::Global;
 
 fn copies_of(alloc: Global, machines: &[Machine]) -> Result<Vec<Machine>, NoMemory>
@@ -199,26 +199,22 @@ fn each_taken(alloc: Global, accepted: &Accepted, past: &[Event]) -> bool
 pub fn are_taken(alloc: Global, text: &[u8], past: &[Event]) -> bool
     requires { length past.now < 2 ^ 32 }
 {
-    let Ok(Content::Document(document)) = read_document(alloc, text) else {
-        return false;
-    };
-    let Some(session) = session_of(alloc, &document) else {
+    let Some(session) = session_of(alloc, text) else {
         return false;
     };
     let Session {
+        document,
         projections,
         machines,
         derivations,
     } = session;
-    match accept(
+    let accepted = accept_derived(
         &document.protocol,
         projections.as_slice(),
         machines,
         derivations.as_slice(),
-    ) {
-        Ok(accepted) => each_taken(alloc, &accepted, past),
-        Err(_refused) => false,
-    }
+    );
+    each_taken(alloc, &accepted, past)
 }
 
 fn answer_of(
@@ -252,24 +248,20 @@ pub fn taken_of(
 ) -> Option<Result<Vec<Event>, AliveFault>>
     requires { length past.now < 2 ^ 32 }
 {
-    let Ok(Content::Document(document)) = read_document(alloc, text) else {
-        return None;
-    };
-    let Some(session) = session_of(alloc, &document) else {
+    let Some(session) = session_of(alloc, text) else {
         return None;
     };
     let Session {
+        document,
         projections,
         machines,
         derivations,
     } = session;
-    match accept(
+    let accepted = accept_derived(
         &document.protocol,
         projections.as_slice(),
         machines,
         derivations.as_slice(),
-    ) {
-        Ok(accepted) => answer_of(alloc, &accepted, past, sender, receiver, place),
-        Err(_refused) => None,
-    }
+    );
+    answer_of(alloc, &accepted, past, sender, receiver, place)
 }
