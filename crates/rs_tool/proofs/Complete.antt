@@ -9,7 +9,7 @@ use Rattle.rs_wellformed.proofs.Faults as of_protocols
 use Rattle.rs_tool.specs.Answers.{Answers, CarriesOut, IsDocument, ReadsInput}
 use Rattle.rs_tool.specs.Calls.{Ends, Tells, TellsAll, TellsPart, TellsReadFault, TellsNoMemory}
 use Rattle.rs_tool.specs.Checks.{IsAccepted}
-use Rattle.rs_tool.specs.Completeness.{AllFit, IsComplete, SpellsDerivableSession}
+use Rattle.rs_tool.specs.Completeness.{EachIsWellFormed, IsComplete, SpellsDerivableSession}
 use Rattle.rs_tool.specs.Data.{Answer_data}
 use Rattle.rs_tool.specs.Derivations.{AreCanonical}
 use Rattle.rs_tool.specs.Machines.{machines_of}
@@ -25,7 +25,7 @@ use Rattle.rs_tool.proofs.SomeAnswer.{Searched, AllFound, OneIsnt, found_first}
 use Rattle.rs_tool.proofs.Unique.{one_answer}
 
 -- where each machine is well formed none is refused
-none_refused : (roles : ℕ) (machines : List Machine_data) → AllFit roles machines → first_refusal roles machines ≡ None
+none_refused : (roles : ℕ) (machines : List Machine_data) → EachIsWellFormed roles machines → first_refusal roles machines ≡ None
 none_refused roles [] fit = refl
 none_refused roles (m ∷ machines) fit = rw (of_machines.right m roles (fit zero m refl), none_refused roles machines (λ p n at. fit (suc p) n at)) refl
 

@@ -15,8 +15,8 @@ use Rattle.rs_tool.specs.declared.statuses.Status.{Status}
 use Rattle.rs_tool.specs.declared.statuses.Status.TheVariants.{Fine, NoMemory}
 
 -- each machine is well formed
-abbrev pub AllFit : ℕ → List Machine_data → Type 0
-AllFit roles machines = (p : ℕ) (m : Machine_data) → slice_get machines p ≡ Some m → IsWellFormedMachine m roles
+abbrev pub EachIsWellFormed : ℕ → List Machine_data → Type 0
+EachIsWellFormed roles machines = (p : ℕ) (m : Machine_data) → slice_get machines p ≡ Some m → IsWellFormedMachine m roles
 
 -- each machine may be derived from its projection within the bound: there are at most 65,536 candidates, the start
 -- survives, and the canonical derivation forgets no act that is owed
@@ -33,7 +33,7 @@ pub record SpellsDerivableSession (bound : ℕ) (bytes : List ℕ) : Type 0 wher
   pub spells : SpellsDocument bytes document
   pub well_formed : IsWellFormed document.protocol
   pub projected : AreNumberedProjections document.protocol projections
-  pub machines_fit : AllFit document.protocol.roles (machines_of document.machines projections)
+  pub machines_fit : EachIsWellFormed document.protocol.roles (machines_of document.machines projections)
   pub derivable : AreDerivable bound (machines_of document.machines projections) projections
 
 -- a `check` of such a text within the bound, in which no fault of the source or the sink rises, is fine or wants memory
