@@ -1,5 +1,5 @@
 -- What an answer that was made says of its document, and a call that wrote it of its source and sink.
-use Rattle.std.proofs.Common.{◌≡◌, ℕ, ◌≤◌, ◌<◌, ◌⊎◌, List, length, Bool, true, false, Option, Some, None, Result, Ok, Err, refl, sym, ap, subst, ◌∙◌, inl, inr}
+use Rattle.std.proofs.Common.{◌≡◌, ℕ, ◌≤◌, ◌<◌, ◌⊎◌, List, length, ◌++◌, Bool, true, false, Option, Some, None, Result, Ok, Err, refl, sym, ap, subst, ◌∙◌, inl, inr}
 use Rattle.std.specs.Prelude.{IfOk, IfErr, IsErrAnd, IfSome, OnOk, codes}
 use Rattle.std.specs.Io.KnownBytes.{Appends, Keeps, IsAtEnd}
 use Rattle.rs_io.specs.Prefix.{AppendsPrefix}
@@ -27,8 +27,10 @@ use Rattle.rs_tool.specs.declared.statuses.Verdict.TheVariants as verdict
 use Rattle.rs_words.specs.declared.tasks.Task.{Task}
 use Rattle.rs_words.specs.declared.tasks.Task.TheVariants as task
 use Rattle.rs_words.specs.Meaning.{IsMeaning, SpellsTask}
+use Rattle.rs_pipeline.specs.Pipelines.{pipeline_of, pipeline_summary, pipeline_text}
 use Rattle.rs_words.proofs.Exact.{words_spell_one_task}
-use Rattle.rs_tool.specs.Answers.{Answers, CarriesOut, AnswersText, IsTooLong, IsFaulty, IsDocument, AnswersDocument, AnswersTask, ReadsInput}
+use Rattle.rs_words.specs.declared.limits.TheConstants.{DEFAULT_BOUND}
+use Rattle.rs_tool.specs.Answers.{Answers, CarriesOut, AnswersText, IsTooLong, IsFaulty, IsDocument, AnswersDocument, AnswersPipeline, AnswersTask, ReadsInput}
 use Rattle.rs_tool.specs.Calls.{Ends, ForInput, IsStopped, Tells, TellsAll, TellsPart, TellsReadFault, TellsNoMemory}
 use Rattle.rs_tool.specs.Checks as checks
 use Rattle.rs_tool.specs.Checks.{Checks}
@@ -316,3 +318,9 @@ ends_stopped {S} words left later written read_rose write_rose source behind why
 pub some_tables : (d : Document_data) (ps : List Projection_data) (text : List ℕ) → first_fault d.protocol ≡ None → AreNumberedProjections d.protocol ps → text ≡ tables.tables_text d.names ps
     → Projects d (record { text = text; verdict = verdict.Fine })
 some_tables d ps text none h is = tables.HasTables ps (record { well_formed = none; projected = h }) (ap (λ z. record { text = z; verdict = verdict.Fine }) is)
+
+-- the answer to `gen`
+pub piped : (number : ℕ) (checked : Answer_data) (text summary : List ℕ) (verdict : Verdict) → AnswersText (task.Check DEFAULT_BOUND false) (pipeline_text (pipeline_of number)) checked → summary ≡ pipeline_summary (pipeline_of number) → text ≡ summary ++ checked.text
+    → verdict ≡ checked.verdict → AnswersPipeline number (record { text = text; verdict = verdict })
+piped number checked text summary verdict h s t v =
+    record { checked = checked; checks = h; is = ap (λ z. record { text = z; verdict = verdict }) (t ∙ ap (λ z. z ++ checked.text) s) ∙ ap (λ z. record { text = pipeline_summary (pipeline_of number) ++ checked.text; verdict = z }) v }
