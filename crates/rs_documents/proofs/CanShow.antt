@@ -137,7 +137,7 @@ showable bytes d h =
 pub can_show : (bytes : List ℕ) (d : Document_data) → SpellsDocument bytes d → IsSound d.names → CanBeShown d
 can_show bytes d spelt sound =
     let s = showable bytes d spelt in
-    record { sound = sound; few = s.few; shaped = s.shaped; enough = s.enough; machines = s.machines; derivations = s.derivations }
+    record { sound = sound; shaped = s.shaped; enough = s.enough; machines = s.machines; derivations = s.derivations }
 
 -- .. and has as many names of roles as its protocol has roles
 pub role_names : (bytes : List ℕ) (d : Document_data) → SpellsDocument bytes d → (length d.names.roles ≡ d.protocol.roles) × AreEnough d.names d.protocol × AreShown d.names d.machines × IsTextShaped d.protocol
@@ -146,3 +146,11 @@ role_names bytes d spelt = let s = showable bytes d spelt in (s.roles, s.enough,
 -- derivations bring no roles
 pub roles_behind : (bytes : List ℕ) (next : ℕ) (names new : Names_data) (derivations : List (Option Derivation_data)) (end : ℕ) → GoesOn derivation_parts bytes next names (no_parts names.roles) (good (row_of new derivations end)) → new.roles ≡ names.roles
 roles_behind bytes next names new derivations end h = let k = keeps derivation_parts of_derivations bytes next names (no_parts names.roles) (good (row_of new derivations end)) (row_of new derivations end) h refl in k.roles
+
+-- a protocol that some text spells has 16 roles at most, and so have names that are enough
+pub few_names : (names : Names_data) (p : Protocol_data) → IsTextShaped p → AreEnough names p → length names.roles ≤ MOST_ROLES
+few_names names p shaped enough =
+    let there = spelt_enough shaped.bytes shaped.at shaped.names p shaped.until shaped.spells in
+    let same : length names.roles ≡ length shaped.names.roles = enough.roles ∙ sym there.roles in
+    let few : length shaped.names.roles ≤ MOST_ROLES = subst (λ (z : Names_data). length z.roles ≤ MOST_ROLES) (sym shaped.spells.names_are) shaped.spells.fits.few_roles in
+    subst (λ (z : ℕ). z ≤ MOST_ROLES) (sym same) few

@@ -2,6 +2,7 @@
 use Rattle.std.proofs.Common.{◌≡◌, ℕ, zero, suc, ◌+◌, ◌<◌, List, [], ◌∷◌, ◌++◌, length, take, Option, Some, None, refl, sym, ap, subst, ◌∙◌, arith, slice_index_or, append_assoc, append-nil}
 use Rattle.rs_derive.specs.Data.{Derivation_data}
 use Rattle.rs_global.specs.Canonical.{IsCanonicalText}
+use Rattle.rs_documents.specs.Parts.{no_parts}
 use Rattle.rs_model.specs.Data.{Names_data, Protocol_data, Machine_data}
 use Rattle.rs_machines.specs.Canonical.{IsCanonicalMachineText}
 use Rattle.rs_documents.specs.Canonical.{AreCanonicalMachines, AreShown, IsCanonicalDocument, derivations_text, IsShown, IsShownBehind, IsLineBehind}
@@ -59,3 +60,11 @@ printed names protocol machines derivations front mid all h k e = record {
   machines = k.1;
   is = e ∙ ap (λ z. z ++ derivations_text names derivations) k.2 ∙ append_assoc front k.0 (derivations_text names derivations);
 }
+
+-- a document without derivations ends with its machines
+none_text : (names : Names_data) (roles : List (List ℕ)) → derivations_text names (no_parts roles) ≡ []
+none_text names [] = refl
+none_text names (x ∷ xs) = none_text names xs
+
+pub without : (names : Names_data) (roles : List (List ℕ)) (front back : List ℕ) → front ++ back ≡ front ++ (back ++ derivations_text names (no_parts roles))
+without names roles front back = ap (λ z. front ++ z) (sym (ap (λ z. back ++ z) (none_text names roles) ∙ append-nil back))

@@ -1,10 +1,9 @@
 -- Believed: the canonical text of a document.
-use Rattle.std.specs.Prelude.{◌≡◌, ℕ, ◌≤◌, List, [], ◌∷◌, ◌++◌, Option, Some, None, length, slice_get}
+use Rattle.std.specs.Prelude.{◌≡◌, ℕ, List, [], ◌∷◌, ◌++◌, Option, Some, None, slice_get}
 use Rattle.std.specs.List.{flat_map}
 use Rattle.rs_derivations.specs.Canonical.{canonical_text}
 use Rattle.rs_derivations.specs.Printable.{IsPrintable}
 use Rattle.rs_derive.specs.Data.{Derivation_data}
-use Rattle.rs_model.specs.declared.limits.TheConstants.{MOST_ROLES}
 use Rattle.rs_model.specs.Data.{Names_data, Machine_data}
 use Rattle.rs_global.specs.Canonical.{IsCanonicalText, IsTextShaped}
 use Rattle.rs_global.specs.Enough.{AreEnough}
@@ -54,7 +53,6 @@ ArePrintable names derivations = (k : ℕ) (derivation : Derivation_data) → sl
 -- all that is printed of a document
 pub record CanBeShown (d : Document_data) : Type 0 where
   pub sound : IsSound d.names
-  pub few : length d.names.roles ≤ MOST_ROLES
   pub shaped : IsTextShaped d.protocol
   pub enough : AreEnough d.names d.protocol
   pub machines : AreShown d.names d.machines

@@ -8,7 +8,7 @@ use rs_core::Event;
 use rs_model::{Role, Value};
 use rs_room::{Bounded, BoundedFault};
 use rs_safety::{Accepted, accept};
-use rs_tool::{Content, read_document};
+use rs_tool::read_document;
 use std::alloc::Global;
 
 /// The room, who can go on after both roles have sent once by their first arms, and why the first one can't send again.
@@ -62,7 +62,7 @@ fn told_of(alloc: Global, accepted: &Accepted, capacity: u16) -> Option<RingsTol
 pub fn rings_of(alloc: Global, text: &[u8], capacity: u16) -> Option<RingsTold>
     requires { (1 ≤ capacity) × (capacity ≤ 1024) }
 {
-    let Ok(Content::Document(document)) = read_document(alloc, text) else {
+    let Ok(document) = read_document(alloc, text) else {
         return None;
     };
     let Some(session) = session_of(alloc, &document) else {

@@ -8,7 +8,7 @@ use rs_alive::{AliveFault, taken_within};
 use rs_core::{Core, Event};
 use rs_model::{Machine, NoMemory, Role};
 use rs_safety::{Accepted, accept};
-use rs_tool::{Content, read_document};
+use rs_tool::read_document;
 use std::alloc::Global;
 
 fn copies_of(alloc: Global, machines: &[Machine]) -> Result<Vec<Machine>, NoMemory>
@@ -199,7 +199,7 @@ fn each_taken(alloc: Global, accepted: &Accepted, past: &[Event]) -> bool
 pub fn are_taken(alloc: Global, text: &[u8], past: &[Event]) -> bool
     requires { length past.now < 2 ^ 32 }
 {
-    let Ok(Content::Document(document)) = read_document(alloc, text) else {
+    let Ok(document) = read_document(alloc, text) else {
         return false;
     };
     let Some(session) = session_of(alloc, &document) else {
@@ -252,7 +252,7 @@ pub fn taken_of(
 ) -> Option<Result<Vec<Event>, AliveFault>>
     requires { length past.now < 2 ^ 32 }
 {
-    let Ok(Content::Document(document)) = read_document(alloc, text) else {
+    let Ok(document) = read_document(alloc, text) else {
         return None;
     };
     let Some(session) = session_of(alloc, &document) else {
