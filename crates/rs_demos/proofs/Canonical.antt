@@ -25,6 +25,7 @@ use Rattle.rs_machines.specs.Trees as machine_trees
 use Rattle.rs_machines.specs.declared.marks.Mark.{Mark}
 use Rattle.rs_machines.specs.declared.marks.Mark.TheVariants as mark
 use Rattle.rs_demos.specs.Sessions.{role, arm, double_protocol, double_kernel, stream_protocol, stream_source, demo_names}
+use Rattle.rs_documents.proofs.Lines.{without}
 use Rattle.rs_demos.specs.Texts.{IsDemoText}
 use Rattle.rs_demos.specs.declared.documents.TheConstants.{DOUBLE, STREAM}
 use Rattle.rs_demos.specs.declared.kinds.Demo.TheVariants as demo
@@ -268,7 +269,7 @@ double_is n text e = record {
   back = machine_texts.machine_text double_kernel_tree;
   protocol = record { tree = double_tree; canonical = double_front; is = refl };
   machines = (machine_texts.machine_text double_kernel_tree, [], record { tree = double_kernel_tree; canonical = double_back; is = refl }, refl, refl);
-  is = e ∙ refl;
+  is = e ∙ without (demo_names demo.Double n) (demo_names demo.Double n).roles (protocol_texts.protocol_text double_tree) (machine_texts.machine_text double_kernel_tree);
 }
 
 -- the stream
@@ -375,5 +376,5 @@ stream_is n text e = record {
   back = machine_texts.machine_text stream_source_tree;
   protocol = record { tree = stream_tree; canonical = stream_front; is = refl };
   machines = (machine_texts.machine_text stream_source_tree, [], record { tree = stream_source_tree; canonical = stream_back; is = refl }, refl, refl);
-  is = e ∙ refl;
+  is = e ∙ without (demo_names demo.Stream n) (demo_names demo.Stream n).roles (protocol_texts.protocol_text stream_tree) (machine_texts.machine_text stream_source_tree);
 }

@@ -21,6 +21,7 @@ use Rattle.rs_machines.specs.Shapes.{are_small, walks}
 use Rattle.rs_machines.specs.declared.marks.Mark.{Mark}
 use Rattle.rs_machines.specs.declared.marks.Mark.TheVariants as mark
 use Rattle.rs_machines.proofs.ShapeWhole as machines
+use Rattle.rs_documents.proofs.Parts.{none_there}
 use Rattle.rs_documents.specs.Canonical.{AreShown, CanBeShown}
 use Rattle.rs_demos.specs.Sessions.{has_session, demo_names, demo_protocol, written_machines}
 use Rattle.rs_demos.specs.Texts.{document_of}
@@ -120,6 +121,7 @@ can-be-shown kind n h =
             (at-all (node_named (length (demo_names kind n).labels)) (demo_protocol kind n).nodes k (Talk s r arms) d.1 e) t;
       };
       machines = shown (demo_names kind n) (written_machines kind n) c.1;
+      derivations = λ k x e. absurd (none_there (demo_names kind n).roles k x e);
     }
 
 -- all demos

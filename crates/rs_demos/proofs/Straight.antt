@@ -20,8 +20,9 @@ use Rattle.rs_machines.specs.Texts as machine_texts
 use Rattle.rs_machines.specs.Trees as machine_trees
 use Rattle.rs_machines.specs.declared.marks.Mark.{Mark}
 use Rattle.rs_machines.specs.declared.marks.Mark.TheVariants as mark
-use Rattle.rs_demos.specs.Sessions.{Exchange, role, arm, machine, role_name, numbers_from, nodes_from, states_from, protocol_of, has_session, ring_exchanges, ring_pairs, butterfly_exchanges, butterfly_pairs, written}
+use Rattle.rs_demos.specs.Sessions.{demo_names, Exchange, role, arm, machine, role_name, numbers_from, nodes_from, states_from, protocol_of, has_session, ring_exchanges, ring_pairs, butterfly_exchanges, butterfly_pairs, written}
 use Rattle.rs_documents.specs.Canonical.{AreCanonicalMachines}
+use Rattle.rs_documents.proofs.Lines.{without}
 use Rattle.rs_demos.specs.Texts.{IsDemoText}
 use Rattle.rs_demos.specs.Writing.{exchanges_text, pairs_text, other_name, machine_line, front_text, ring_line, butterfly_line, ring_text, butterfly_text}
 use Rattle.rs_demos.specs.declared.kinds.Demo.{Demo}
@@ -268,7 +269,8 @@ ring-at k text t e =
       back = flat_map (ring_line (suc (suc k))) (range_with_len 1 (suc k));
       protocol = front-is k (ring_exchanges (suc (suc k))) p.0;
       machines = lines demo.Ring (suc (suc k)) (ring_pairs (suc (suc k))) (suc k) 1 (omega arith) (omega arith) (pairs-within ring_pairs (suc (suc k)) p.1) ring-written;
-      is = e ∙ ap (λ (z : ℕ). front_text (suc (suc k)) (ring_exchanges (suc (suc k))) ++ flat_map (ring_line (suc (suc k))) (range_with_len 1 z)) (less k);
+      is = e ∙ ap (λ (z : ℕ). front_text (suc (suc k)) (ring_exchanges (suc (suc k))) ++ flat_map (ring_line (suc (suc k))) (range_with_len 1 z)) (less k)
+          ∙ without (demo_names demo.Ring (suc (suc k))) (demo_names demo.Ring (suc (suc k))).roles (front_text (suc (suc k)) (ring_exchanges (suc (suc k)))) (flat_map (ring_line (suc (suc k))) (range_with_len 1 (suc k)));
     }
 
 butterfly-at : (k : ℕ) (text : List ℕ) → tests butterfly_exchanges butterfly_pairs (suc (suc k)) ≡ true → text ≡ butterfly_text (suc (suc k))
@@ -280,7 +282,8 @@ butterfly-at k text t e =
       back = flat_map (butterfly_line (suc (suc k))) (range_with_len 1 (suc k));
       protocol = front-is k (butterfly_exchanges (suc (suc k))) p.0;
       machines = lines demo.Butterfly (suc (suc k)) (butterfly_pairs (suc (suc k))) (suc k) 1 (omega arith) (omega arith) (pairs-within butterfly_pairs (suc (suc k)) p.1) butterfly-written;
-      is = e ∙ ap (λ (z : ℕ). front_text (suc (suc k)) (butterfly_exchanges (suc (suc k))) ++ flat_map (butterfly_line (suc (suc k))) (range_with_len 1 z)) (less k);
+      is = e ∙ ap (λ (z : ℕ). front_text (suc (suc k)) (butterfly_exchanges (suc (suc k))) ++ flat_map (butterfly_line (suc (suc k))) (range_with_len 1 z)) (less k)
+          ∙ without (demo_names demo.Butterfly (suc (suc k))) (demo_names demo.Butterfly (suc (suc k))).roles (front_text (suc (suc k)) (butterfly_exchanges (suc (suc k)))) (flat_map (butterfly_line (suc (suc k))) (range_with_len 1 (suc k)));
     }
 
 ring-tests : list_all (tests ring_exchanges ring_pairs) (range_with_len 2 15) ≡ true

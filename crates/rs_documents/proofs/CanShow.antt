@@ -1,103 +1,156 @@
 -- A document that a text spells can be printed.
-use Rattle.std.proofs.Common.{◌≡◌, ℕ, zero, suc, ◌≤◌, List, [], ◌∷◌, length, Option, Some, None, refl, sym, ap, subst, ◌∙◌, arith, slice_set, if◌then◌else◌, Bool, true, false, ◌++◌, length-append}
-use Rattle.rs_model.specs.Data.{Names_data, Protocol_data, Machine_data}
-use Rattle.rs_text.specs.Names.{grown, is_among}
-use Rattle.rs_text.specs.Sound.{IsSound}
+use Rattle.std.proofs.Common.{◌≡◌, ℕ, zero, suc, ◌<◌, ◌≤◌, List, [], ◌∷◌, length, Option, Some, None, Result, Ok, Err, refl, sym, ap, subst, ◌∙◌, arith, slice_get, slice_set}
+use Rattle.std.proofs.lemmas.List.Elements.{All-cons, All-head, All-nil, All-tail}
+use Rattle.std.specs.List.{All}
+use Rattle.rs_derivations.proofs.Spelt as derivation_laws
+use Rattle.rs_derivations.specs.Printable.{IsPrintable, RolesHaveNames, acts_of, label_of, peer_of}
+use Rattle.rs_derive.specs.Data.{Derivation_data}
+use Rattle.rs_documents.specs.Canonical.{AreShown, ArePrintable, CanBeShown}
+use Rattle.rs_documents.specs.Data.{Document_data}
+use Rattle.rs_documents.specs.Documents.{SpellsDocument}
+use Rattle.rs_documents.specs.Parts.{PartKind, Row, GoesOn, Stops, Repeats, Fails, Adds, with_part, machine_parts, derivation_parts, no_parts}
+use Rattle.rs_documents.specs.Reading.{AllHave}
+use Rattle.rs_documents.proofs.PartKinds.{of_machines, of_derivations}
+use Rattle.rs_documents.proofs.Parts.{IsKind, good, keeps, none_there, row_of, set_all}
+use Rattle.rs_global.proofs.EnoughNames.{spelt_enough, spelt_shaped}
 use Rattle.rs_global.specs.Canonical.{IsTextShaped}
 use Rattle.rs_global.specs.Enough.{AreEnough}
-use Rattle.rs_global.proofs.EnoughNames.{spelt_enough, spelt_shaped}
+use Rattle.rs_machines.proofs.EnoughNames as machine_names
 use Rattle.rs_machines.specs.Canonical.{IsMachineTextShaped}
-use Rattle.rs_machines.specs.Machines.{labels_of}
-use Rattle.rs_machines.specs.Spells.{SpellsMachine}
-use Rattle.rs_documents.specs.Data.{Document_data}
-use Rattle.rs_documents.specs.Documents.{GoesOn, Ends, Derives, Breaks, Repeats, Fails, Adds, with_machine, no_machines, SpellsDocument}
-use Rattle.rs_documents.proofs.Spelt.{document_found}
-use Rattle.rs_documents.specs.Canonical.{AreShown, CanBeShown}
-use Rattle.rs_documents.specs.declared.documents.Content.{Content}
-use Rattle.rs_documents.specs.declared.documents.Content.TheVariants as content
 use Rattle.rs_machines.specs.Enough.{AreEnoughFor}
-use Rattle.rs_machines.proofs.EnoughNames as of_machines
+use Rattle.rs_model.specs.Data.{Names_data, Protocol_data, Machine_data}
+use Rattle.rs_model.specs.declared.limits.TheConstants.{MOST_ROLES}
+use Rattle.rs_model.specs.declared.machines.Act.{Act}
+use Rattle.rs_text.specs.Sound.{IsSound}
+use Rattle.rs_text.specs.declared.faults.TextFault.{TextFault}
 
 -- names that were there, and maybe more labels
 pub record Grows (old new : Names_data) : Type 0 where
   pub roles : new.roles ≡ old.roles
   pub labels : length old.labels ≤ length new.labels
 
-longer_if : (b : Bool) (names : List (List ℕ)) (x : List ℕ) → length names ≤ length (if b then names else names ++ x ∷ [])
-longer_if true names x = omega arith
-longer_if false names x = let e = length-append names (x ∷ []) in omega (arith, e)
+-- what holds of each part with the names behind it, and of more labels too, holds of all parts with the last names
+kept : {A : Type 0} (kind : PartKind A) (i : IsKind kind) (P : Names_data → A → Type 0) → ((old new : Names_data) → Grows old new → (x : A) → P old x → P new x)
+    → ((bytes : List ℕ) (at : ℕ) (old new : Names_data) (part : A) (until : ℕ) → kind.Spells bytes at old new part until → P new part)
+    → (bytes : List ℕ) (at : ℕ) (names : Names_data) (parts : List (Option A)) (what : Result (Row A) TextFault) (row : Row A) → GoesOn kind bytes at names parts what → what ≡ good row
+    → AllHave (P names) parts → AllHave (P row.names) row.parts
+kept {A} kind i P more has bytes at names parts what row (Stops a n m e) is all =
+    let same : row_of names parts at ≡ row = cc in
+    subst (λ (r : Row A). AllHave (P r.names) r.parts) same all
+kept kind i P more has bytes at names parts what row (Repeats a u n m e z) is all = absurd cc
+kept kind i P more has bytes at names parts what row (Fails a u n m j e z r) is all = absurd cc
+kept {A} kind i P more has bytes at names parts what row (Adds a next n new m part w e z s g) is all =
+    let grows : Grows names new = record { roles = i.roles bytes at names new part next s; labels = i.labels bytes at names new part next s } in
+    let before : AllHave (P new) parts = λ k x there. more names new grows x (all k x there) in
+    kept kind i P more has bytes next new (with_part kind parts part) what row g is (set_all (P new) parts (kind.role_of part).0 part before (has bytes at names new part next s))
 
-longer : (ls names : List (List ℕ)) → length names ≤ length (grown names ls)
-longer [] names = omega arith
-longer (x ∷ ls) names =
-    let a = longer_if (is_among x names) names x in
-    let b = longer ls (if is_among x names then names else names ++ x ∷ []) in
-    omega arith
+-- machines
+abbrev CanBeNamed : Names_data → Machine_data → Type 0
+CanBeNamed names machine = IsMachineTextShaped machine × AreEnoughFor names machine
 
-pub spelt_grows : (bytes : List ℕ) (at : ℕ) (old new : Names_data) (machine : Machine_data) (until : ℕ) → SpellsMachine bytes at old new machine until → Grows old new
-spelt_grows bytes at old new machine until s =
-    subst (λ (x : Names_data). Grows old x) (sym s.names_are) (record { roles = refl; labels = longer (labels_of s.tree.body) old.labels })
+more_enough_for : (names new : Names_data) → Grows names new → (machine : Machine_data) → CanBeNamed names machine → CanBeNamed new machine
+more_enough_for names new g machine h =
+    let e : length new.roles ≡ length names.roles = ap length g.roles in
+    let l = g.labels in (
+      h.0,
+      record {
+        role = (let a = h.1.role in omega (arith, a, e));
+        peers = λ n mark peer arms s. let a = h.1.peers n mark peer arms s in omega (arith, a, e);
+        labels = λ n place mark peer arms arm s f. let a = h.1.labels n place mark peer arms arm s f in omega (arith, a, l);
+      },
+    )
 
-more_enough_for : (names new : Names_data) (machine : Machine_data) → length names.roles ≤ length new.roles → length names.labels ≤ length new.labels → AreEnoughFor names machine → AreEnoughFor new machine
-more_enough_for names new machine r l h = record {
-  role = (let a = h.role in omega arith);
-  peers = λ n mark peer arms e. let a = h.peers n mark peer arms e in omega arith;
-  labels = λ n place mark peer arms arm e f. let a = h.labels n place mark peer arms arm e f in omega arith;
-}
+machine_named : (bytes : List ℕ) (at : ℕ) (old new : Names_data) (machine : Machine_data) (until : ℕ) → machine_parts.Spells bytes at old new machine until → CanBeNamed new machine
+machine_named bytes at old new machine until s = (record { bytes = bytes; at = at; old = old; new = new; until = until; spells = s }, machine_names.spelt_enough bytes at old new machine until s)
 
-shown_more : (old new : Names_data) (machines : List (Option Machine_data)) → Grows old new → AreShown old machines → AreShown new machines
-shown_more old new [] g h = tt
-shown_more old new (None ∷ ms) g h = (tt, shown_more old new ms g h.1)
-shown_more old new (Some m ∷ ms) g h = let e : length old.roles ≡ length new.roles = ap length (sym g.roles) in ((h.0.0, more_enough_for old new m (omega (arith, e)) g.labels h.0.1), shown_more old new ms g h.1)
+shown : (names : Names_data) (machines : List (Option Machine_data)) → AllHave (CanBeNamed names) machines → AreShown names machines
+shown names [] all = tt
+shown names (None ∷ ms) all = (tt, shown names ms (λ k m e. all (suc k) m e))
+shown names (Some m ∷ ms) all = (all 0 m refl, shown names ms (λ k x e. all (suc k) x e))
 
-shown_set : (names : Names_data) (machines : List (Option Machine_data)) (k : ℕ) (m : Machine_data) → AreShown names machines → IsMachineTextShaped m → AreEnoughFor names m → AreShown names (slice_set machines k (Some m))
-shown_set names [] k m h s e = tt
-shown_set names (x ∷ ms) zero m h s e = ((s, e), h.1)
-shown_set names (x ∷ ms) (suc k) m h s e = (h.0, shown_set names ms k m h.1 s e)
+more_named : (names new : Names_data) → Grows names new → (machines : List (Option Machine_data)) → AllHave (CanBeNamed names) machines → AllHave (CanBeNamed new) machines
+more_named names new g machines all k m e = more_enough_for names new g m (all k m e)
 
-keeps : (bytes : List ℕ) (p : Protocol_data) (at : ℕ) (names : Names_data) (machines : List (Option Machine_data)) (what : Content) → GoesOn bytes p at names machines what → AreShown names machines
-    → (d : Document_data) → what ≡ content.Document d → (d.protocol ≡ p) × Grows names d.names × AreShown d.names d.machines
-keeps bytes p at names machines what (Ends a n m e) h d is =
-    let same : record { names = names; protocol = p; machines = machines } ≡ d = cc in
-    (ap (λ (x : Document_data). x.protocol) (sym same), subst (λ (x : Document_data). Grows names x.names) same (record { roles = refl; labels = omega arith }), subst (λ (x : Document_data). AreShown x.names x.machines) same h)
-keeps bytes p at names machines what (Derives a n m e) h d is = absurd cc
-keeps bytes p at names machines what (Breaks a n m s k e f) h d is = absurd cc
-keeps bytes p at names machines what (Repeats a u n m e f) h d is = absurd cc
-keeps bytes p at names machines what (Fails a u n m k e f g) h d is = absurd cc
-keeps bytes p at names machines what (Adds a next n new m machine w e f s g) h d is =
-    let grows = spelt_grows bytes at names new machine next s in
-    let shaped : IsMachineTextShaped machine = record { bytes = bytes; at = at; old = names; new = new; until = next; spells = s } in
-    let more = keeps bytes p next new (with_machine machines machine) what g (shown_set new machines machine.role.0 machine (shown_more names new machines grows h) shaped (of_machines.spelt_enough bytes at names new machine next s)) d is in
-    let a : Grows new d.names = more.1 in
-    let l1 = a.labels in
-    let l2 = grows.labels in
-    (more.0, record { roles = a.roles ∙ grows.roles; labels = omega arith }, more.2)
+-- derivations
+all_more : (P Q : Act → Type 0) → ((a : Act) → P a → Q a) → (acts : List Act) → All P acts → All Q acts
+all_more P Q f [] h = All-nil Q
+all_more P Q f (a ∷ acts) h = All-cons Q a acts (f a (All-head P a acts h)) (all_more P Q f acts (All-tail P a acts h))
 
-none_shown : (names : Names_data) (roles : List (List ℕ)) → AreShown names (no_machines roles)
-none_shown names [] = tt
-none_shown names (x ∷ xs) = (tt, none_shown names xs)
-
-enough_more : (old new : Names_data) (p q : Protocol_data) → Grows old new → q ≡ p → AreEnough old p → AreEnough new q
-enough_more old new p q g e h =
+more_printable : (names new : Names_data) → Grows names new → (d : Derivation_data) → IsPrintable names d → IsPrintable new d
+more_printable names new g d h =
+    let e : length new.roles ≡ length names.roles = ap length g.roles in
     let l = g.labels in
-    subst (λ (x : Protocol_data). AreEnough new x) (sym e)
-    (record { roles = ap length g.roles ∙ h.roles; labels = λ n place s r arms arm a b. let c = h.labels n place s r arms arm a b in omega arith })
+    record {
+      roles = record {
+        role = (let a = h.roles.role in omega (arith, a, e));
+        peers = all_more (λ a. peer_of a < length names.roles) (λ a. peer_of a < length new.roles) (λ a lt. omega (arith, lt, e)) (acts_of d) h.roles.peers;
+      };
+      labels = all_more (λ a. label_of a < length names.labels) (λ a. label_of a < length new.labels) (λ a lt. omega (arith, lt, l)) (acts_of d) h.labels;
+      few_labels = h.few_labels;
+      bound = h.bound;
+      some = h.some;
+      nodes = h.nodes;
+    }
+
+derivation_printable : (bytes : List ℕ) (at : ℕ) (old new : Names_data) (d : Derivation_data) (until : ℕ) → derivation_parts.Spells bytes at old new d until → IsPrintable new d
+derivation_printable bytes at old new d until s = derivation_laws.spelt_printable old new bytes at until d s
+
+-- the protocol
+enough_more : (old new : Names_data) (p : Protocol_data) → Grows old new → AreEnough old p → AreEnough new p
+enough_more old new p g h =
+    let l = g.labels in
+    record { roles = ap length g.roles ∙ h.roles; labels = λ n place s r arms arm a b. let c = h.labels n place s r arms arm a b in omega (arith, c, l) }
+
+-- all that is shown of a document
+pub record IsShowable (d : Document_data) : Type 0 where
+  pub roles : length d.names.roles ≡ d.protocol.roles
+  pub few : length d.names.roles ≤ MOST_ROLES
+  pub shaped : IsTextShaped d.protocol
+  pub enough : AreEnough d.names d.protocol
+  pub machines : AreShown d.names d.machines
+  pub derivations : ArePrintable d.names d.derivations
+
+pub showable : (bytes : List ℕ) (d : Document_data) → SpellsDocument bytes d → IsShowable d
+showable bytes d h =
+    let front = h.parts.front_is in
+    let middle = row_of h.before d.machines h.next in
+    let back = row_of d.names d.derivations h.end in
+    let k = keeps machine_parts of_machines bytes front.until front.names (no_parts front.names.roles) (good middle) middle front.machines_are refl in
+    let j = keeps derivation_parts of_derivations bytes h.next h.before (no_parts h.before.roles) (good back) back h.parts.derivations_are refl in
+    let first : Grows front.names h.before = record { roles = k.roles; labels = k.labels } in
+    let second : Grows h.before d.names = record { roles = j.roles; labels = j.labels } in
+    let l1 = first.labels in
+    let l2 = second.labels in
+    let whole : Grows front.names d.names = record { roles = j.roles ∙ k.roles; labels = omega (arith, l1, l2) } in
+    let enough = enough_more front.names d.names d.protocol whole (spelt_enough bytes 0 front.names d.protocol front.until front.protocol_is) in
+    let named = kept machine_parts of_machines CanBeNamed more_enough_for machine_named bytes front.until front.names (no_parts front.names.roles) (good middle) middle front.machines_are refl (λ n m e. absurd (none_there front.names.roles n m e)) in
+    let names = ap (λ (z : Names_data). z.roles) front.protocol_is.names_are in
+    record {
+      roles = enough.roles;
+      few = subst (λ (z : List (List ℕ)). length z ≤ MOST_ROLES) (sym (whole.roles ∙ names)) front.protocol_is.fits.few_roles;
+      shaped = spelt_shaped bytes 0 front.names d.protocol front.until front.protocol_is;
+      enough = enough;
+      machines = shown d.names d.machines (more_named h.before d.names second d.machines named);
+      derivations = kept derivation_parts of_derivations (λ names x. IsPrintable names x) more_printable derivation_printable bytes h.next h.before (no_parts h.before.roles) (good back) back h.parts.derivations_are refl (λ n x e. absurd (none_there h.before.roles n x e));
+    }
 
 pub can_show : (bytes : List ℕ) (d : Document_data) → SpellsDocument bytes d → IsSound d.names → CanBeShown d
 can_show bytes d spelt sound =
-    let h = document_found bytes d spelt in
-    let k = keeps bytes h.protocol h.until h.names (no_machines h.names.roles) (content.Document d) h.goes_on (none_shown h.names h.names.roles) d refl in
-    record {
-      sound = sound;
-      shaped = subst IsTextShaped (sym k.0) (spelt_shaped bytes 0 h.names h.protocol h.until h.spells);
-      enough = enough_more h.names d.names h.protocol d.protocol k.1 k.0 (spelt_enough bytes 0 h.names h.protocol h.until h.spells);
-      machines = k.2;
-    }
+    let s = showable bytes d spelt in
+    record { sound = sound; shaped = s.shaped; enough = s.enough; machines = s.machines; derivations = s.derivations }
 
 -- .. and has as many names of roles as its protocol has roles
 pub role_names : (bytes : List ℕ) (d : Document_data) → SpellsDocument bytes d → (length d.names.roles ≡ d.protocol.roles) × AreEnough d.names d.protocol × AreShown d.names d.machines × IsTextShaped d.protocol
-role_names bytes d spelt =
-    let h = document_found bytes d spelt in
-    let k = keeps bytes h.protocol h.until h.names (no_machines h.names.roles) (content.Document d) h.goes_on (none_shown h.names h.names.roles) d refl in
-    let e = enough_more h.names d.names h.protocol d.protocol k.1 k.0 (spelt_enough bytes 0 h.names h.protocol h.until h.spells) in
-    (e.roles, e, k.2, subst IsTextShaped (sym k.0) (spelt_shaped bytes 0 h.names h.protocol h.until h.spells))
+role_names bytes d spelt = let s = showable bytes d spelt in (s.roles, s.enough, s.machines, s.shaped)
+
+-- derivations bring no roles
+pub roles_behind : (bytes : List ℕ) (next : ℕ) (names new : Names_data) (derivations : List (Option Derivation_data)) (end : ℕ) → GoesOn derivation_parts bytes next names (no_parts names.roles) (good (row_of new derivations end)) → new.roles ≡ names.roles
+roles_behind bytes next names new derivations end h = let k = keeps derivation_parts of_derivations bytes next names (no_parts names.roles) (good (row_of new derivations end)) (row_of new derivations end) h refl in k.roles
+
+-- a protocol that some text spells has 16 roles at most, and so have names that are enough
+pub few_names : (names : Names_data) (p : Protocol_data) → IsTextShaped p → AreEnough names p → length names.roles ≤ MOST_ROLES
+few_names names p shaped enough =
+    let there = spelt_enough shaped.bytes shaped.at shaped.names p shaped.until shaped.spells in
+    let same : length names.roles ≡ length shaped.names.roles = enough.roles ∙ sym there.roles in
+    let few : length shaped.names.roles ≤ MOST_ROLES = subst (λ (z : Names_data). length z.roles ≤ MOST_ROLES) (sym shaped.spells.names_are) shaped.spells.fits.few_roles in
+    subst (λ (z : ℕ). z ≤ MOST_ROLES) (sym same) few

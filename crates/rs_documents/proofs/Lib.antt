@@ -1,6 +1,9 @@
 pub mod Parts
+pub mod FewLabels
+pub mod PartKinds
+pub mod OneDocument
 pub mod Spelt
-pub mod OneContent
 pub mod CanShow
 pub mod SpeltSessions
 pub mod Lines
+pub mod ReadParts

@@ -1,8 +1,11 @@
 -- Machines are printed one behind the other.
 use Rattle.std.proofs.Common.{◌≡◌, ℕ, zero, suc, ◌+◌, ◌<◌, List, [], ◌∷◌, ◌++◌, length, take, Option, Some, None, refl, sym, ap, subst, ◌∙◌, arith, slice_index_or, append_assoc, append-nil}
-use Rattle.rs_model.specs.Data.{Names_data, Machine_data}
+use Rattle.rs_derive.specs.Data.{Derivation_data}
+use Rattle.rs_global.specs.Canonical.{IsCanonicalText}
+use Rattle.rs_documents.specs.Parts.{no_parts}
+use Rattle.rs_model.specs.Data.{Names_data, Protocol_data, Machine_data}
 use Rattle.rs_machines.specs.Canonical.{IsCanonicalMachineText}
-use Rattle.rs_documents.specs.Canonical.{AreCanonicalMachines, AreShown, IsShown, IsShownBehind, IsLineBehind}
+use Rattle.rs_documents.specs.Canonical.{AreCanonicalMachines, AreShown, IsCanonicalDocument, derivations_text, IsShown, IsShownBehind, IsLineBehind}
 
 abbrev IsLine : Names_data → Option Machine_data → List ℕ → Type 0
 IsLine names None line = line ≡ []
@@ -46,3 +49,22 @@ shown_at names (x ∷ xs) (suc k) d lt h = shown_at names xs k d (omega arith) h
 
 pub own_shown : (names : Names_data) (machines : List (Option Machine_data)) (k : ℕ) (own : Option Machine_data) → k < length machines → own ≡ slice_index_or machines k own → AreShown names machines → IsShown names own
 own_shown names machines k own lt e h = subst (IsShown names) (sym e) (shown_at names machines k own lt h)
+
+-- .. and the derivations behind them
+pub printed : (names : Names_data) (protocol : Protocol_data) (machines : List (Option Machine_data)) (derivations : List (Option Derivation_data)) (front mid all : List ℕ) → IsCanonicalText names protocol front → IsShownBehind names machines front mid
+    → all ≡ mid ++ derivations_text names derivations → IsCanonicalDocument (record { names = names; protocol = protocol; machines = machines; derivations = derivations }) all
+printed names protocol machines derivations front mid all h k e = record {
+  front = front;
+  back = k.0;
+  protocol = h;
+  machines = k.1;
+  is = e ∙ ap (λ z. z ++ derivations_text names derivations) k.2 ∙ append_assoc front k.0 (derivations_text names derivations);
+}
+
+-- a document without derivations ends with its machines
+none_text : (names : Names_data) (roles : List (List ℕ)) → derivations_text names (no_parts roles) ≡ []
+none_text names [] = refl
+none_text names (x ∷ xs) = none_text names xs
+
+pub without : (names : Names_data) (roles : List (List ℕ)) (front back : List ℕ) → front ++ back ≡ front ++ (back ++ derivations_text names (no_parts roles))
+without names roles front back = ap (λ z. front ++ z) (sym (ap (λ z. back ++ z) (none_text names roles) ∙ append-nil back))

@@ -1,98 +1,102 @@
--- What a text spells is what is found of it, token by token.
-use Rattle.std.proofs.Common.{◌≡◌, ◌↔◌, ℕ, List, length, true, false, Option, Some, Result, Ok, Err, refl, sym, ap, subst, ◌∙◌, slice_get}
-use Rattle.std.specs.Prelude.{IfOk}
-use Rattle.rs_model.specs.Data.{Names_data, Protocol_data, Machine_data}
-use Rattle.rs_model.specs.declared.memory.NoMemory.{NoMemory}
-use Rattle.rs_global.proofs.EnoughNames.{spelt_enough}
-use Rattle.rs_global.specs.Spells.{SpellsProtocol}
-use Rattle.rs_text.proofs.Nexts.{next_is_next, one_next}
-use Rattle.rs_text.specs.Lexemes.{Lexeme, next_lexeme, is_last}
-use Rattle.rs_text.specs.Names.{place_of}
-use Rattle.rs_text.specs.Signs.{plain, finish}
+-- A document that a text spells has the machines that the text spells.
+use Rattle.std.proofs.Common.{◌≡◌, ◌⊎◌, ℕ, ◌≤◌, List, length, Option, Some, None, Result, Ok, Err, refl, sym, ap, subst, ◌∙◌, inl, inr, slice_get}
+use Rattle.std.specs.Prelude.{codes}
+use Rattle.rs_derive.specs.Data.{Derivation_data}
 use Rattle.rs_documents.specs.Data.{Document_data}
-use Rattle.rs_documents.specs.Documents.{StandsAt, IsTwice, GoesOn, Ends, Derives, Breaks, Repeats, Fails, Adds, IsBehindProtocol, BehindProtocol}
-use Rattle.rs_documents.specs.Reading.{GoesOnWith, IsContent}
-use Rattle.rs_documents.specs.Spells.{EndsBehind, HasMachine, MachinesBehind, NoMore, OneMore, SpellsDocument, no_machines, with_machine}
-use Rattle.rs_documents.specs.declared.documents.Content.{Content}
-use Rattle.rs_documents.specs.declared.documents.Content.TheVariants as content
-use Rattle.rs_documents.proofs.Parts.{RoleStands, role_stands, second_of, set_size, size_of_none, word_stands}
+use Rattle.rs_documents.specs.Documents.{SpellsDocument}
+use Rattle.rs_documents.specs.Parts.{StandsAt, Row, GoesOn, Stops, Repeats, Fails, Adds, machine_parts, derivation_parts, no_parts}
+use Rattle.rs_documents.specs.Spells.{HasNoMachineBehind, HasMachine, MachinesBehind, NoMore, OneMore, SpellsMachines, no_machines, with_machine}
+use Rattle.rs_documents.proofs.FewLabels.{protocol_few}
+use Rattle.rs_documents.proofs.PartKinds.{machine_begins, machine_role, of_machines}
+use Rattle.rs_documents.proofs.Parts.{good, keeps, one_row, role_of_twice, row_of, second_of, size_of_none, twice_of_role}
+use Rattle.rs_global.proofs.EnoughNames.{spelt_enough}
+use Rattle.rs_global.proofs.SpeltLaws as global
+use Rattle.rs_global.specs.Spells.{SpellsProtocol}
+use Rattle.rs_model.specs.Data.{Names_data, Protocol_data, Machine_data}
+use Rattle.rs_text.proofs.Nexts.{next_is_next, one_next}
+use Rattle.rs_text.specs.Lexemes.{Lexeme, next_lexeme}
+use Rattle.rs_text.specs.Signs.{Sign, plain, finish}
+use Rattle.rs_text.specs.declared.faults.TextFault.{TextFault}
 
-ends : (bytes : List ℕ) (at : ℕ) → StandsAt bytes at finish → EndsBehind bytes at
-ends bytes at e = (next_lexeme bytes at, e, (next_is_next bytes at, (λ last. refl), (λ more. let clash : true ≡ false = sym (ap is_last e) ∙ more in cc)))
+-- where derivations, or nothing, stand behind the offset, no machine does
+nothing_more : (bytes : List ℕ) (at : ℕ) (names : Names_data) (parts : List (Option Derivation_data)) (what : Result (Row Derivation_data) TextFault) (row : Row Derivation_data) → GoesOn derivation_parts bytes at names parts what → what ≡ good row
+    → StandsAt bytes row.until finish → HasNoMachineBehind bytes at
+nothing_more bytes at names parts what row (Stops a n m e) is ends =
+    let same : row_of names parts at ≡ row = cc in
+    let here : at ≡ row.until = ap (λ (r : Row Derivation_data). r.until) same in
+    (next_lexeme bytes at, next_is_next bytes at, inl (subst (λ (z : ℕ). StandsAt bytes z finish) (sym here) ends))
+nothing_more bytes at names parts what row (Repeats a u n m e z) is ends = absurd cc
+nothing_more bytes at names parts what row (Fails a u n m j e z r) is ends = absurd cc
+nothing_more bytes at names parts what row (Adds a next n new m part w e z s g) is ends = (next_lexeme bytes at, next_is_next bytes at, inr e)
 
-ends_there : (bytes : List ℕ) (at : ℕ) → EndsBehind bytes at → StandsAt bytes at finish
-ends_there bytes at h = sym (ap (λ (l : Lexeme). l.sign) (one_next bytes at h.0 h.2.0)) ∙ h.1
+machines_behind : (bytes : List ℕ) (at : ℕ) (names : Names_data) (machines : List (Option Machine_data)) (what : Result (Row Machine_data) TextFault) (row : Row Machine_data) → GoesOn machine_parts bytes at names machines what → what ≡ good row
+    → HasNoMachineBehind bytes row.until → MachinesBehind bytes at names machines row.parts
+machines_behind bytes at names machines what row (Stops a n m e) is ends =
+    let same : row_of names machines at ≡ row = cc in
+    subst (λ (r : Row Machine_data). MachinesBehind bytes at names machines r.parts) same (NoMore at names machines (subst (λ (r : Row Machine_data). HasNoMachineBehind bytes r.until) (sym same) ends))
+machines_behind bytes at names machines what row (Repeats a u n m e z) is ends = absurd cc
+machines_behind bytes at names machines what row (Fails a u n m j e z r) is ends = absurd cc
+machines_behind bytes at names machines what row (Adds a next n new m machine w e never s g) is ends =
+    OneMore at next names new machines machine row.parts s (λ h. never (second_of bytes at).from (twice_of_role bytes at names machines machine.role h.0 (machine_role bytes at names new machine next s) h.1))
+    (machines_behind bytes next new (with_machine machines machine) what row g is ends)
 
--- a role that has a machine has it where the second token says
-twice_of_role : (bytes : List ℕ) (at : ℕ) (names : Names_data) (machines : List (Option Machine_data)) (machine : Machine_data) → RoleStands bytes at names machine → HasMachine machines machine.role
-    → IsTwice bytes names machines at (second_of bytes at).from
-twice_of_role bytes at names machines machine r h =
-    record { name = r.name; word = r.word; place = r.place; role = r.known; machine = h.0; has = ap (slice_get machines) (sym r.is) ∙ h.1; stands = refl }
-
-role_of_twice : (bytes : List ℕ) (at second : ℕ) (names : Names_data) (machines : List (Option Machine_data)) (machine : Machine_data) → RoleStands bytes at names machine → IsTwice bytes names machines at second → HasMachine machines machine.role
-role_of_twice bytes at second names machines machine r t =
-    let sign : plain r.name ≡ plain t.name = sym r.word ∙ t.word in
-    let name : r.name ≡ t.name = cc in
-    let same : Some r.place ≡ Some t.place = sym r.known ∙ ap (λ z. place_of z names.roles) name ∙ t.role in
-    let place : r.place ≡ t.place = cc in
-    (t.machine, ap (slice_get machines) (r.is ∙ place) ∙ t.has)
-
--- what is spelt is found ..
-goes_on : (bytes : List ℕ) (at : ℕ) (names : Names_data) (machines : List (Option Machine_data)) (d : Document_data) → MachinesBehind bytes at names machines d → GoesOn bytes d.protocol at names machines (content.Document d)
-goes_on bytes at names machines d (NoMore a e f) = Ends a e.names e.machines (ends_there bytes a f)
-goes_on bytes at names machines d (OneMore a next n new m machine e s free rest) =
-    Adds a next n new m machine (content.Document e) (word_stands bytes a n new machine next s) (λ second t. free (role_of_twice bytes a second n m machine (role_stands bytes a n new machine next s) t)) s
-    (goes_on bytes next new (with_machine m machine) e rest)
-
-record Behind (bytes : List ℕ) (p : Protocol_data) (at : ℕ) (names : Names_data) (machines : List (Option Machine_data)) (d : Document_data) : Type 0 where
-  protocol : d.protocol ≡ p
-  machines_are : MachinesBehind bytes at names machines d
-
--- .. and what is found is spelt
-behind : (bytes : List ℕ) (p : Protocol_data) (at : ℕ) (names : Names_data) (machines : List (Option Machine_data)) (what : Content) (d : Document_data) → GoesOn bytes p at names machines what → what ≡ content.Document d → Behind bytes p at names machines d
-behind bytes p at names machines what d (Ends a n m e) is =
-    let same : record { names = n; protocol = p; machines = m } ≡ d = cc in
-    subst (Behind bytes p a n m) same (record { protocol = refl; machines_are = NoMore a (record { names = n; protocol = p; machines = m }) (ends bytes a e) })
-behind bytes p at names machines what d (Derives a n m e) is = absurd cc
-behind bytes p at names machines what d (Breaks a n m s k e f) is = absurd cc
-behind bytes p at names machines what d (Repeats a u n m e f) is = absurd cc
-behind bytes p at names machines what d (Fails a u n m k e f g) is = absurd cc
-behind bytes p at names machines what d (Adds a next n new m machine w e never s g) is =
-    let rest = behind bytes p next new (with_machine m machine) w d g is in
+-- what is spelt as a document is spelt as a protocol and machines
+pub spelt_machines : (bytes : List ℕ) (d : Document_data) → SpellsDocument bytes d → SpellsMachines bytes d.protocol d.machines
+spelt_machines bytes d h =
+    let front = h.parts.front_is in
+    let ends = nothing_more bytes h.next h.before (no_parts h.before.roles) _ (row_of d.names d.derivations h.end) h.parts.derivations_are refl h.ends in
     record {
-      protocol = rest.protocol;
-      machines_are = OneMore a next n new m machine d s (λ h. never (second_of bytes a).from (twice_of_role bytes a n m machine (role_stands bytes a n new machine next s) h)) rest.machines_are;
+      names = front.names;
+      until = front.until;
+      protocol_is = front.protocol_is;
+      machines_are = machines_behind bytes front.until front.names (no_parts front.names.roles) _ (row_of h.before d.machines h.next) front.machines_are refl ends;
     }
 
-pub document_found : (bytes : List ℕ) (d : Document_data) → SpellsDocument bytes d → IsBehindProtocol bytes (content.Document d)
-document_found bytes d h =
-    record { names = h.names; protocol = d.protocol; until = h.until; spells = h.protocol; goes_on = goes_on bytes h.until h.names (no_machines h.names.roles) d h.machines }
+-- ---- there is one list of machines
 
-pub document_spelt : (bytes : List ℕ) (d : Document_data) → IsBehindProtocol bytes (content.Document d) → SpellsDocument bytes d
-document_spelt bytes d h =
-    let b = behind bytes h.protocol h.until h.names (no_machines h.names.roles) (content.Document d) d h.goes_on refl in
-    record { names = h.names; until = h.until; protocol = subst (λ (p : Protocol_data). SpellsProtocol bytes 0 h.names p h.until) (sym b.protocol) h.spells; machines = b.machines_are }
+no_machine_there : (bytes : List ℕ) (at : ℕ) → HasNoMachineBehind bytes at → StandsAt bytes at (plain (codes "machine")) → ⊥
+no_machine_there bytes at h word =
+    let sign : h.0.sign ≡ plain (codes "machine") = ap (λ (l : Lexeme). l.sign) (one_next bytes at h.0 h.1) ∙ word in
+    elim h.2 [
+      | inl e ↦ (let clash : finish ≡ plain (codes "machine") = sym e ∙ sign in cc)
+      | inr e ↦ (let clash : plain (codes "derivation") ≡ plain (codes "machine") = sym e ∙ sign in cc)
+    ]
 
-pub spelt_is_found : (bytes : List ℕ) (d : Document_data) → SpellsDocument bytes d ↔ IsBehindProtocol bytes (content.Document d)
-spelt_is_found bytes d = (document_found bytes d, document_spelt bytes d)
+record Found (bytes : List ℕ) (at : ℕ) (names : Names_data) (machines all : List (Option Machine_data)) : Type 0 where
+  row : Row Machine_data
+  goes_on : GoesOn machine_parts bytes at names machines (good row)
+  are : row.parts ≡ all
 
-pub content_is : (bytes : List ℕ) (what : Content) → IsBehindProtocol bytes what → IsContent bytes what
-content_is bytes (content.Document d) h = document_spelt bytes d h
-content_is bytes content.Derivations h = h
-content_is bytes (content.Fault f) h = BehindProtocol h
+found : (bytes : List ℕ) (at : ℕ) (names : Names_data) (machines all : List (Option Machine_data)) → MachinesBehind bytes at names machines all → Found bytes at names machines all
+found bytes at names machines all (NoMore a n m e) = record { row = row_of names machines at; goes_on = Stops at names machines (no_machine_there bytes at e); are = refl }
+found bytes at names machines all (OneMore a next n new m machine e s free rest) =
+    let later = found bytes next new (with_machine machines machine) all rest in
+    record {
+      row = later.row;
+      goes_on = Adds at next names new machines machine (good later.row) (machine_begins bytes at names new machine next s) (λ second t. free (role_of_twice bytes at second names machines machine.role (machine_role bytes at names new machine next s) t)) s later.goes_on;
+      are = later.are;
+    }
 
-pub found_behind : (bytes : List ℕ) (names : Names_data) (protocol : Protocol_data) (until : ℕ) (machines : List (Option Machine_data)) (r : Result Content NoMemory) → SpellsProtocol bytes 0 names protocol until → machines ≡ no_machines names.roles
-    → IfOk r (GoesOnWith bytes (record { names = names; protocol = protocol; machines = machines }) until) → IfOk r (IsContent bytes)
-found_behind bytes names protocol until machines (Err e) s m h = tt
-found_behind bytes names protocol until machines (Ok what) s m h =
-    content_is bytes what (record { names = names; protocol = protocol; until = until; spells = s; goes_on = subst (λ (z : List (Option Machine_data)). GoesOn bytes protocol until names z what) m h })
+abbrev GoesOnFrom : List ℕ → ℕ → Names_data → Row Machine_data → Type 0
+GoesOnFrom bytes at names row = GoesOn machine_parts bytes at names (no_parts names.roles) (good row)
 
-places : (bytes : List ℕ) (at : ℕ) (names : Names_data) (machines : List (Option Machine_data)) (d : Document_data) → MachinesBehind bytes at names machines d → length d.machines ≡ length machines
-places bytes at names machines d (NoMore a e f) = refl
-places bytes at names machines d (OneMore a next n new m machine e s free rest) = places bytes next new (with_machine m machine) e rest ∙ set_size m machine.role.0 (Some machine)
+same_good : (x y : Row Machine_data) → good x ≡ good y → x ≡ y
+same_good x y h = cc
+
+pub one_session : (bytes : List ℕ) (p q : Protocol_data) (machines others : List (Option Machine_data)) → SpellsMachines bytes p machines → SpellsMachines bytes q others → (p ≡ q) × (machines ≡ others)
+one_session bytes p q machines others h k =
+    let same = global.one_spelling bytes 0 h.names k.names p q h.until k.until h.protocol_is k.protocol_is in
+    let x = found bytes h.until h.names (no_machines h.names.roles) machines h.machines_are in
+    let y = found bytes k.until k.names (no_machines k.names.roles) others k.machines_are in
+    let y1 : GoesOnFrom bytes h.until k.names y.row = subst (λ (n : ℕ). GoesOnFrom bytes n k.names y.row) (sym same.2) y.goes_on in
+    let y2 : GoesOnFrom bytes h.until h.names y.row = subst (λ (n : Names_data). GoesOnFrom bytes h.until n y.row) (sym same.0) y1 in
+    let rows : x.row ≡ y.row = same_good x.row y.row (one_row machine_parts of_machines bytes h.until h.names (no_parts h.names.roles) (good x.row) (good y.row) (protocol_few bytes 0 h.names p h.until h.protocol_is) x.goes_on y2) in
+    (same.1, sym x.are ∙ ap (λ (r : Row Machine_data). r.parts) rows ∙ y.are)
 
 -- there is one place for a machine a role
-pub one_place_each : (bytes : List ℕ) (d : Document_data) → SpellsDocument bytes d → length d.machines ≡ d.protocol.roles
-one_place_each bytes d h =
-    let enough = spelt_enough bytes 0 h.names d.protocol h.until h.protocol in
-    places bytes h.until h.names (no_machines h.names.roles) d h.machines ∙ size_of_none h.names.roles ∙ enough.roles
+pub one_place_each : (bytes : List ℕ) (p : Protocol_data) (machines : List (Option Machine_data)) → SpellsMachines bytes p machines → length machines ≡ p.roles
+one_place_each bytes p machines h =
+    let x = found bytes h.until h.names (no_machines h.names.roles) machines h.machines_are in
+    let k = keeps machine_parts of_machines bytes h.until h.names (no_parts h.names.roles) (good x.row) x.row x.goes_on refl in
+    let enough = spelt_enough bytes 0 h.names p h.until h.protocol_is in
+    ap length (sym x.are) ∙ k.size ∙ size_of_none _ h.names.roles ∙ enough.roles

@@ -1,5 +1,9 @@
 -- Believed: the canonical text of a document.
-use Rattle.std.specs.Prelude.{◌≡◌, ℕ, List, [], ◌∷◌, ◌++◌, Option, Some, None}
+use Rattle.std.specs.Prelude.{◌≡◌, ℕ, List, [], ◌∷◌, ◌++◌, Option, Some, None, slice_get}
+use Rattle.std.specs.List.{flat_map}
+use Rattle.rs_derivations.specs.Canonical.{canonical_text}
+use Rattle.rs_derivations.specs.Printable.{IsPrintable}
+use Rattle.rs_derive.specs.Data.{Derivation_data}
 use Rattle.rs_model.specs.Data.{Names_data, Machine_data}
 use Rattle.rs_global.specs.Canonical.{IsCanonicalText, IsTextShaped}
 use Rattle.rs_global.specs.Enough.{AreEnough}
@@ -15,13 +19,22 @@ AreCanonicalMachines names (None ∷ machines) text = AreCanonicalMachines names
 AreCanonicalMachines names (Some machine ∷ machines) text =
     (line : List ℕ) × (later : List ℕ) × IsCanonicalMachineText names machine line × AreCanonicalMachines names machines later × (text ≡ line ++ later)
 
--- the roles line and the protocol, and then the machines
+-- the lines of a derivation that is there
+abbrev pub own_text : Names_data → Option Derivation_data → List ℕ
+own_text names None = []
+own_text names (Some derivation) = canonical_text names derivation
+
+-- .. of all that are there, in role order
+abbrev pub derivations_text : Names_data → List (Option Derivation_data) → List ℕ
+derivations_text names derivations = flat_map (own_text names) derivations
+
+-- the roles line and the protocol, then the machines, and then the derivations
 pub record IsCanonicalDocument (d : Document_data) (text : List ℕ) : Type 0 where
   pub front : List ℕ
   pub back : List ℕ
   pub protocol : IsCanonicalText d.names d.protocol front
   pub machines : AreCanonicalMachines d.names d.machines back
-  pub is : text ≡ front ++ back
+  pub is : text ≡ front ++ (back ++ derivations_text d.names d.derivations)
 
 -- the machine, where it is there, can be printed by these names
 abbrev pub IsShown : Names_data → Option Machine_data → Type 0
@@ -33,12 +46,17 @@ abbrev pub AreShown : Names_data → List (Option Machine_data) → Type 0
 AreShown names [] = Unit {0}
 AreShown names (own ∷ machines) = IsShown names own × AreShown names machines
 
--- .. and the protocol too
+-- the derivations that are there can be printed by these names
+abbrev pub ArePrintable : Names_data → List (Option Derivation_data) → Type 0
+ArePrintable names derivations = (k : ℕ) (derivation : Derivation_data) → slice_get derivations k ≡ Some (Some derivation) → IsPrintable names derivation
+
+-- all that is printed of a document
 pub record CanBeShown (d : Document_data) : Type 0 where
   pub sound : IsSound d.names
   pub shaped : IsTextShaped d.protocol
   pub enough : AreEnough d.names d.protocol
   pub machines : AreShown d.names d.machines
+  pub derivations : ArePrintable d.names d.derivations
 
 -- the machine's line was written behind what was there
 abbrev pub IsMachineBehind : Names_data → Machine_data → List ℕ → List ℕ → Type 0

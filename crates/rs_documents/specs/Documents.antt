@@ -1,91 +1,59 @@
--- Steps: what a text is, token by token: a document, one with derivations, or a fault.
-use Rattle.std.specs.Prelude.{◌≡◌, ℕ, List, codes, Bool, false, ◌||◌, Option, Some, None, slice_get, if◌then◌else◌}
-use Rattle.std.specs.Str.{bytes_eq}
+-- Believed: what a text spells as a document, and its first fault.
+use Rattle.std.specs.Prelude.{◌≡◌, ℕ, List, Option, Some, None, Ok, Err, ◌==◌, if◌then◌else◌}
+use Rattle.rs_documents.specs.Data.{Document_data}
+use Rattle.rs_documents.specs.Parts.{StandsAt, no_parts, Row, GoesOn, machine_parts, derivation_parts}
+use Rattle.rs_derive.specs.Data.{Derivation_data}
+use Rattle.rs_global.specs.Faults as of_protocols
+use Rattle.rs_global.specs.Spells.{SpellsProtocol}
 use Rattle.rs_model.specs.Data.{Names_data, Protocol_data, Machine_data}
 use Rattle.rs_text.specs.Faults.{kind_of}
 use Rattle.rs_text.specs.Lexemes.{next_lexeme}
-use Rattle.rs_text.specs.Names.{place_of}
-use Rattle.rs_text.specs.Signs.{Sign, plain, finish, broken}
+use Rattle.rs_text.specs.Signs.{Sign, finish, broken}
 use Rattle.rs_text.specs.declared.faults.TextKind.{TextKind}
 use Rattle.rs_text.specs.declared.faults.TextKind.TheVariants as kind
+use Rattle.rs_text.specs.declared.faults.Wanted.{Wanted}
 use Rattle.rs_text.specs.declared.faults.Wanted.TheVariants as wanted
-use Rattle.rs_global.specs.Faults as of_protocols
-use Rattle.rs_global.specs.Spells.{SpellsProtocol}
-use Rattle.rs_machines.specs.Faults as of_machines
-use Rattle.rs_machines.specs.Spells.{SpellsMachine}
-pub use Rattle.rs_documents.specs.Spells.{SpellsDocument, no_machines, with_machine}
-use Rattle.rs_documents.specs.declared.documents.Content.{Content}
-use Rattle.rs_documents.specs.declared.documents.Content.TheVariants as content
 
--- the next token at the offset
-abbrev pub StandsAt : List ℕ → ℕ → Sign → Type 0
-StandsAt bytes at sign = (next_lexeme bytes at).sign ≡ sign
-
--- a machine begins with this token, a derivation with that one
-abbrev pub machine_word : Sign
-machine_word = plain (codes "machine")
-
-abbrev pub derivation_word : Sign
-derivation_word = plain (codes "derivation")
-
--- the token is this word
-abbrev pub is_word : List ℕ → Sign → Bool
-is_word word (plain text) = bytes_eq text word
-is_word word _ = false
-
--- the fault of a token behind a protocol or a machine: it is neither the end nor the begin of a part
-abbrev pub fault_behind : Sign → Option TextKind
-fault_behind finish = None
-fault_behind (broken k) = Some (kind_of k)
-fault_behind t = if is_word (codes "machine") t || is_word (codes "derivation") t then None else Some (kind.Expected wanted.PartOrEnd)
-
--- the second token of the machine at the offset is a role that has a machine already; it stands at `second`
-pub record IsTwice (bytes : List ℕ) (names : Names_data) (machines : List (Option Machine_data)) (at second : ℕ) : Type 0 where
-  pub name : List ℕ
-  pub word : StandsAt bytes (next_lexeme bytes at).until (plain name)
-  pub place : ℕ
-  pub role : place_of name names.roles ≡ Some place
-  pub machine : Machine_data
-  pub has : slice_get machines place ≡ Some (Some machine)
-  pub stands : second ≡ (next_lexeme bytes (next_lexeme bytes at).until).from
-
--- what the text is, where the protocol and these machines stand before the offset
-pub data GoesOn (bytes : List ℕ) (protocol : Protocol_data) : (at : ℕ) → Names_data → List (Option Machine_data) → Content → Type 0 where
-  -- nothing more stands there
-  Ends : (at : ℕ) (names : Names_data) (machines : List (Option Machine_data)) → StandsAt bytes at finish
-      → GoesOn bytes protocol at names machines (content.Document (record { names = names; protocol = protocol; machines = machines }))
-  -- derivations
-  Derives : (at : ℕ) (names : Names_data) (machines : List (Option Machine_data)) → StandsAt bytes at derivation_word
-      → GoesOn bytes protocol at names machines content.Derivations
-  -- something else that is no machine
-  Breaks : (at : ℕ) (names : Names_data) (machines : List (Option Machine_data)) (sign : Sign) (k : TextKind) → StandsAt bytes at sign → fault_behind sign ≡ Some k
-      → GoesOn bytes protocol at names machines (content.Fault (record { kind = k; at = at }))
-  -- a machine of a role that has one
-  Repeats : (at second : ℕ) (names : Names_data) (machines : List (Option Machine_data)) → StandsAt bytes at machine_word → IsTwice bytes names machines at second
-      → GoesOn bytes protocol at names machines (content.Fault (record { kind = kind.NameTwice; at = second }))
-  -- a machine at fault
-  Fails : (at offset : ℕ) (names : Names_data) (machines : List (Option Machine_data)) (k : TextKind) → StandsAt bytes at machine_word
-      → ((second : ℕ) → IsTwice bytes names machines at second → ⊥) → of_machines.FirstFault names bytes at k offset
-      → GoesOn bytes protocol at names machines (content.Fault (record { kind = k; at = offset }))
-  -- a machine, and behind it the text goes on
-  Adds : (at next : ℕ) (names new : Names_data) (machines : List (Option Machine_data)) (machine : Machine_data) (what : Content) → StandsAt bytes at machine_word
-      → ((second : ℕ) → IsTwice bytes names machines at second → ⊥) → SpellsMachine bytes at names new machine next
-      → GoesOn bytes protocol next new (with_machine machines machine) what
-      → GoesOn bytes protocol at names machines what
-
--- behind a protocol the text is this
-pub record IsBehindProtocol (bytes : List ℕ) (what : Content) : Type 0 where
+-- a protocol stands at the begin of the bytes, and behind it all machines
+pub record SpellsFront (bytes : List ℕ) (protocol : Protocol_data) (front : Row Machine_data) : Type 0 where
   pub names : Names_data
-  pub protocol : Protocol_data
   pub until : ℕ
-  pub spells : SpellsProtocol bytes 0 names protocol until
-  pub goes_on : GoesOn bytes protocol until names (no_machines names.roles) what
+  pub protocol_is : SpellsProtocol bytes 0 names protocol until
+  pub machines_are : GoesOn machine_parts bytes until names (no_parts names.roles) (Ok front)
 
--- the bytes spell a protocol and machines, and go on with derivations
-abbrev pub HasDerivations : List ℕ → Type 0
-HasDerivations bytes = IsBehindProtocol bytes content.Derivations
+-- .. and behind them all derivations
+pub record SpellsParts (bytes : List ℕ) (protocol : Protocol_data) (front : Row Machine_data) (back : Row Derivation_data) : Type 0 where
+  pub front_is : SpellsFront bytes protocol front
+  pub derivations_are : GoesOn derivation_parts bytes front.until front.names (no_parts front.names.roles) (Ok back)
 
--- the first fault of the text, as far as its machines go
-pub data HasFault (bytes : List ℕ) (kind : TextKind) (at : ℕ) : Type 0 where
-  InProtocol : of_protocols.FirstFault bytes 0 kind at → HasFault bytes kind at
-  BehindProtocol : IsBehindProtocol bytes (content.Fault (record { kind = kind; at = at })) → HasFault bytes kind at
+-- the bytes spell the document: a protocol, machines and derivations, and then their end
+pub record SpellsDocument (bytes : List ℕ) (d : Document_data) : Type 0 where
+  pub next : ℕ
+  pub before : Names_data
+  pub end : ℕ
+  pub parts : SpellsParts bytes d.protocol (record { names = before; parts = d.machines; until = next }) (record { names = d.names; parts = d.derivations; until = end })
+  pub ends : StandsAt bytes end finish
+
+-- the fault of a token behind all parts: it isn't the end
+abbrev pub fault_behind : Wanted → Sign → Option TextKind
+fault_behind wanted finish = None
+fault_behind wanted (broken k) = Some (kind_of k)
+fault_behind wanted _ = Some (kind.Expected wanted)
+
+-- behind a derivation no machine may stand
+abbrev pub wanted_behind : (machines derivations : ℕ) → Wanted
+wanted_behind machines derivations = if derivations == machines then wanted.PartOrEnd else wanted.DerivationOrEnd
+
+-- the first fault of a text
+pub data FirstFault (bytes : List ℕ) (kind : TextKind) : (at : ℕ) → Type 0 where
+  -- it is the protocol's
+  InProtocol : (at : ℕ) → of_protocols.FirstFault bytes 0 kind at → FirstFault bytes kind at
+  -- it lies in the machines behind the protocol
+  InMachines : (at : ℕ) (names : Names_data) (protocol : Protocol_data) (until : ℕ) → SpellsProtocol bytes 0 names protocol until
+      → GoesOn machine_parts bytes until names (no_parts names.roles) (Err (record { kind = kind; at = at })) → FirstFault bytes kind at
+  -- it lies in the derivations behind the machines
+  InDerivations : (at : ℕ) (protocol : Protocol_data) (front : Row Machine_data) → SpellsFront bytes protocol front
+      → GoesOn derivation_parts bytes front.until front.names (no_parts front.names.roles) (Err (record { kind = kind; at = at })) → FirstFault bytes kind at
+  -- something stands behind all parts
+  BehindParts : (protocol : Protocol_data) (front : Row Machine_data) (back : Row Derivation_data) → SpellsParts bytes protocol front back
+      → fault_behind (wanted_behind front.until back.until) (next_lexeme bytes back.until).sign ≡ Some kind → FirstFault bytes kind back.until

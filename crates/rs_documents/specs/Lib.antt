@@ -1,5 +1,6 @@
 pub mod Canonical
 pub mod Data
 pub mod Documents
+pub mod Parts
 pub mod Reading
 pub mod Spells

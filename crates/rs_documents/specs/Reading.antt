@@ -1,55 +1,90 @@
--- Steps: how a document is read: token by token behind the protocol, and machine by machine.
-use Rattle.std.specs.Prelude.{◌+◌, ◌≡◌, ℕ, ◌<◌, ◌≤◌, suc, List, [], ◌∷◌, length, codes, Bool, true, false, Option, Some, None, slice_get, if◌then◌else◌}
-use Rattle.rs_model.specs.declared.limits.TheConstants.{MOST_ACTS, MOST_LABELS, MOST_ROLES, MOST_TALKS}
+-- Steps: how a document is read: part by part behind the protocol.
+use Rattle.std.specs.Prelude.{◌+◌, ◌≡◌, ℕ, ◌<◌, ◌≤◌, suc, List, [], ◌∷◌, length, Bool, true, false, Option, Some, None, Result, slice_get, if◌then◌else◌}
+use Rattle.std.specs.Str.{bytes_eq}
+use Rattle.rs_derive.specs.Data.{Derivation_data}
+use Rattle.rs_documents.specs.Data.{Document_data}
+use Rattle.rs_documents.specs.Parts.{PartKind, Row, GoesOn}
 use Rattle.rs_model.specs.Data.{Names_data, Machine_data}
+use Rattle.rs_model.specs.declared.graph.Role.{Role}
+use Rattle.rs_model.specs.declared.limits.TheConstants.{MOST_ACTS, MOST_BOUND, MOST_CANDIDATES, MOST_LABELS, MOST_ROLES, MOST_TALKS}
 use Rattle.rs_text.specs.Lexemes.{Lexeme}
 use Rattle.rs_text.specs.Names.{place_of}
 use Rattle.rs_text.specs.Seen.{plain_text}
-use Rattle.rs_text.specs.Signs.{Sign, finish}
+use Rattle.rs_text.specs.Signs.{Sign, plain}
 use Rattle.rs_text.specs.Sound.{IsSound}
-use Rattle.rs_documents.specs.Data.{Document_data}
-use Rattle.rs_documents.specs.Documents.{SpellsDocument, StandsAt, derivation_word, is_word, fault_behind, GoesOn, IsBehindProtocol, HasFault}
-use Rattle.rs_documents.specs.declared.documents.PartBegin.{PartBegin}
-use Rattle.rs_documents.specs.declared.documents.PartBegin.TheVariants as part_begin
-use Rattle.rs_documents.specs.declared.documents.Content.{Content}
-use Rattle.rs_documents.specs.declared.documents.Content.TheVariants as content
-use Rattle.rs_documents.specs.declared.documents.Part.{Part}
-use Rattle.rs_documents.specs.declared.documents.Part.TheVariants as part
+use Rattle.rs_text.specs.declared.faults.TextFault.{TextFault}
 
--- the token is the end, begins a part, or has this fault
-abbrev pub IsPartBegin : Sign → PartBegin → Type 0
-IsPartBegin sign part_begin.End = sign ≡ finish
-IsPartBegin sign part_begin.Machine = is_word (codes "machine") sign ≡ true
-IsPartBegin sign part_begin.Derivation = is_word (codes "derivation") sign ≡ true
-IsPartBegin sign (part_begin.Fault kind) = fault_behind sign ≡ Some kind
+-- the token is this word
+abbrev pub is_word : List ℕ → Sign → Bool
+is_word word (plain text) = bytes_eq text word
+is_word word _ = false
 
--- whether the role at the place has a machine
-abbrev pub is_held : Option (Option Machine_data) → Bool
+-- whether the role at the place has a part
+abbrev pub is_held : {A : Type 0} → Option (Option A) → Bool
 is_held None = false
 is_held (Some None) = false
-is_held (Some (Some machine)) = true
+is_held (Some (Some part)) = true
 
-abbrev pub twice_by : Option ℕ → List (Option Machine_data) → ℕ → Option ℕ
-twice_by None machines from = None
-twice_by (Some place) machines from = if is_held (slice_get machines place) then Some from else None
+-- the place of the role that a token names
+abbrev pub place_named : Option (List ℕ) → List (List ℕ) → Option ℕ
+place_named None roles = None
+place_named (Some name) roles = place_of name roles
 
-abbrev pub twice_named : Option (List ℕ) → Names_data → List (Option Machine_data) → ℕ → Option ℕ
-twice_named None names machines from = None
-twice_named (Some name) names machines from = twice_by (place_of name names.roles) machines from
+abbrev pub role_at : Names_data → Lexeme → Option ℕ
+role_at names l = place_named (plain_text l.sign) names.roles
 
--- the offset of the token, where it is a role that has a machine
-abbrev pub twice_of : Names_data → List (Option Machine_data) → Lexeme → Option ℕ
-twice_of names machines l = twice_named (plain_text l.sign) names machines l.from
+-- the offset of the token, where the role at the place has a part
+abbrev pub twice_by : {A : Type 0} → Option ℕ → List (Option A) → ℕ → Option ℕ
+twice_by None parts from = None
+twice_by (Some place) parts from = if is_held (slice_get parts place) then Some from else None
 
--- no machine has more than 257 states
-abbrev pub AreShort : List (Option Machine_data) → Type 0
-AreShort machines = (k : ℕ) (machine : Machine_data) → slice_get machines k ≡ Some (Some machine) → length machine.states ≤ MOST_ACTS + 1
+-- .. where it is a role that has a part
+abbrev pub twice_of : {A : Type 0} → Names_data → List (Option A) → Lexeme → Option ℕ
+twice_of names parts l = twice_by (role_at names l) parts l.from
+
+-- all parts that are there have this property
+abbrev pub AllHave : {A : Type 0} → (A → Type 0) → List (Option A) → Type 0
+AllHave {A} P parts = (k : ℕ) (part : A) → slice_get parts k ≡ Some (Some part) → P part
 
 -- each stands in its role's place
-abbrev pub AreInPlace : List (Option Machine_data) → Type 0
-AreInPlace machines = (k : ℕ) (machine : Machine_data) → slice_get machines k ≡ Some (Some machine) → machine.role.0 ≡ k
+abbrev pub StandInPlace : {A : Type 0} → (A → Role) → List (Option A) → Type 0
+StandInPlace {A} role_of parts = (k : ℕ) (part : A) → slice_get parts k ≡ Some (Some part) → (role_of part).0 ≡ k
 
--- names and machines as they are while a document is read
+-- no machine has more than 257 states
+abbrev pub IsShort : Machine_data → Type 0
+IsShort machine = length machine.states ≤ MOST_ACTS + 1
+
+abbrev pub AreShort : List (Option Machine_data) → Type 0
+AreShort machines = AllHave IsShort machines
+
+abbrev pub AreInPlace : List (Option Machine_data) → Type 0
+AreInPlace machines = StandInPlace (λ (machine : Machine_data). machine.role) machines
+
+-- a derivation's bound is from 1 to 64, and it has at most 65,536 nodes
+pub record IsBounded (derivation : Derivation_data) : Type 0 where
+  pub bound : (1 ≤ derivation.bound) × (derivation.bound ≤ MOST_BOUND)
+  pub few : length derivation.nodes ≤ MOST_CANDIDATES
+
+-- names as they are while a document is read
+pub record AreGood (names : Names_data) : Type 0 where
+  pub sound : IsSound names
+  pub two : 2 ≤ length names.roles
+  pub roles : length names.roles ≤ MOST_ROLES
+  pub labels : length names.labels ≤ MOST_LABELS
+
+-- parts as they are while they are read: one place a role, each in its role's place, and all have a property
+pub record AreHeld {A : Type 0} (role_of : A → Role) (P : A → Type 0) (roles : List (List ℕ)) (parts : List (Option A)) : Type 0 where
+  pub one_each : length parts ≡ length roles
+  pub in_place : StandInPlace role_of parts
+  pub all : AllHave P parts
+
+abbrev pub MachinesAreHeld : List (List ℕ) → List (Option Machine_data) → Type 0
+MachinesAreHeld roles machines = AreHeld (λ (machine : Machine_data). machine.role) IsShort roles machines
+
+abbrev pub DerivationsAreHeld : List (List ℕ) → List (Option Derivation_data) → Type 0
+DerivationsAreHeld roles derivations = AreHeld (λ (derivation : Derivation_data). derivation.role) IsBounded roles derivations
+
+-- what a document that was read has, whatever it spells
 pub record IsReady (d : Document_data) : Type 0 where
   pub sound : IsSound d.names
   pub two : 2 ≤ length d.names.roles
@@ -59,40 +94,23 @@ pub record IsReady (d : Document_data) : Type 0 where
   pub short : AreShort d.machines
   pub in_place : AreInPlace d.machines
   pub nodes : length d.protocol.nodes ≤ MOST_TALKS + 1
+  pub derivations : DerivationsAreHeld d.names.roles d.derivations
 
--- how many roles have no machine
-abbrev pub free_in : List (Option Machine_data) → ℕ
+-- how many roles have no part
+abbrev pub free_in : {A : Type 0} → List (Option A) → ℕ
 free_in [] = 0
-free_in (None ∷ machines) = suc (free_in machines)
-free_in (Some machine ∷ machines) = free_in machines
+free_in (None ∷ parts) = suc (free_in parts)
+free_in (Some part ∷ parts) = free_in parts
 
--- what the text is from the offset on, with the document so far
-abbrev pub GoesOnWith : List ℕ → Document_data → ℕ → Content → Type 0
-GoesOnWith bytes d at what = GoesOn bytes d.protocol at d.names d.machines what
+-- what comes of the text from the new offset on comes of it from the old one on
+abbrev pub LeadsBack : {A : Type 0} → PartKind A → List ℕ → (old : Row A) → (new : Row A) → Type 0
+LeadsBack {A} kind bytes old new = (row : Result (Row A) TextFault) → GoesOn kind bytes new.until new.names new.parts row → GoesOn kind bytes old.until old.names old.parts row
 
--- one machine more stands in the document, and the text goes on behind it
-pub record IsAdded (bytes : List ℕ) (at : ℕ) (old new : Document_data) (next : ℕ) : Type 0 where
-  pub back : (what : Content) → GoesOnWith bytes new next what → GoesOnWith bytes old at what
-  pub protocol : new.protocol ≡ old.protocol
-  pub fewer : free_in new.machines < free_in old.machines
-  pub within : next ≤ length bytes
-  pub ready : IsReady new
-
--- what was found at the offset
-abbrev pub IsPart : List ℕ → ℕ → Document_data → Document_data → Part → Type 0
-IsPart bytes at old new part.End = StandsAt bytes at finish × (new ≡ old)
-IsPart bytes at old new part.Derivations = StandsAt bytes at derivation_word
-IsPart bytes at old new (part.Fault f) = GoesOnWith bytes old at (content.Fault f) × (f.at ≤ length bytes)
-IsPart bytes at old new (part.Machine next) = IsAdded bytes at old new next
-
--- a document that was found is ready, and the offset of a fault lies in the text
-abbrev pub IsInOrder : List ℕ → Content → Type 0
-IsInOrder bytes (content.Document d) = IsReady d
-IsInOrder bytes content.Derivations = Unit {0}
-IsInOrder bytes (content.Fault f) = f.at ≤ length bytes
-
--- what was found is what the text is
-abbrev pub IsContent : List ℕ → Content → Type 0
-IsContent bytes (content.Document d) = SpellsDocument bytes d
-IsContent bytes content.Derivations = IsBehindProtocol bytes content.Derivations
-IsContent bytes (content.Fault f) = HasFault bytes f.kind f.at
+-- one part more, and the text goes on behind it
+pub record IsAdded {A : Type 0} (kind : PartKind A) (P : A → Type 0) (bytes : List ℕ) (old new : Row A) : Type 0 where
+  pub back : LeadsBack kind bytes old new
+  pub fewer : free_in new.parts < free_in old.parts
+  pub within : new.until ≤ length bytes
+  pub names : AreGood new.names
+  pub held : AreHeld kind.role_of P new.names.roles new.parts
+  pub roles : new.names.roles ≡ old.names.roles

@@ -1,17 +1,16 @@
--- Believed: what a text spells, a protocol and machines behind it, as far as its end.
-use Rattle.std.specs.Prelude.{◌≡◌, ℕ, List, [], ◌∷◌, map, Option, Some, None, slice_get, slice_set}
-use Rattle.rs_model.specs.Data.{Names_data, Machine_data}
+-- Believed: which protocol and machines a text spells.
+use Rattle.std.specs.Prelude.{◌≡◌, ◌⊎◌, ℕ, List, codes, map, Option, Some, None, slice_get, slice_set}
+use Rattle.rs_model.specs.Data.{Names_data, Protocol_data, Machine_data}
 use Rattle.rs_model.specs.declared.graph.Role.{Role}
 use Rattle.rs_global.specs.Spells.{SpellsProtocol}
 use Rattle.rs_machines.specs.Spells.{SpellsMachine}
 use Rattle.rs_text.specs.Lexemes.{Lexeme}
-use Rattle.rs_text.specs.Signs.{finish}
-use Rattle.rs_text.specs.Tokens.{AreTokens}
-use Rattle.rs_documents.specs.Data.{Document_data}
+use Rattle.rs_text.specs.Signs.{finish, plain}
+use Rattle.rs_text.specs.Tokens.{IsNext}
 
--- the text ends behind the offset: no token stands there any more
-abbrev pub EndsBehind : List ℕ → ℕ → Type 0
-EndsBehind bytes at = (end : Lexeme) × (end.sign ≡ finish) × AreTokens bytes at (end ∷ [])
+-- no machine stands behind the offset any more: the text ends there, or the word `derivation` is next
+abbrev pub HasNoMachineBehind : List ℕ → ℕ → Type 0
+HasNoMachineBehind bytes at = (l : Lexeme) × IsNext bytes at l × ((l.sign ≡ finish) ⊎ (l.sign ≡ plain (codes "derivation")))
 
 -- the role has one of the machines
 abbrev pub HasMachine : List (Option Machine_data) → Role → Type 0
@@ -25,18 +24,18 @@ no_machines roles = map (λ (name : List ℕ). None) roles
 abbrev pub with_machine : List (Option Machine_data) → Machine_data → List (Option Machine_data)
 with_machine machines machine = slice_set machines machine.role.0 (Some machine)
 
--- what stands behind the offset makes the document of the names and the machines so far
-pub data MachinesBehind (bytes : List ℕ) : (at : ℕ) → Names_data → List (Option Machine_data) → Document_data → Type 0 where
-  -- nothing: they are the document's
-  NoMore : (at : ℕ) (d : Document_data) → EndsBehind bytes at → MachinesBehind bytes at d.names d.machines d
+-- with the names and the machines so far, what stands behind the offset makes all machines of the text
+pub data MachinesBehind (bytes : List ℕ) : (at : ℕ) → Names_data → List (Option Machine_data) → (all : List (Option Machine_data)) → Type 0 where
+  -- nothing more: they are all
+  NoMore : (at : ℕ) (names : Names_data) (machines : List (Option Machine_data)) → HasNoMachineBehind bytes at → MachinesBehind bytes at names machines machines
   -- one more machine, of a role that has none so far, and what stands behind it
-  OneMore : (at next : ℕ) (names new : Names_data) (machines : List (Option Machine_data)) (machine : Machine_data) (d : Document_data)
+  OneMore : (at next : ℕ) (names new : Names_data) (machines : List (Option Machine_data)) (machine : Machine_data) (all : List (Option Machine_data))
       → SpellsMachine bytes at names new machine next → (HasMachine machines machine.role → ⊥)
-      → MachinesBehind bytes next new (with_machine machines machine) d → MachinesBehind bytes at names machines d
+      → MachinesBehind bytes next new (with_machine machines machine) all → MachinesBehind bytes at names machines all
 
--- the bytes spell the document: a protocol stands at their begin, and machines behind it
-pub record SpellsDocument (bytes : List ℕ) (d : Document_data) : Type 0 where
+-- the bytes spell the protocol and these machines: it stands at their begin, and they behind it
+pub record SpellsMachines (bytes : List ℕ) (protocol : Protocol_data) (machines : List (Option Machine_data)) : Type 0 where
   pub names : Names_data
   pub until : ℕ
-  pub protocol : SpellsProtocol bytes 0 names d.protocol until
-  pub machines : MachinesBehind bytes until names (no_machines names.roles) d
+  pub protocol_is : SpellsProtocol bytes 0 names protocol until
+  pub machines_are : MachinesBehind bytes until names (no_machines names.roles) machines

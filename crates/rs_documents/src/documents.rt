@@ -1,26 +1,32 @@
-//! Documents: a protocol, and machines for some of its roles.
+//! Documents: a protocol, and machines and derivations for some of its roles.
 
-ghost use Rattle.std.specs.Prelude.{◌≡◌, ◌≤◌, ◌<◌, length, IfOk, IfSome, Some, None, slice_get};
+ghost use Rattle.rs_documents.specs.Documents.{FirstFault, SpellsDocument, fault_behind, wanted_behind};
+ghost use Rattle.rs_documents.specs.Parts.{GoesOn, Row, StandsAt, derivation_parts, machine_parts, no_parts, with_part};
+ghost use Rattle.rs_documents.specs.Reading as spec;
+ghost use Rattle.rs_documents.specs.Reading.{AreGood, DerivationsAreHeld, IsAdded, IsBounded, IsReady, IsShort, MachinesAreHeld, role_at};
 ghost use Rattle.rs_model.specs.declared.limits.TheConstants.{MOST_ROLES};
-ghost use Rattle.rs_text.specs.Lexemes.{sign_of, text_of, next_lexeme, lexeme_of};
-ghost use Rattle.rs_documents.specs.Documents as spec;
-ghost use Rattle.rs_documents.specs.Documents.{StandsAt, is_word, machine_word, with_machine};
-ghost use Rattle.rs_documents.specs.Reading.{GoesOnWith, IsPartBegin, IsContent, IsInOrder, IsPart, IsReady, is_held, twice_of};
+ghost use Rattle.rs_text.specs.Lexemes.{is_last, lexeme_of, next_lexeme, sign_of, text_of};
+ghost use Rattle.rs_text.specs.Signs.{plain};
+ghost use Rattle.rs_text.specs.declared.faults.TextKind.TheVariants as kind;
+ghost use Rattle.std.specs.Prelude.{◌≡◌, ◌≤◌, ◌⊎◌, length, Err, IfErr, IfOk, IfSome, Ok, OnOk, Some, codes, false, slice_get, slice_set};
 
+use rs_derivations::read_derivation;
+use rs_derive::Derivation;
 use rs_global::read_protocol;
 use rs_machines::read_machine;
-use rs_model::{Machine, Name, Names, NoMemory, Protocol};
+use rs_model::{Machine, Name, Names, NoMemory, Protocol, Role};
 use rs_text::{Kind, Lexer, TextFault, TextKind, Token, Wanted, seen};
 use std::alloc::Global;
 use std::marker::Model;
 
-/// A document: the names of its roles and labels, its protocol, and for each role in order the machine that it has for
-/// the role.
+/// A document: the names of its roles and labels, its protocol, and for each role in order the machine and the
+/// derivation that it has for the role.
 #[derive(Drop, Debug)]
 pub struct Document {
     pub names: Names,
     pub protocol: Protocol,
     pub machines: Vec<Option<Machine>>,
+    pub derivations: Vec<Option<Derivation>>,
 }
 
 impl Model for Document {
@@ -28,41 +34,14 @@ impl Model for Document {
 
     ghost Value = { Document_data };
 
-    ghost view = { λ d. record { names = d.names; protocol = d.protocol; machines = d.machines.items } };
-}
-
-/// What a text is.
-#[derive(Drop)]
-pub enum Content {
-    Document(Document),
-    /// A protocol and machines, and derivations behind them.
-    Derivations,
-    Fault(TextFault),
-}
-
-/// What the token begins at a place where a machine may stand.
-#[derive(Clone, Copy)]
-enum PartBegin {
-    End,
-    Machine,
-    Derivation,
-    Fault(TextKind),
-}
-
-/// What was found at such a place; a machine is put into the document, and `Machine` has the offset behind it.
-#[derive(Clone, Copy)]
-enum Part {
-    End,
-    Machine(usize),
-    Derivations,
-    Fault(TextFault),
+    ghost view = { λ d. record { names = d.names; protocol = d.protocol; machines = d.machines.items; derivations = d.derivations.items } };
 }
 
 /// Whether the token is this word, which is neither `rec` nor `end`.
 fn is_word(bytes: &[u8], token: Token, word: &[u8]) -> bool
     requires ordered { token.from ≤ token.until }
     requires within { token.until ≤ length bytes.now }
-    ensures { result ≡ is_word word.now (sign_of token.kind (text_of bytes.now token)) }
+    ensures { result ≡ spec.is_word word.now (sign_of token.kind (text_of bytes.now token)) }
 {
     match seen::plain(bytes, token) {
         Some(text) => text == word,
@@ -70,52 +49,61 @@ fn is_word(bytes: &[u8], token: Token, word: &[u8]) -> bool
     }
 }
 
-fn part_begin_at(bytes: &[u8], at: usize) -> PartBegin
+/// Whether a part that begins with the word stands at the offset.
+fn begins_with(bytes: &[u8], at: usize, word: &[u8]) -> bool
     requires { at ≤ length bytes.now }
-    ensures { IsPartBegin (next_lexeme bytes.now at).sign result }
+    ensures { result ≡ spec.is_word word.now (next_lexeme bytes.now at).sign }
 {
     let mut lexer = Lexer::new(bytes, at);
     match lexer.next() {
-        Ok(token) if token.kind == Kind::Finish => PartBegin::End,
-        Ok(token) if is_word(bytes, token, b"machine") => PartBegin::Machine,
-        Ok(token) if is_word(bytes, token, b"derivation") => PartBegin::Derivation,
-        Ok(_) => PartBegin::Fault(TextKind::Expected(Wanted::PartOrEnd)),
-        Err(fault) => PartBegin::Fault(TextKind::from(fault.kind)),
+        Ok(token) => is_word(bytes, token, word),
+        Err(_) => false,
     }
 }
 
-fn is_held(machines: &[Option<Machine>], place: usize) -> bool
-    ensures { result ≡ is_held (slice_get machines.now place) }
+/// The place of the role that the token names.
+fn role_at(names: &Names, bytes: &[u8], token: Token) -> Option<usize>
+    requires ordered { token.from ≤ token.until }
+    requires within { token.until ≤ length bytes.now }
+    requires roles { length names.now.roles ≤ MOST_ROLES }
+    ensures { result ≡ role_at names.now (lexeme_of bytes.now token) }
 {
-    match machines.get(place) {
+    let name = seen::plain(bytes, token)?;
+    let role = seen::role(names.roles.as_slice(), name)?;
+    Some(usize::from(role.0))
+}
+
+fn is_held<T>(parts: &[Option<T>], place: usize) -> bool
+    ensures { result ≡ spec.is_held (slice_get parts.now place) }
+{
+    match parts.get(place) {
         Some(Some(_)) => true,
         Some(None) | None => false,
     }
 }
 
-/// The offset of the token, where it is a role that has a machine.
-fn twice_of(document: &Document, bytes: &[u8], token: Token) -> Option<usize>
+/// The offset of the token, where it is a role that has a part.
+fn twice_of<T>(names: &Names, parts: &[Option<T>], bytes: &[u8], token: Token) -> Option<usize>
     requires ordered { token.from ≤ token.until }
     requires within { token.until ≤ length bytes.now }
-    requires roles { length document.now.names.roles ≤ MOST_ROLES }
-    ensures twice { result ≡ twice_of document.now.names document.now.machines (lexeme_of bytes.now token) }
+    requires roles { length names.now.roles ≤ MOST_ROLES }
+    ensures twice { result ≡ spec.twice_of names.now parts.now (lexeme_of bytes.now token) }
     ensures place { IfSome result (λ offset. offset ≤ length bytes.now) }
 {
-    let name = seen::plain(bytes, token)?;
-    let role = seen::role(document.names.roles.as_slice(), name)?;
-    if is_held(document.machines.as_slice(), usize::from(role.0)) {
+    let place = role_at(names, bytes, token)?;
+    if is_held(parts, place) {
         Some(token.from)
     } else {
         None
     }
 }
 
-/// The offset of the second token of a machine, where it is a role that has a machine.
-fn twice_at(document: &Document, bytes: &[u8], at: usize) -> Option<usize>
+/// The offset of the second token of the part at the offset, where it is a role that has a part.
+fn twice_at<T>(names: &Names, parts: &[Option<T>], bytes: &[u8], at: usize) -> Option<usize>
     requires within { at ≤ length bytes.now }
-    requires roles { length document.now.names.roles ≤ MOST_ROLES }
-    requires machine { StandsAt bytes.now at machine_word }
-    ensures twice { result ≡ twice_of document.now.names document.now.machines (next_lexeme bytes.now (next_lexeme bytes.now at).until) }
+    requires roles { length names.now.roles ≤ MOST_ROLES }
+    requires whole { is_last (next_lexeme bytes.now at).sign ≡ false }
+    ensures twice { result ≡ spec.twice_of names.now parts.now (next_lexeme bytes.now (next_lexeme bytes.now at).until) }
     ensures place { IfSome result (λ offset. offset ≤ length bytes.now) }
 {
     let mut lexer = Lexer::new(bytes, at);
@@ -123,126 +111,216 @@ fn twice_at(document: &Document, bytes: &[u8], at: usize) -> Option<usize>
         return None;
     }
     match lexer.next() {
-        Ok(token) => twice_of(document, bytes, token),
+        Ok(token) => twice_of(names, parts, bytes, token),
         Err(_) => None,
     }
 }
 
-/// Puts the machine into its role's place.
-fn put_machine(machines: &mut Vec<Option<Machine>>, machine: Machine)
-    ensures { machines.new.items ≡ with_machine machines.old.items machine }
+/// Puts the part into its role's place.
+fn put<T: Drop>(parts: &mut Vec<Option<T>>, role: Role, part: T)
+    ensures { parts.new.items ≡ slice_set parts.old.items role.0 (Some part) }
 {
-    let place = usize::from(machine.role.0);
-    if place < machines.len() {
-        machines[place] = Some(machine);
+    let place = usize::from(role.0);
+    if place < parts.len() {
+        parts[place] = Some(part);
     }
 }
 
-/// Reads one machine, which is put into the document.
+/// A place without a part for each role.
+fn no_parts<T: Drop>(alloc: Global, roles: &[Name]) -> Result<Vec<Option<T>>, NoMemory>
+    ensures { IfOk result (λ parts. parts.items ≡ no_parts roles.now) }
+{
+    let mut parts = Vec::new(alloc);
+    for _ in roles {
+        parts.push(None)?;
+    }
+    Ok(parts)
+}
+
+/// Reads the machine at the offset, which is put into its place, and gives the offset behind it.
 fn add_machine(
     alloc: Global,
     bytes: &[u8],
     at: usize,
-    document: &mut Document,
-) -> Result<Part, NoMemory>
+    names: &mut Names,
+    machines: &mut Vec<Option<Machine>>,
+) -> Result<usize, TextFault>
     requires within { at ≤ length bytes.now }
-    requires ready { IsReady document.old }
-    requires machine { StandsAt bytes.now at machine_word }
-    ensures { IfOk result (IsPart bytes.now at document.old document.new) }
+    requires names { AreGood names.old }
+    requires held { MachinesAreHeld names.old.roles machines.old.items }
+    requires machine { StandsAt bytes.now at (plain (codes "machine")) }
+    ensures ok { IfOk result (λ next. IsAdded machine_parts IsShort bytes.now (record { names = names.old; parts = machines.old.items; until = at }) (record { names = names.new; parts = machines.new.items; until = next })) }
+    ensures err { IfErr result (λ e. (e.kind ≡ kind.NoMemory) ⊎ GoesOn machine_parts bytes.now at names.old machines.old.items (Err e)) }
+    ensures place { IfErr result (λ e. e.at ≤ length bytes.now) }
 {
-    if let Some(second) = twice_at(document, bytes, at) {
-        return Ok(Part::Fault(TextFault {
+    if let Some(second) = twice_at(names, machines.as_slice(), bytes, at) {
+        return Err(TextFault {
             kind: TextKind::NameTwice,
             at: second,
-        }));
+        });
     }
-    match read_machine(alloc, bytes, at, &mut document.names) {
+    match read_machine(alloc, bytes, at, names) {
         Ok((machine, next)) => {
-            put_machine(&mut document.machines, machine);
-            Ok(Part::Machine(next))
+            put(machines, machine.role, machine);
+            Ok(next)
         }
-        Err(fault) => match fault.kind {
-            TextKind::NoMemory => Err(NoMemory),
-            _ => Ok(Part::Fault(fault)),
-        },
+        Err(fault) => Err(fault),
     }
 }
 
-/// Reads what stands at a place where a machine may stand.
-fn read_part(
+/// The same of a derivation.
+fn add_derivation(
     alloc: Global,
     bytes: &[u8],
     at: usize,
-    document: &mut Document,
-) -> Result<Part, NoMemory>
+    names: &mut Names,
+    derivations: &mut Vec<Option<Derivation>>,
+) -> Result<usize, TextFault>
     requires within { at ≤ length bytes.now }
-    requires ready { IsReady document.old }
-    ensures { IfOk result (IsPart bytes.now at document.old document.new) }
+    requires names { AreGood names.old }
+    requires held { DerivationsAreHeld names.old.roles derivations.old.items }
+    requires derivation { StandsAt bytes.now at (plain (codes "derivation")) }
+    ensures ok { IfOk result (λ next. IsAdded derivation_parts IsBounded bytes.now (record { names = names.old; parts = derivations.old.items; until = at }) (record { names = names.new; parts = derivations.new.items; until = next })) }
+    ensures err { IfErr result (λ e. (e.kind ≡ kind.NoMemory) ⊎ GoesOn derivation_parts bytes.now at names.old derivations.old.items (Err e)) }
+    ensures place { IfErr result (λ e. e.at ≤ length bytes.now) }
 {
-    match part_begin_at(bytes, at) {
-        PartBegin::End => Ok(Part::End),
-        PartBegin::Machine => add_machine(alloc, bytes, at, document),
-        PartBegin::Derivation => Ok(Part::Derivations),
-        PartBegin::Fault(kind) => Ok(Part::Fault(TextFault { kind, at })),
+    if let Some(second) = twice_at(names, derivations.as_slice(), bytes, at) {
+        return Err(TextFault {
+            kind: TextKind::NameTwice,
+            at: second,
+        });
+    }
+    match read_derivation(alloc, bytes, at, names) {
+        Ok((derivation, next)) => {
+            put(derivations, derivation.role, derivation);
+            Ok(next)
+        }
+        Err(fault) => Err(fault),
     }
 }
 
-/// Reads the machines behind a protocol, to the end of the text or to the first derivation.
-fn read_parts(
+/// Reads the machines at the offset, as many as stand there, and gives the offset behind them.
+fn read_machines(
     alloc: Global,
     bytes: &[u8],
     at: usize,
-    document: Document,
-) -> Result<Content, NoMemory>
+    names: &mut Names,
+) -> Result<(Vec<Option<Machine>>, usize), TextFault>
     requires within { at ≤ length bytes.now }
-    requires ready { IsReady document }
-    ensures found { IfOk result (GoesOnWith bytes.now document at) }
-    ensures order { IfOk result (IsInOrder bytes.now) }
+    requires names { AreGood names.old }
+    ensures ok { IfOk result (λ r. GoesOn machine_parts bytes.now at names.old (no_parts names.old.roles) (Ok (record { names = names.new; parts = r.0.items; until = r.1 }))) }
+    ensures names { OnOk result (AreGood names.new) }
+    ensures held { IfOk result (λ r. MachinesAreHeld names.new.roles r.0.items) }
+    ensures within { IfOk result (λ r. r.1 ≤ length bytes.now) }
+    ensures err { IfErr result (λ e. (e.kind ≡ kind.NoMemory) ⊎ GoesOn machine_parts bytes.now at names.old (no_parts names.old.roles) (Err e)) }
+    ensures place { IfErr result (λ e. e.at ≤ length bytes.now) }
 {
-    let mut document = document;
-    let mut at = at;
-    loop {
-        match read_part(alloc, bytes, at, &mut document) {
-            Ok(Part::End) => return Ok(Content::Document(document)),
-            Ok(Part::Machine(next)) => at = next,
-            Ok(Part::Derivations) => return Ok(Content::Derivations),
-            Ok(Part::Fault(fault)) => return Ok(Content::Fault(fault)),
-            Err(refused) => return Err(refused),
+    let mut machines = match no_parts(alloc, names.roles.as_slice()) {
+        Ok(machines) => machines,
+        Err(_) => return Err(no_memory(at)),
+    };
+    let mut until = at;
+    while begins_with(bytes, until, b"machine") {
+        match add_machine(alloc, bytes, until, names, &mut machines) {
+            Ok(next) => until = next,
+            Err(fault) => return Err(fault),
         }
+    }
+    Ok((machines, until))
+}
+
+/// The same of derivations.
+fn read_derivations(
+    alloc: Global,
+    bytes: &[u8],
+    at: usize,
+    names: &mut Names,
+) -> Result<(Vec<Option<Derivation>>, usize), TextFault>
+    requires within { at ≤ length bytes.now }
+    requires names { AreGood names.old }
+    ensures ok { IfOk result (λ r. GoesOn derivation_parts bytes.now at names.old (no_parts names.old.roles) (Ok (record { names = names.new; parts = r.0.items; until = r.1 }))) }
+    ensures names { OnOk result (AreGood names.new) }
+    ensures held { IfOk result (λ r. DerivationsAreHeld names.new.roles r.0.items) }
+    ensures within { IfOk result (λ r. r.1 ≤ length bytes.now) }
+    ensures err { IfErr result (λ e. (e.kind ≡ kind.NoMemory) ⊎ GoesOn derivation_parts bytes.now at names.old (no_parts names.old.roles) (Err e)) }
+    ensures place { IfErr result (λ e. e.at ≤ length bytes.now) }
+{
+    let mut derivations = match no_parts(alloc, names.roles.as_slice()) {
+        Ok(derivations) => derivations,
+        Err(_) => return Err(no_memory(at)),
+    };
+    let mut until = at;
+    while begins_with(bytes, until, b"derivation") {
+        match add_derivation(alloc, bytes, until, names, &mut derivations) {
+            Ok(next) => until = next,
+            Err(fault) => return Err(fault),
+        }
+    }
+    Ok((derivations, until))
+}
+
+fn no_memory(at: usize) -> TextFault
+    ensures { result ≡ record { kind = kind.NoMemory; at = at } }
+{
+    TextFault {
+        kind: TextKind::NoMemory,
+        at,
     }
 }
 
-/// A place without a machine for each role.
-fn no_machines(alloc: Global, roles: &[Name]) -> Result<Vec<Option<Machine>>, NoMemory>
-    ensures { IfOk result (λ machines. machines.items ≡ spec.no_machines roles.now) }
+/// The fault of the token behind all parts, where it isn't the end.
+fn fault_behind(bytes: &[u8], at: usize, wanted: Wanted) -> Option<TextKind>
+    requires { at ≤ length bytes.now }
+    ensures { result ≡ fault_behind wanted (next_lexeme bytes.now at).sign }
 {
-    let mut machines = Vec::new(alloc);
-    for _ in roles {
-        machines.push(None)?;
+    let mut lexer = Lexer::new(bytes, at);
+    match lexer.next() {
+        Ok(token) if token.kind == Kind::Finish => None,
+        Ok(_) => Some(TextKind::Expected(wanted)),
+        Err(fault) => Some(TextKind::from(fault.kind)),
     }
-    Ok(machines)
 }
 
-/// Reads a document, to the end of the text.
-pub fn read_document(alloc: Global, bytes: &[u8]) -> Result<Content, NoMemory>
-    ensures found { IfOk result (IsContent bytes.now) }
-    ensures order { IfOk result (IsInOrder bytes.now) }
+/// What is wanted behind all parts, where the machines and the derivations end at these offsets.
+fn wanted_behind(machines: usize, derivations: usize) -> Wanted
+    ensures { result ≡ wanted_behind machines derivations }
 {
-    match read_protocol(alloc, bytes, 0) {
-        Ok((names, protocol, until)) => {
-            let machines = no_machines(alloc, names.roles.as_slice())?;
-            read_parts(
-                alloc,
-                bytes,
-                until,
-                Document {
-                    names,
-                    protocol,
-                    machines,
-                },
-            )
-        }
-        Err(fault) if fault.kind == TextKind::NoMemory => Err(NoMemory),
-        Err(fault) => Ok(Content::Fault(fault)),
+    if derivations == machines {
+        Wanted::PartOrEnd
+    } else {
+        Wanted::DerivationOrEnd
+    }
+}
+
+/// Reads a document, to the end of the text: its protocol, then machines, then derivations, of each role one at most.
+///
+/// The error is the text's first fault. Of a role's second machine or second derivation it has the offset of that role;
+/// of what else stands behind the last part, that of its first token.
+pub fn read_document(alloc: Global, bytes: &[u8]) -> Result<Document, TextFault>
+    ensures ok { IfOk result (SpellsDocument bytes.now) }
+    ensures err { IfErr result (λ e. (e.kind ≡ kind.NoMemory) ⊎ FirstFault bytes.now e.kind e.at) }
+    ensures ready { IfOk result IsReady }
+    ensures place { IfErr result (λ e. e.at ≤ length bytes.now) }
+{
+    let (mut names, protocol, until) = match read_protocol(alloc, bytes, 0) {
+        Ok(read) => read,
+        Err(fault) => return Err(fault),
+    };
+    let (machines, next) = match read_machines(alloc, bytes, until, &mut names) {
+        Ok(read) => read,
+        Err(fault) => return Err(fault),
+    };
+    let (derivations, end) = match read_derivations(alloc, bytes, next, &mut names) {
+        Ok(read) => read,
+        Err(fault) => return Err(fault),
+    };
+    match fault_behind(bytes, end, wanted_behind(next, end)) {
+        Some(kind) => Err(TextFault { kind, at: end }),
+        None => Ok(Document {
+            names,
+            protocol,
+            machines,
+            derivations,
+        }),
     }
 }

@@ -1,11 +1,11 @@
-//! Documents: a protocol, and machines for some of its roles.
+//! Documents: a protocol, and machines and derivations for some of its roles.
 #![tactic(auto)]
 
 mod documents;
 pub mod laws;
 mod printing;
 
-pub use documents::{Content, Document, read_document};
+pub use documents::{Document, read_document};
 pub use printing::print_document;
 
 #[cfg(test)]

@@ -1,14 +1,18 @@
 //! The canonical text of a document.
 
-ghost use Rattle.std.specs.Prelude.{◌≡◌, IfOk, OnOk};
-ghost use Rattle.rs_documents.specs.Canonical.{AreShown, CanBeShown, IsCanonicalDocument, IsLineBehind, IsMachineBehind, IsShown, IsShownBehind};
+ghost use Rattle.std.specs.Prelude.{◌≡◌, ◌≤◌, ◌++◌, length, IfOk, IfSome, OnOk};
+ghost use Rattle.rs_derivations.specs.Printable.{IsPrintable};
+ghost use Rattle.rs_documents.specs.Canonical.{ArePrintable, AreShown, CanBeShown, derivations_text, own_text, IsCanonicalDocument, IsLineBehind, IsMachineBehind, IsShown, IsShownBehind};
 ghost use Rattle.rs_global.specs.Canonical.{IsTextShaped};
 ghost use Rattle.rs_global.specs.Enough.{AreEnough};
 ghost use Rattle.rs_machines.specs.Canonical.{IsMachineTextShaped};
 ghost use Rattle.rs_machines.specs.Enough.{AreEnoughFor};
+ghost use Rattle.rs_model.specs.declared.limits.TheConstants.{MOST_ROLES};
 ghost use Rattle.rs_text.specs.Sound.{IsSound};
 
 use crate::documents::Document;
+use rs_derivations::print_derivation;
+use rs_derive::Derivation;
 use rs_global::print_protocol;
 use rs_machines::print_machine;
 use rs_model::{Machine, Names, NoMemory};
@@ -64,7 +68,47 @@ fn push_machines(
     Ok(())
 }
 
-/// The canonical text of the document: the roles line, the protocol, and a line for each machine that it has.
+/// Appends the canonical text of the derivation, where it is there.
+fn push_own_derivation(
+    alloc: Global,
+    text: &mut Text,
+    names: &Names,
+    own: &Option<Derivation>,
+) -> Result<(), NoMemory>
+    requires sound { IsSound names.now }
+    requires few { length names.now.roles ≤ MOST_ROLES }
+    requires printable { IfSome own.now (λ derivation. IsPrintable names.now derivation) }
+    ensures { OnOk result (text.new ≡ text.old ++ own_text names.now own.now) }
+{
+    match own {
+        Some(derivation) => {
+            let lines = print_derivation(alloc, names, derivation)?;
+            text.push(lines.as_slice())
+        }
+        None => Ok(()),
+    }
+}
+
+/// Appends the canonical texts of the derivations that are there.
+fn push_derivations(
+    alloc: Global,
+    text: &mut Text,
+    names: &Names,
+    derivations: &[Option<Derivation>],
+) -> Result<(), NoMemory>
+    requires sound { IsSound names.now }
+    requires few { length names.now.roles ≤ MOST_ROLES }
+    requires printable { ArePrintable names.now derivations.now }
+    ensures { OnOk result (text.new ≡ text.old ++ derivations_text names.now derivations.now) }
+{
+    for own in derivations {
+        push_own_derivation(alloc, text, names, own)?;
+    }
+    Ok(())
+}
+
+/// The canonical text of the document: the roles line, the protocol, a line for each machine that it has, and the lines
+/// of each derivation that it has.
 pub fn print_document(alloc: Global, document: &Document) -> Result<Text, NoMemory>
     requires shown { CanBeShown document.now }
     ensures { IfOk result (IsCanonicalDocument document.now) }
@@ -75,6 +119,12 @@ pub fn print_document(alloc: Global, document: &Document) -> Result<Text, NoMemo
         &mut text,
         &document.names,
         document.machines.as_slice(),
+    )?;
+    push_derivations(
+        alloc,
+        &mut text,
+        &document.names,
+        document.derivations.as_slice(),
     )?;
     Ok(text)
 }

@@ -1,6 +1,6 @@
 -- What an answer that was made says of its document, and a call that wrote it of its source and sink.
-use Rattle.std.proofs.Common.{◌≡◌, ℕ, ◌≤◌, ◌<◌, ◌⊎◌, List, length, Bool, true, false, Option, Some, None, Result, Ok, Err, refl, sym, ap, subst, ◌∙◌, inl, inr}
-use Rattle.std.specs.Prelude.{IfOk, IfErr, IsErrAnd, IfSome, codes}
+use Rattle.std.proofs.Common.{◌≡◌, ℕ, ◌≤◌, ◌<◌, ◌⊎◌, List, length, ◌++◌, Bool, true, false, Option, Some, None, Result, Ok, Err, refl, sym, ap, subst, ◌∙◌, inl, inr}
+use Rattle.std.specs.Prelude.{IfOk, IfErr, IsErrAnd, IfSome, OnOk, codes}
 use Rattle.std.specs.Io.KnownBytes.{Appends, Keeps, IsAtEnd}
 use Rattle.rs_io.specs.Prefix.{AppendsPrefix}
 use Rattle.rs_model.specs.Data.{Machine_data}
@@ -19,21 +19,23 @@ use Rattle.rs_tool.specs.Derivations.{AreCanonical, IsUnderivable}
 use Rattle.rs_text.specs.declared.faults.TextFault.{TextFault}
 use Rattle.rs_wellformed.specs.Faults.{first_fault}
 use Rattle.rs_wellformed.specs.declared.checks.WfFault.{WfFault}
-use Rattle.rs_documents.specs.declared.documents.Content.TheVariants as content
+use Rattle.rs_text.specs.declared.faults.TextKind.TheVariants as kind
 use Rattle.rs_tool.specs.declared.statuses.Status.{Status}
 use Rattle.rs_tool.specs.declared.statuses.Status.TheVariants as status
 use Rattle.rs_tool.specs.declared.statuses.Verdict.{Verdict}
 use Rattle.rs_tool.specs.declared.statuses.Verdict.TheVariants as verdict
 use Rattle.rs_words.specs.declared.tasks.Task.{Task}
 use Rattle.rs_words.specs.Meaning.{IsMeaning, SpellsTask}
+use Rattle.rs_pipeline.specs.Pipelines.{pipeline_of, pipeline_summary, pipeline_text}
 use Rattle.rs_words.proofs.Exact.{words_spell_one_task}
-use Rattle.rs_tool.specs.Answers.{Answers, CarriesOut, AnswersText, IsTooLong, IsFaulty, IsDocument, AnswersDocument, AnswersTask, ReadsInput}
+use Rattle.rs_words.specs.declared.limits.TheConstants.{DEFAULT_BOUND}
+use Rattle.rs_tool.specs.Answers.{Answers, CarriesOut, AnswersText, IsTooLong, IsFaulty, IsDocument, AnswersDocument, AnswersPipeline, AnswersTask, ReadsInput}
 use Rattle.rs_tool.specs.Calls.{Ends, ForInput, IsStopped, Tells, TellsAll, TellsPart, TellsReadFault, TellsNoMemory}
 use Rattle.rs_tool.specs.Checks as checks
 use Rattle.rs_tool.specs.Checks.{Checks}
 use Rattle.rs_documents.specs.Data.{Document_data}
 use Rattle.rs_tool.specs.Data.{Answer_data}
-use Rattle.rs_documents.specs.Reading.{IsContent}
+use Rattle.rs_documents.specs.Documents.{FirstFault, SpellsDocument}
 use Rattle.rs_tool.specs.RefusalTexts.{too_large, fault_answer, wf_answer, proj_answer}
 use Rattle.rs_tool.specs.Refusals.{HasNoDerivations, HasNoSession, IsIllFormed, HasNoProjection, HasIllMachine, IsWithoutSession, HasNoDerivation, of_projecting, of_searching, refusal_answer}
 use Rattle.rs_tool.specs.declared.derivations.Underivable.{Underivable}
@@ -144,11 +146,14 @@ no_tables d f (Ok m) none (inl memory) is never = absurd (never memory)
 no_tables d f (Ok m) none (inr refused) is never = tables.HasNoProjection none refused.0 f refused.1 is
 
 -- the answer to a document is the answer to the text that spells it
-pub of_document : (t : Task) (bytes : List ℕ) (d : Document_data) (r : Result Answer_data NoMemory) → length bytes ≤ MOST_BYTES → IsContent bytes (content.Document d) → IfOk r (AnswersDocument t d) → IfOk r (AnswersText t bytes)
+pub of_document : (t : Task) (bytes : List ℕ) (d : Document_data) (r : Result Answer_data NoMemory) → length bytes ≤ MOST_BYTES → SpellsDocument bytes d → IfOk r (AnswersDocument t d) → IfOk r (AnswersText t bytes)
 of_document t bytes d r short h a = made (AnswersDocument t d) (AnswersText t bytes) r a (λ m x. IsDocument short d h x)
 
-pub of_fault : (t : Task) (bytes : List ℕ) (f : TextFault) (r : Result Answer_data NoMemory) → length bytes ≤ MOST_BYTES → IsContent bytes (content.Fault f) → IfOk r (λ m. m ≡ fault_answer bytes f.kind f.at) → IfOk r (AnswersText t bytes)
-of_fault t bytes f r short h is = meant (AnswersText t bytes) r (fault_answer bytes f.kind f.at) is (λ m x. IsFaulty short f.kind f.at h x)
+pub of_fault : (t : Task) (bytes : List ℕ) (f : TextFault) (r : Result Answer_data NoMemory) → length bytes ≤ MOST_BYTES → (f.kind ≡ kind.NoMemory) ⊎ FirstFault bytes f.kind f.at → IfOk r (λ m. m ≡ fault_answer bytes f.kind f.at)
+    → OnOk r (f.kind ≡ kind.NoMemory → ⊥) → IfOk r (AnswersText t bytes)
+of_fault t bytes f (Err e) short why is never = tt
+of_fault t bytes f (Ok m) short (inl memory) is never = absurd (never memory)
+of_fault t bytes f (Ok m) short (inr h) is never = IsFaulty short f.kind f.at h is
 
 -- what holds of the bytes that were read holds of those that were told
 pub of_told : (o : Option (List ℕ)) (bytes : List ℕ) (P : List ℕ → Type 0) → IfSome o (λ left. bytes ≡ left) → P bytes → IfSome o P
@@ -312,3 +317,9 @@ ends_stopped {S} words left later written read_rose write_rose source behind why
 pub some_tables : (d : Document_data) (ps : List Projection_data) (text : List ℕ) → first_fault d.protocol ≡ None → AreNumberedProjections d.protocol ps → text ≡ tables.tables_text d.names ps
     → Projects d (record { text = text; verdict = verdict.Fine })
 some_tables d ps text none h is = tables.HasTables ps (record { well_formed = none; projected = h }) (ap (λ z. record { text = z; verdict = verdict.Fine }) is)
+
+-- the answer to `gen`
+pub piped : (number : ℕ) (checked : Answer_data) (text summary : List ℕ) (verdict : Verdict) → AnswersText (task.Check DEFAULT_BOUND false) (pipeline_text (pipeline_of number)) checked → summary ≡ pipeline_summary (pipeline_of number) → text ≡ summary ++ checked.text
+    → verdict ≡ checked.verdict → AnswersPipeline number (record { text = text; verdict = verdict })
+piped number checked text summary verdict h s t v =
+    record { checked = checked; checks = h; is = ap (λ z. record { text = z; verdict = verdict }) (t ∙ ap (λ z. z ++ checked.text) s) ∙ ap (λ z. record { text = pipeline_summary (pipeline_of number) ++ checked.text; verdict = z }) v }

@@ -92,7 +92,7 @@ session_of d ps ms spelt none h e fine =
 
 -- what is ready gives the same
 pub ready_session : (d : Document_data) → IsReady d → length d.names.roles ≡ d.protocol.roles → IsSpeltSession d
-ready_session d ready roles = record { two = ready.two; few = ready.roles; roles = roles; one_each = ready.one_each; in_place = ready.in_place }
+ready_session d ready roles = record { two = ready.two; few = ready.roles; roles = roles; one_each = ready.one_each; in_place = ready.in_place; a_derivation_each = ready.derivations.one_each; derivations_in_place = ready.derivations.in_place }
 
 -- .. of machines that the document has
 pub session_has : (d : Document_data) (ps : List Projection_data) (ms : List Machine_data) → IsReady d → length d.names.roles ≡ d.protocol.roles → HasMachines d ps ms → IsSession d.protocol ps ms

@@ -9,7 +9,7 @@ use Rattle.rs_search.specs.declared.faults.SearchFault.{SearchFault}
 use Rattle.rs_search.specs.declared.faults.SearchFault.TheVariants as search
 use Rattle.rs_tool.proofs.Derivings.{canonical_safe, session_of}
 use Rattle.rs_documents.proofs.SpeltSessions.{spelt_session}
-use Rattle.rs_documents.proofs.Spelt.{one_place_each}
+use Rattle.rs_documents.proofs.Spelt.{one_place_each, spelt_machines}
 use Rattle.rs_text.specs.declared.faults.TextKind.{TextKind}
 use Rattle.rs_text.specs.declared.faults.TextKind.TheVariants as kind
 use Rattle.rs_wellformed.specs.declared.checks.WfFault.{WfFault}
@@ -18,7 +18,7 @@ use Rattle.rs_tool.specs.Statuses.{status_of}
 use Rattle.rs_tool.specs.declared.statuses.Status.{Status}
 use Rattle.rs_tool.specs.declared.statuses.Status.TheVariants as status
 use Rattle.rs_pipeline.specs.Pipelines.{pipeline_text, pipeline_of}
-use Rattle.rs_tool.specs.Answers.{Answers, SpellsNothing, CarriesOut, AnswersText, IsTooLong, IsFaulty, IsDerived, IsDocument, AnswersDocument, AnswersTask, IsNotBuilt, ReadsInput, MakesPipeline}
+use Rattle.rs_tool.specs.Answers.{Answers, SpellsNothing, CarriesOut, AnswersText, IsTooLong, IsFaulty, IsDocument, AnswersDocument, AnswersTask, IsNotBuilt, ReadsInput, MakesPipeline}
 use Rattle.rs_tool.specs.Calls.{ForInput, Tells, TellsAll, TellsPart, TellsReadFault, TellsNoMemory}
 use Rattle.rs_tool.specs.Checks.{Checks, IsRefused, IsAccepted}
 use Rattle.rs_documents.specs.Data.{Document_data}
@@ -98,14 +98,16 @@ derived-is-safe : (bound : ℕ) (bytes : List ℕ) (d : Document_data) (projecti
     → AreCanonical bound machines projections derivations → SpellsSafeMachines bytes
 derived-is-safe bound bytes d projections machines derivations doc h found =
     let spelt = spelt_session bytes d doc in
+    let spells = spelt_machines bytes d doc in
     let session = session_of d projections machines spelt h.projections_are.well_formed h.projections_are.projected h.machines_are h.well_formed in
     record {
-      document = d;
+      protocol = d.protocol;
+      machines = d.machines;
       projections = projections;
-      spells = doc;
+      spells = spells;
       well_formed = session.well_formed;
       projected = h.projections_are.projected;
-      one_each = one_place_each bytes d doc;
+      one_each = one_place_each bytes d.protocol d.machines spells;
       safe = subst IsSafe h.machines_are (canonical_safe bound d.protocol projections machines derivations session found);
     }
 
@@ -125,7 +127,6 @@ text-is-safe : (t : Task) (bytes : List ℕ) (a : Answer_data) → TellsSafe t b
 text-is-safe t bytes a safe (IsDocument short d h answers) run = safe d h answers run
 text-is-safe t bytes a safe (IsTooLong long is) run = absurd (no-run a _ is (λ e. e) run)
 text-is-safe t bytes a safe (IsFaulty short k at h is) run = absurd (no-run a _ is (fault-is-no-run bytes k at) run)
-text-is-safe t bytes a safe (IsDerived short h is) run = absurd (no-run a _ is (λ e. e) run)
 
 check-is-safe : (bound : ℕ) (bytes : List ℕ) (a : Answer_data) → AnswersText (task.Check bound false) bytes a → IsOfRun (status_of a.verdict) → SpellsSafeMachines bytes
 check-is-safe bound bytes a h run = text-is-safe (task.Check bound false) bytes a (λ d doc k is. checked-is-safe bound bytes d a doc k is) h run

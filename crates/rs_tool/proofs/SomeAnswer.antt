@@ -33,17 +33,14 @@ use Rattle.rs_wellformed.specs.Faults.{first_fault}
 use Rattle.rs_wellformed.specs.WellFormed.{IsWellFormed}
 use Rattle.rs_wellformed.specs.declared.checks.WfFault.{WfFault}
 use Rattle.rs_wellformed.proofs.Faults.{no_fault}
-use Rattle.rs_documents.specs.declared.documents.Content.{Content}
-use Rattle.rs_documents.specs.declared.documents.Content.TheVariants as content
 use Rattle.rs_tool.specs.declared.statuses.Verdict.TheVariants.{Fine}
 use Rattle.rs_words.specs.declared.tasks.Task.{Task}
 use Rattle.rs_words.specs.declared.tasks.Task.TheVariants as task
-use Rattle.rs_tool.specs.Answers.{Answers, SpellsNothing, CarriesOut, AnswersText, IsTooLong, IsFaulty, IsDerived, IsDocument, AnswersDocument, AnswersTask, IsNotBuilt, ReadsInput, MakesPipeline}
+use Rattle.rs_tool.specs.Answers.{Answers, SpellsNothing, CarriesOut, AnswersText, IsTooLong, IsFaulty, IsDocument, AnswersDocument, AnswersTask, IsNotBuilt, ReadsInput, MakesPipeline}
 use Rattle.rs_tool.specs.Checks as checks
 use Rattle.rs_documents.specs.Data.{Document_data}
 use Rattle.rs_tool.specs.Data.{Answer_data}
 use Rattle.rs_documents.specs.Documents.{SpellsDocument}
-use Rattle.rs_documents.specs.Reading.{IsContent}
 use Rattle.rs_tool.specs.RefusalTexts.{usage, not_built, too_large, fault_answer, wf_answer, proj_answer}
 use Rattle.rs_tool.specs.Refusals.{HasNoDerivations, IsIllFormed, HasNoProjection, HasIllMachine, IsWithoutSession, HasNoDerivation, refusal_answer}
 use Rattle.rs_tool.specs.declared.refusals.Refusal.{Refusal}
@@ -54,14 +51,14 @@ use Rattle.rs_tool.specs.Runs.{Runs}
 use Rattle.rs_tool.specs.declared.runs.RunOptions.{RunOptions}
 use Rattle.rs_tool.proofs.Outcomes.{some_run}
 use Rattle.rs_tool.specs.Sessions.{HasMachines, HasProjections, IsUnprojectable, MachineRefusal, first_refusal, machines_of}
-use Rattle.rs_documents.specs.Canonical.{AreShown, AreCanonicalMachines}
+use Rattle.rs_documents.specs.Canonical.{AreShown, AreCanonicalMachines, derivations_text}
 use Rattle.rs_tool.specs.Tables as tables
 use Rattle.rs_tool.specs.Tables.{Projects, tables_text}
 use Rattle.rs_tool.specs.Tasks.{is_built, reads_input}
 use Rattle.rs_documents.proofs.CanShow.{role_names}
 use Rattle.rs_tool.proofs.EachRole.{next_projection, no_projections}
 use Rattle.rs_machines.proofs.Existence as of_machines
-use Rattle.rs_documents.proofs.OneContent.{some_found}
+use Rattle.rs_documents.proofs.OneDocument.{spelt_or_faulty}
 
 record Some_for (t : Task) (d : Document_data) : Type 0 where
   answer : Answer_data
@@ -169,7 +166,7 @@ shown bytes d h =
     let c = canonical_is_there d.names d.protocol r.3 enough.roles enough.labels in
     let l = lines d.names d.machines r.2 in
     record {
-      answer = record { text = protocol_text c.0 ++ l.0; verdict = Fine };
+      answer = record { text = protocol_text c.0 ++ (l.0 ++ derivations_text d.names d.derivations); verdict = Fine };
       answers = record {
         text = record { front = protocol_text c.0; back = l.0; protocol = record { tree = c.0; canonical = c.1; is = refl }; machines = l.1; is = refl };
         fine = refl;
@@ -192,14 +189,12 @@ record Some_text (t : Task) (bytes : List ℕ) : Type 0 where
   answer : Answer_data
   answers : AnswersText t bytes answer
 
-of_content : (t : Task) (bytes : List ℕ) → IsInRange t → reads_input t ≡ true → length bytes ≤ MOST_BYTES → (what : Content) → IsContent bytes what → Some_text t bytes
-of_content t bytes range reads short (content.Document d) h = let a = document_answer t bytes d range reads h in record { answer = a.answer; answers = IsDocument short d h a.answers }
-of_content t bytes range reads short content.Derivations h = record { answer = not_built; answers = IsDerived short h refl }
-of_content t bytes range reads short (content.Fault f) h = record { answer = fault_answer bytes f.kind f.at; answers = IsFaulty short f.kind f.at h refl }
-
 of_text : (t : Task) (bytes : List ℕ) → IsInRange t → reads_input t ≡ true → Some_text t bytes
 of_text t bytes range reads = elim (leb_tells (length bytes) MOST_BYTES) [
-  | inl short ↦ let f = some_found bytes in of_content t bytes range reads short.1 f.what f.is
+  | inl short ↦ elim (spelt_or_faulty bytes) [
+    | inl d ↦ let a = document_answer t bytes d.0 range reads d.1 in record { answer = a.answer; answers = IsDocument short.1 d.0 d.1 a.answers }
+    | inr f ↦ record { answer = fault_answer bytes f.0 f.1; answers = IsFaulty short.1 f.0 f.1 f.2 refl }
+  ]
   | inr long ↦ record { answer = too_large (codes "text"); answers = IsTooLong long.1 refl }
 ]
 

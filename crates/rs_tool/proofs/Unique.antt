@@ -23,11 +23,9 @@ use Rattle.rs_wellformed.proofs.Faults.{no_fault}
 use Rattle.rs_text.specs.declared.faults.TextKind.{TextKind}
 use Rattle.rs_text.specs.declared.faults.TextKind.TheVariants as kind
 use Rattle.rs_tool.specs.declared.statuses.Verdict.TheVariants.{Fine}
-use Rattle.rs_documents.specs.declared.documents.Content.{Content}
-use Rattle.rs_documents.specs.declared.documents.Content.TheVariants as content
 use Rattle.rs_words.specs.declared.tasks.Task.{Task}
 use Rattle.rs_words.specs.declared.tasks.Task.TheVariants as task
-use Rattle.rs_tool.specs.Answers.{Answers, SpellsNothing, CarriesOut, AnswersText, IsTooLong, IsFaulty, IsDerived, IsDocument, AnswersDocument, AnswersPipeline, AnswersTask, IsNotBuilt, ReadsInput, MakesPipeline}
+use Rattle.rs_tool.specs.Answers.{Answers, SpellsNothing, CarriesOut, AnswersText, IsTooLong, IsFaulty, IsDocument, AnswersDocument, AnswersPipeline, AnswersTask, IsNotBuilt, ReadsInput, MakesPipeline}
 use Rattle.rs_tool.specs.Checks.{Checks, IsRefused, IsAccepted}
 use Rattle.rs_documents.specs.Data.{Document_data}
 use Rattle.rs_tool.specs.Data.{Answer_data}
@@ -44,7 +42,7 @@ use Rattle.rs_tool.proofs.Derivings.{session_of}
 use Rattle.rs_tool.proofs.Outcomes.{one_run}
 use Rattle.rs_documents.proofs.SpeltSessions.{spelt_session}
 use Rattle.rs_tool.specs.Sessions.{HasMachines, HasProjections, IsUnprojectable, MachineRefusal, first_refusal, machines_of}
-use Rattle.rs_documents.specs.Canonical.{AreCanonicalMachines, AreShown}
+use Rattle.rs_documents.specs.Canonical.{AreCanonicalMachines, AreShown, derivations_text}
 use Rattle.rs_tool.specs.Shown.{Shows}
 use Rattle.rs_tool.specs.Tables as tables
 use Rattle.rs_tool.specs.Tables.{Projects, tables_text}
@@ -53,20 +51,10 @@ use Rattle.rs_documents.proofs.CanShow.{role_names}
 use Rattle.rs_project.proofs.OneProjection.{not-both, one-projection}
 use Rattle.rs_project.proofs.OneAnswer.{one-refusal}
 use Rattle.rs_machines.proofs.CanonOne as of_machines
-use Rattle.rs_documents.proofs.OneContent.{one_found}
+use Rattle.rs_documents.proofs.OneDocument.{no_fault as no_text_fault, one_document, one_fault}
 
 short-and-long : (bytes : List ℕ) → length bytes ≤ MOST_BYTES → MOST_BYTES < length bytes → ⊥
 short-and-long bytes s l = absurd (omega arith)
-
-abbrev kind_found : Content → TextKind
-kind_found (content.Fault f) = f.kind
-kind_found content.Derivations = kind.BadByte
-kind_found (content.Document d) = kind.BadByte
-
-abbrev at_found : Content → ℕ
-at_found (content.Fault f) = f.at
-at_found content.Derivations = 0
-at_found (content.Document d) = 0
 
 -- projections
 same_list : {A : Type 0} (xs ys : List A) → length xs ≡ length ys → ((p : ℕ) (x y : A) → slice_get xs p ≡ Some x → slice_get ys p ≡ Some y → x ≡ y) → xs ≡ ys
@@ -273,7 +261,8 @@ one_show bytes d a b doc h k =
     let r = role_names bytes d doc in
     let front = canonical_text_is_one d.names d.protocol h.text.front k.text.front r.3 h.text.protocol k.text.protocol in
     let back = one_lines d.names d.machines h.text.back k.text.back r.2 h.text.machines k.text.machines in
-    let text : a.text ≡ b.text = h.text.is ∙ ap (λ z. z ++ h.text.back) front ∙ ap (λ z. k.text.front ++ z) back ∙ sym k.text.is in
+    let last = derivations_text d.names d.derivations in
+    let text : a.text ≡ b.text = h.text.is ∙ ap (λ z. z ++ (h.text.back ++ last)) front ∙ ap (λ z. k.text.front ++ (z ++ last)) back ∙ sym k.text.is in
     ap (λ z. record { text = z; verdict = a.verdict }) text ∙ ap (λ z. record { text = b.text; verdict = z }) (h.fine ∙ sym k.fine)
 
 one_of_document : (t : Task) (bytes : List ℕ) (d : Document_data) (a b : Answer_data) → SpellsDocument bytes d → AnswersDocument t d a → AnswersDocument t d b → a ≡ b
@@ -289,26 +278,16 @@ one_of_document task.Project bytes d a b doc h k = one_tables d a b h k
 one_text : (t : Task) (bytes : List ℕ) (a b : Answer_data) → AnswersText t bytes a → AnswersText t bytes b → a ≡ b
 one_text t bytes a b (IsTooLong l x) (IsTooLong m y) = x ∙ sym y
 one_text t bytes a b (IsTooLong l x) (IsFaulty s k at h y) = absurd (short-and-long bytes s l)
-one_text t bytes a b (IsTooLong l x) (IsDerived s h y) = absurd (short-and-long bytes s l)
 one_text t bytes a b (IsTooLong l x) (IsDocument s d h y) = absurd (short-and-long bytes s l)
 one_text t bytes a b (IsFaulty s k at h x) (IsTooLong m y) = absurd (short-and-long bytes s m)
 one_text t bytes a b (IsFaulty s k at h x) (IsFaulty r j place g y) =
-    let same : content.Fault (record { kind = k; at = at }) ≡ content.Fault (record { kind = j; at = place }) = one_found bytes (content.Fault (record { kind = k; at = at })) (content.Fault (record { kind = j; at = place })) h g in
-    let e : k ≡ j = ap kind_found same in
-    let f : at ≡ place = ap at_found same in
-    x ∙ ap (λ z. fault_answer bytes z at) e ∙ ap (λ z. fault_answer bytes j z) f ∙ sym y
-one_text t bytes a b (IsFaulty s k at h x) (IsDerived r g y) = let same = one_found bytes (content.Fault (record { kind = k; at = at })) content.Derivations h g in absurd cc
-one_text t bytes a b (IsFaulty s k at h x) (IsDocument r d g y) = let same = one_found bytes (content.Fault (record { kind = k; at = at })) (content.Document d) h g in absurd cc
-one_text t bytes a b (IsDerived s h x) (IsTooLong m y) = absurd (short-and-long bytes s m)
-one_text t bytes a b (IsDerived s h x) (IsFaulty r k at g y) = let same = one_found bytes content.Derivations (content.Fault (record { kind = k; at = at })) h g in absurd cc
-one_text t bytes a b (IsDerived s h x) (IsDerived r g y) = x ∙ sym y
-one_text t bytes a b (IsDerived s h x) (IsDocument r d g y) = let same = one_found bytes content.Derivations (content.Document d) h g in absurd cc
+    let same = one_fault bytes k j at place h g in
+    x ∙ ap (λ z. fault_answer bytes z at) same.0 ∙ ap (λ z. fault_answer bytes j z) same.1 ∙ sym y
+one_text t bytes a b (IsFaulty s k at h x) (IsDocument r d g y) = absurd (no_text_fault bytes d k at g h)
 one_text t bytes a b (IsDocument s d h x) (IsTooLong m y) = absurd (short-and-long bytes s m)
-one_text t bytes a b (IsDocument s d h x) (IsFaulty r k at g y) = let same = one_found bytes (content.Document d) (content.Fault (record { kind = k; at = at })) h g in absurd cc
-one_text t bytes a b (IsDocument s d h x) (IsDerived r g y) = let same = one_found bytes (content.Document d) content.Derivations h g in absurd cc
+one_text t bytes a b (IsDocument s d h x) (IsFaulty r k at g y) = absurd (no_text_fault bytes d k at h g)
 one_text t bytes a b (IsDocument s d h x) (IsDocument r e g y) =
-    let same : content.Document d ≡ content.Document e = one_found bytes (content.Document d) (content.Document e) h g in
-    let is : d ≡ e = cc in
+    let is = one_document bytes d e h g in
     one_of_document t bytes e a b g (subst (λ (z : Document_data). AnswersDocument t z a) is x) y
 
 one_pipeline : (number : ℕ) (a b : Answer_data) → AnswersPipeline number a → AnswersPipeline number b → a ≡ b

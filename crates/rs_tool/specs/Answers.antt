@@ -6,7 +6,7 @@ use Rattle.rs_text.specs.declared.faults.TextKind.{TextKind}
 use Rattle.rs_tool.specs.Checks.{Checks}
 use Rattle.rs_documents.specs.Data.{Document_data}
 use Rattle.rs_tool.specs.Data.{Answer_data}
-use Rattle.rs_documents.specs.Documents.{SpellsDocument, HasDerivations, HasFault}
+use Rattle.rs_documents.specs.Documents.{FirstFault, SpellsDocument}
 use Rattle.rs_tool.specs.RefusalTexts.{usage, not_built, too_large, fault_answer}
 use Rattle.rs_tool.specs.Runs.{Runs}
 use Rattle.rs_tool.specs.Shown.{Shows}
@@ -30,10 +30,8 @@ pub data AnswersText (spelt : Task) (bytes : List ℕ) (answer : Answer_data) : 
   -- it is too long
   IsTooLong : MOST_BYTES < length bytes → answer ≡ too_large (codes "text") → AnswersText spelt bytes answer
   -- it is at fault
-  IsFaulty : length bytes ≤ MOST_BYTES → (kind : TextKind) (at : ℕ) → HasFault bytes kind at → answer ≡ fault_answer bytes kind at
+  IsFaulty : length bytes ≤ MOST_BYTES → (kind : TextKind) (at : ℕ) → FirstFault bytes kind at → answer ≡ fault_answer bytes kind at
       → AnswersText spelt bytes answer
-  -- it has derivations: they aren't read yet
-  IsDerived : length bytes ≤ MOST_BYTES → HasDerivations bytes → answer ≡ not_built → AnswersText spelt bytes answer
   -- it spells a document
   IsDocument : length bytes ≤ MOST_BYTES → (d : Document_data) → SpellsDocument bytes d → AnswersDocument spelt d answer
       → AnswersText spelt bytes answer

@@ -1,22 +1,24 @@
 //! The answer of the program to its words and its input.
 
-ghost use Rattle.std.specs.Prelude.{◌≡◌, length, true, IfOk};
+ghost use Rattle.std.specs.Prelude.{◌≡◌, ◌≤◌, length, true, IfOk, OnOk};
 ghost use Rattle.rs_documents.specs.Canonical.{CanBeShown};
 ghost use Rattle.rs_documents.specs.Reading.{IsReady};
+ghost use Rattle.rs_text.specs.declared.faults.TextKind.TheVariants as kind;
 ghost use Rattle.rs_tool.specs.Answers.{AnswersDocument, AnswersText};
+ghost use Rattle.rs_tool.specs.RefusalTexts as spec;
 ghost use Rattle.rs_tool.specs.Tasks.{reads_input};
 ghost use Rattle.rs_words.specs.Meaning.{IsInRange};
 
 use crate::checks::check;
-use crate::refusal_texts::{fault_answer, not_built, too_large};
+use crate::refusal_texts::{fault_answer, too_large};
 use crate::runs::{RunOptions, run};
 use crate::shown::show;
 use crate::statuses::Verdict;
 use crate::tables::project_all;
 use crate::texts::Piece::Words;
-use rs_documents::{Content, Document, read_document};
+use rs_documents::{Document, read_document};
 use rs_model::{MOST_BYTES, NoMemory};
-use rs_text::Text;
+use rs_text::{Text, TextFault, TextKind};
 use rs_words::Task;
 use std::alloc::Global;
 use std::marker::Model;
@@ -34,6 +36,18 @@ impl Model for Answer {
     ghost Value = { Answer_data };
 
     ghost view = { λ a. record { text = a.text; verdict = a.verdict } };
+}
+
+/// The answer to a text at fault; nothing where memory was refused.
+fn answer_to_fault(alloc: Global, bytes: &[u8], fault: TextFault) -> Result<Answer, NoMemory>
+    requires { fault.at ≤ length bytes.now }
+    ensures answer { IfOk result (λ a. a ≡ spec.fault_answer bytes.now fault.kind fault.at) }
+    ensures memory { OnOk result (fault.kind ≡ kind.NoMemory → ⊥) }
+{
+    match fault.kind {
+        TextKind::NoMemory => Err(NoMemory),
+        _ => fault_answer(alloc, bytes, fault),
+    }
 }
 
 /// The answer of the task, which reads the input, to a document.
@@ -78,9 +92,8 @@ pub fn answer_to_text(alloc: Global, task: Task, bytes: &[u8]) -> Result<Answer,
     if bytes.len() > MOST_BYTES {
         return too_large(alloc, &[Words(b"text")]);
     }
-    match read_document(alloc, bytes)? {
-        Content::Document(document) => answer_to_document(alloc, task, &document),
-        Content::Derivations => not_built(alloc),
-        Content::Fault(fault) => fault_answer(alloc, bytes, fault),
+    match read_document(alloc, bytes) {
+        Ok(document) => answer_to_document(alloc, task, &document),
+        Err(fault) => answer_to_fault(alloc, bytes, fault),
     }
 }

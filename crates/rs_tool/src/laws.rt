@@ -29,12 +29,12 @@ pub fn none_have_two_answers()
 
 /// There is no doubt which machines the headline means: whatever it says of the same bytes, it says of the same machines.
 pub fn headline_means_one_session()
-    ensures { (bytes : List ℕ) (one other : SpellsSafeMachines bytes) → machines_of one.document.machines one.projections ≡ machines_of other.document.machines other.projections }
+    ensures { (bytes : List ℕ) (one other : SpellsSafeMachines bytes) → machines_of one.machines one.projections ≡ machines_of other.machines other.projections }
 {}
 
 /// The headline speaks of one machine a role.
 pub fn headline_has_a_machine_a_role()
-    ensures { (bytes : List ℕ) (h : SpellsSafeMachines bytes) → length (machines_of h.document.machines h.projections) ≡ h.document.protocol.roles }
+    ensures { (bytes : List ℕ) (h : SpellsSafeMachines bytes) → length (machines_of h.machines h.projections) ≡ h.protocol.roles }
 {}
 
 /// A run whose queues hold as many messages as the room of the session says is never full.

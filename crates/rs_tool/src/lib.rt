@@ -24,7 +24,7 @@ pub use derivations::{
     DerivedSession, Underivable, accept_derived, derivations_of, derived_session,
 };
 pub use refusals::Refusal;
-pub use rs_documents::{Content, Document, print_document, read_document};
+pub use rs_documents::{Document, print_document, read_document};
 pub use rs_words::DEFAULT_BOUND;
 pub use runs::{RunOptions, run};
 pub use sessions::{Session, first_refusal, machines_of, projections_of, session_of};

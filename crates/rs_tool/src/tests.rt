@@ -209,24 +209,42 @@ fn texts_have_their_answers(rt: HostRuntime) -> Result<(), Fail> {
             Status::Fine,
             "accepted\nK: nodes 10 pending 1 rank 0\nS: nodes 6 pending 1 rank 0\nT: nodes 5 pending 1 rank 0\nroom 3\n",
         ),
-        // derivations
+        // derivations, which `check` and `project` read and don't use
         (
             check,
             "roles A, B\nprotocol end\nderivation $",
-            Status::NotBuilt,
-            "not built\n",
+            Status::Malformed,
+            "malformed 3:12 bad byte\n",
+        ),
+        (
+            check,
+            "roles A, B\nprotocol end\nderivation A bound 1 {0: 7 [] 0 rank 0 next []}",
+            Status::Fine,
+            "accepted\nA: nodes 1 pending 0 rank 0\nB: nodes 1 pending 0 rank 0\nroom 1\n",
         ),
         (
             show,
-            "roles A, B\nprotocol end\nderivation $",
-            Status::NotBuilt,
-            "not built\n",
+            "roles A, B\nprotocol end\nderivation B bound 2 {0:7[A?x(unit)]0 rank 01 next[4]}",
+            Status::Fine,
+            "roles A, B\nprotocol end\nderivation B bound 2 {\n0: 7 [A?x()] 0 rank 1 next [4]\n}\n",
+        ),
+        (
+            show,
+            "roles A, B\nprotocol end\nderivation B bound 2 {0: 0 [] 0 rank 0 next []}\nmachine A: end",
+            Status::Malformed,
+            "malformed 4:1 expected derivation or the end\n",
         ),
         (
             project,
-            "roles A, B\nprotocol end\nderivation $",
-            Status::NotBuilt,
-            "not built\n",
+            "roles A, B\nprotocol end\nderivation A bound 1 {0: 7 [] 0 rank 0 next []}\nderivation A bound 1 {0: 7 [] 0 rank 0 next []}",
+            Status::Malformed,
+            "malformed 4:12 name twice\n",
+        ),
+        (
+            project,
+            "roles A, B\nprotocol end\nderivation A bound 1 {0: 7 [] 0 rank 0 next []}",
+            Status::Fine,
+            "table A {\n0 end\n}\ntable B {\n0 end\n}\n",
         ),
         // faults of a text
         (

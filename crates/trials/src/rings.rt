@@ -7,8 +7,8 @@ use crate::session::{Session, session_of};
 use rs_core::Event;
 use rs_model::{Role, Value};
 use rs_room::{Bounded, BoundedFault};
-use rs_safety::Accepted;
-use rs_tool::accept_derived;
+use rs_safety::{Accepted, accept};
+use rs_tool::read_document;
 use std::alloc::Global;
 
 /// The room, who can go on after both roles have sent once by their first arms, and why the first one can't send again.
@@ -62,20 +62,24 @@ fn told_of(alloc: Global, accepted: &Accepted, capacity: u16) -> Option<RingsTol
 pub fn rings_of(alloc: Global, text: &[u8], capacity: u16) -> Option<RingsTold>
     requires { (1 ≤ capacity) × (capacity ≤ 1024) }
 {
-    let Some(session) = session_of(alloc, text) else {
+    let Ok(document) = read_document(alloc, text) else {
+        return None;
+    };
+    let Some(session) = session_of(alloc, &document) else {
         return None;
     };
     let Session {
-        document,
         projections,
         machines,
         derivations,
     } = session;
-    let accepted = accept_derived(
+    match accept(
         &document.protocol,
         projections.as_slice(),
         machines,
         derivations.as_slice(),
-    );
-    told_of(alloc, &accepted, capacity)
+    ) {
+        Ok(accepted) => told_of(alloc, &accepted, capacity),
+        Err(_refused) => None,
+    }
 }

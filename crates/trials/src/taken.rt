@@ -7,8 +7,8 @@ use crate::session::{Session, session_of};
 use rs_alive::{AliveFault, taken_within};
 use rs_core::{Core, Event};
 use rs_model::{Machine, NoMemory, Role};
-use rs_safety::Accepted;
-use rs_tool::accept_derived;
+use rs_safety::{Accepted, accept};
+use rs_tool::read_document;
 use std::alloc::Global;
 
 fn copies_of(alloc: Global, machines: &[Machine]) -> Result<Vec<Machine>, NoMemory>
@@ -199,22 +199,26 @@ fn each_taken(alloc: Global, accepted: &Accepted, past: &[Event]) -> bool
 pub fn are_taken(alloc: Global, text: &[u8], past: &[Event]) -> bool
     requires { length past.now < 2 ^ 32 }
 {
-    let Some(session) = session_of(alloc, text) else {
+    let Ok(document) = read_document(alloc, text) else {
+        return false;
+    };
+    let Some(session) = session_of(alloc, &document) else {
         return false;
     };
     let Session {
-        document,
         projections,
         machines,
         derivations,
     } = session;
-    let accepted = accept_derived(
+    match accept(
         &document.protocol,
         projections.as_slice(),
         machines,
         derivations.as_slice(),
-    );
-    each_taken(alloc, &accepted, past)
+    ) {
+        Ok(accepted) => each_taken(alloc, &accepted, past),
+        Err(_refused) => false,
+    }
 }
 
 fn answer_of(
@@ -248,20 +252,24 @@ pub fn taken_of(
 ) -> Option<Result<Vec<Event>, AliveFault>>
     requires { length past.now < 2 ^ 32 }
 {
-    let Some(session) = session_of(alloc, text) else {
+    let Ok(document) = read_document(alloc, text) else {
+        return None;
+    };
+    let Some(session) = session_of(alloc, &document) else {
         return None;
     };
     let Session {
-        document,
         projections,
         machines,
         derivations,
     } = session;
-    let accepted = accept_derived(
+    match accept(
         &document.protocol,
         projections.as_slice(),
         machines,
         derivations.as_slice(),
-    );
-    answer_of(alloc, &accepted, past, sender, receiver, place)
+    ) {
+        Ok(accepted) => answer_of(alloc, &accepted, past, sender, receiver, place),
+        Err(_refused) => None,
+    }
 }

@@ -11,7 +11,7 @@ use rs_exec::run_inline;
 use rs_model::NoMemory;
 use rs_safety::{Accepted, accept};
 use rs_text::Text;
-use rs_tool::{Content, read_document};
+use rs_tool::read_document;
 use std::alloc::Global;
 use std::test::Fail;
 
@@ -48,7 +48,7 @@ fn printed(alloc: Global, kind: Demo, count: u8, bytes: &[u8]) -> Option<Text>
     let Ok(text) = demo_document(alloc, kind, count) else {
         return None;
     };
-    let Ok(Content::Document(document)) = read_document(alloc, text.as_slice()) else {
+    let Ok(document) = read_document(alloc, text.as_slice()) else {
         return None;
     };
     let Some(session) = session_of(alloc, &document) else {

@@ -10,7 +10,7 @@ use rs_core::{Outcome, Run, SeededActor, run_plain};
 use rs_exec::{ExecFault, run_inline};
 use rs_model::{Machine, NoMemory};
 use rs_safety::{Accepted, accept};
-use rs_tool::{Content, read_document};
+use rs_tool::read_document;
 use std::alloc::Global;
 
 /// How many machines are safe, the room that their rings need, and how the session ran.
@@ -84,7 +84,7 @@ pub fn run_of(alloc: Global, text: &[u8], capacity: Option<u16>, limit: u32) -> 
     requires { IfSome capacity (λ c. (1 ≤ c) × (c ≤ 1024)) }
     ensures { IfSome result (λ t. (document : Document_data) × SpellsDocument text.now document × (t.machines ≡ document.protocol.roles)) }
 {
-    let Ok(Content::Document(document)) = read_document(alloc, text) else {
+    let Ok(document) = read_document(alloc, text) else {
         return None;
     };
     let Some(session) = session_of(alloc, &document) else {

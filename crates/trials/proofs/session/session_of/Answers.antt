@@ -1,12 +1,43 @@
-use Rattle.std.proofs.Common.{rules}
-use Rattle.rs_documents.proofs.CanShow.{role_names}
-use Rattle.rs_tool.proofs.Derivings.{session_has}
+use Rattle.std.proofs.Common.{◌≡◌, List, ◌∙◌, ap, sym, subst, subst₂}
+use Rattle.rs_model.specs.Data.{Machine_data, Protocol_data}
+use Rattle.rs_project.specs.Data.{Projection_data}
+use Rattle.rs_project.specs.Numbered.{AreNumberedProjections}
+use Rattle.rs_safety.specs.Sessions.{AreOneEach, IsSession}
+use Rattle.rs_documents.specs.Data.{Document_data}
+use Rattle.rs_tool.specs.Machines.{machines_of}
+use Rattle.rs_tool.specs.Derivations.{AreCanonical}
+use Rattle.rs_tool.proofs.Derivings.{one_each, session_by}
+use Rattle.rs_tool.proofs.EachRole.{chosen_small_by}
 use Rattle.trials.proofs.session.session_of.Goals as goal
 
-pub derived_session-requires-clause-roles : goal.derived_session-requires-clause-roles
-derived_session-requires-clause-roles c = let r = role_names c.args.text.now c.in-Ok-Document.document (rw c.in-Ok-Document.field-0-is at c.in-Ok-Document.ensures.found) in r.0
+pub first_refusal-requires : goal.first_refusal-requires
+first_refusal-requires c =
+    chosen_small_by c.args.document.now c.as_slice-own.result.now c.in-Ok.projections.items c.as_slice-2.result.now (c.as_slice-own.ensures.value ∙ ap (λ (d : Document_data). d.machines) c.document.view_is)
+    c.requires.ready (subst (λ (d : Document_data). AreNumberedProjections d.protocol c.in-Ok.projections.items) c.document.view_is c.in-Ok.ensures.ok) (c.as_slice-2.ensures.value ∙ rw c.as_slice.ensures.value at c.in-Ok-machines_of.ensures)
+
+pub derivations_of-requires : goal.derivations_of-requires
+derivations_of-requires c =
+    let session = session_by _ c.args.document.now c.in-Ok.projections.items c.in-Ok-machines_of.machines.items c.document.view_is c.requires.ready c.requires.roles c.in_default.ensures.none c.in-Ok.ensures.ok
+    (rw c.as_slice-own.ensures.value at (rw c.as_slice.ensures.value at c.in-Ok-machines_of.ensures))
+    (rw (ap (λ (p : Protocol_data). p.roles) c.protocol.view_is) at (rw c.as_slice-2.ensures.value at c.in_default-first_refusal.ensures.none)) in
+    record { session = (_, subst₂ (λ (x : List Projection_data) (y : List Machine_data). IsSession c.document.inside.protocol x y) (sym c.as_slice-3.ensures.value) (sym c.as_slice-4.ensures.value) session) }
 
 pub returns-clause-session : goal.returns-clause-session
 returns-clause-session c =
-    let r = role_names c.args.text.now c.in-Ok-Document.document (rw c.in-Ok-Document.field-0-is at c.in-Ok-Document.ensures.found) in
-    session_has c.in-Ok-Document.document c.in-Ok.session.projections.items c.in-Ok.session.machines.items (search rules) r.0 c.in-Ok.ensures.machines
+    let session = session_by _ c.args.document.now c.in-Ok.projections.items c.in-Ok-machines_of.machines.items c.document.view_is c.requires.ready c.requires.roles c.in_default.ensures.none c.in-Ok.ensures.ok
+    (rw c.as_slice-own.ensures.value at (rw c.as_slice.ensures.value at c.in-Ok-machines_of.ensures))
+    (rw (ap (λ (p : Protocol_data). p.roles) c.protocol.view_is) at (rw c.as_slice-2.ensures.value at c.in_default-first_refusal.ensures.none)) in
+    subst (λ (d : Document_data). IsSession d.protocol c.in-Ok.projections.items c.in-Ok-machines_of.machines.items) c.document.view_is session
+
+pub returns-clause-derivations : goal.returns-clause-derivations
+returns-clause-derivations c =
+    let session = session_by _ c.args.document.now c.in-Ok.projections.items c.in-Ok-machines_of.machines.items c.document.view_is c.requires.ready c.requires.roles c.in_default.ensures.none c.in-Ok.ensures.ok
+    (rw c.as_slice-own.ensures.value at (rw c.as_slice.ensures.value at c.in-Ok-machines_of.ensures))
+    (rw (ap (λ (p : Protocol_data). p.roles) c.protocol.view_is) at (rw c.as_slice-2.ensures.value at c.in_default-first_refusal.ensures.none)) in
+    subst (λ (d : Document_data). AreOneEach d.protocol.roles c.in-Ok-derivations_of.derivations.items) c.document.view_is
+    (one_each c.document.inside.protocol c.in-Ok.projections.items c.in-Ok-machines_of.machines.items c.in-Ok-derivations_of.derivations.items session (subst₂ (λ (x : List Machine_data) (y : List Projection_data). AreCanonical x y c.in-Ok-derivations_of.derivations.items) c.as_slice-4.ensures.value c.as_slice-3.ensures.value c.in-Ok-derivations_of.ensures.ok))
+
+pub returns-clause-machines : goal.returns-clause-machines
+returns-clause-machines c =
+    subst (λ (d : Document_data). c.in-Ok-machines_of.machines.items ≡ machines_of d.machines c.in-Ok.projections.items) c.document.view_is
+    (rw c.as_slice-own.ensures.value at (rw c.as_slice.ensures.value at c.in-Ok-machines_of.ensures))

@@ -1,0 +1,134 @@
+-- What is known of machines and of derivations, as parts of a text.
+use Rattle.std.proofs.Common.{◌≡◌, ◌⊎◌, ℕ, zero, suc, ◌+◌, ◌<◌, ◌≤◌, List, [], ◌∷◌, ◌++◌, length, Bool, true, false, Option, Some, None, refl, sym, ap, subst, ◌∙◌, inl, inr, arith}
+use Rattle.std.specs.Prelude.{codes, ◌&&◌}
+use Rattle.rs_documents.specs.Parts.{StandsAt, machine_parts, derivation_parts}
+use Rattle.rs_documents.proofs.FewLabels.{longer, machine_few}
+use Rattle.rs_documents.proofs.Parts.{IsKind, RoleStands, among_place, first_sign, second_sign}
+use Rattle.rs_model.specs.Data.{Names_data, Protocol_data, Machine_data}
+use Rattle.rs_model.specs.declared.limits.TheConstants.{MOST_LABELS}
+use Rattle.rs_derivations.specs.Derivations as derivations
+use Rattle.rs_derivations.specs.Spells.{SpellsDerivation}
+use Rattle.rs_derivations.specs.Trees.{DerivationTree}
+use Rattle.rs_derivations.proofs.Spelt as derivation_laws
+use Rattle.rs_derive.specs.Data.{Derivation_data}
+use Rattle.rs_global.specs.Spells.{SpellsProtocol}
+use Rattle.rs_machines.specs.Machines.{labels_of}
+use Rattle.rs_machines.specs.Spells.{SpellsMachine}
+use Rattle.rs_machines.specs.Trees.{body_signs}
+use Rattle.rs_machines.proofs.OneFault as machine_faults
+use Rattle.rs_machines.proofs.SpeltLaws as machine_laws
+use Rattle.rs_text.proofs.Nexts.{within, next_is_next}
+use Rattle.rs_text.specs.Lexemes.{Lexeme, Lexed, next_lexeme, is_last, signs_of}
+use Rattle.rs_text.specs.Names.{is_among, number_or, place_of}
+use Rattle.rs_text.specs.Signs.{Sign, plain, colon}
+
+until_within : (bytes : List ℕ) (at : ℕ) → at ≤ length bytes → (next_lexeme bytes at).until ≤ length bytes
+until_within bytes at h = let w = within bytes at (next_lexeme bytes at) h (next_is_next bytes at) in w.inside
+
+from_within : (bytes : List ℕ) (at : ℕ) → at ≤ length bytes → (next_lexeme bytes at).from ≤ length bytes
+from_within bytes at h =
+    let w = within bytes at (next_lexeme bytes at) h (next_is_next bytes at) in
+    let order = w.order in
+    let inside = w.inside in
+    omega (arith, order, inside)
+
+not_last : (x : Lexeme) (more : List Lexeme) (y : Lexeme) (b : Bool) → is_last x.sign ≡ b → (is_last x.sign ≡ true → (y ∷ more) ≡ []) → b ≡ false
+not_last x more y true e h = let f : (y ∷ more) ≡ [] = h e in cc
+not_last x more y false e h = refl
+
+lexed_within : (bytes : List ℕ) (ls : List Lexeme) (at : ℕ) (b : Lexeme) (others : List Lexeme) → at ≤ length bytes → Lexed bytes at (ls ++ b ∷ others) → b.from ≤ length bytes
+lexed_within bytes [] at b others le h = subst (λ (l : Lexeme). l.from ≤ length bytes) (sym h.0) (from_within bytes at le)
+lexed_within bytes (x ∷ []) at b others le h =
+    let last : is_last x.sign ≡ false = not_last x others b (is_last x.sign) refl h.1 in
+    lexed_within bytes [] x.until b others (subst (λ (l : Lexeme). l.until ≤ length bytes) (sym h.0) (until_within bytes at le)) (h.2 last)
+lexed_within bytes (x ∷ z ∷ ls) at b others le h =
+    let last : is_last x.sign ≡ false = not_last x (ls ++ b ∷ others) z (is_last x.sign) refl h.1 in
+    lexed_within bytes (z ∷ ls) x.until b others (subst (λ (l : Lexeme). l.until ≤ length bytes) (sym h.0) (until_within bytes at le)) (h.2 last)
+
+pub protocol_within : (bytes : List ℕ) (names : Names_data) (protocol : Protocol_data) (until : ℕ) → SpellsProtocol bytes 0 names protocol until → until ≤ length bytes
+protocol_within bytes names protocol until s = subst (λ (n : ℕ). n ≤ length bytes) (sym s.goes_on) (lexed_within bytes s.lexemes 0 s.behind s.others (omega arith) s.lexed)
+
+-- machines
+machine_within : (bytes : List ℕ) (at : ℕ) (old new : Names_data) (machine : Machine_data) (until : ℕ) → at ≤ length bytes → SpellsMachine bytes at old new machine until → until ≤ length bytes
+machine_within bytes at old new machine until le s = subst (λ (n : ℕ). n ≤ length bytes) (sym s.goes_on) (lexed_within bytes s.lexemes at s.behind s.others le s.lexed)
+
+pub machine_begins : (bytes : List ℕ) (at : ℕ) (old new : Names_data) (machine : Machine_data) (until : ℕ) → SpellsMachine bytes at old new machine until → StandsAt bytes at (plain (codes "machine"))
+machine_begins bytes at old new machine until s = first_sign bytes at s.lexemes (s.behind ∷ s.others) (plain (codes "machine")) (plain s.tree.role ∷ colon ∷ body_signs s.tree.body) s.spelt s.lexed
+
+pub machine_role : (bytes : List ℕ) (at : ℕ) (old new : Names_data) (machine : Machine_data) (until : ℕ) → SpellsMachine bytes at old new machine until → RoleStands bytes at old machine.role
+machine_role bytes at old new machine until s =
+    let p = among_place old.roles s.tree.role 0 s.fits.role in
+    let lt : p.0 < 0 + length old.roles = p.2 in
+    record {
+      name = s.tree.role;
+      place = p.0;
+      word = second_sign bytes at s.lexemes (s.behind ∷ s.others) (plain (codes "machine")) (plain s.tree.role) (colon ∷ body_signs s.tree.body) refl s.spelt s.lexed;
+      known = p.1;
+      few = omega (arith, lt);
+      is = ap (λ (m : Machine_data). m.role.0) s.machine_is ∙ ap number_or p.1;
+    }
+
+machine_roles : (bytes : List ℕ) (at : ℕ) (old new : Names_data) (machine : Machine_data) (until : ℕ) → SpellsMachine bytes at old new machine until → new.roles ≡ old.roles
+machine_roles bytes at old new machine until s = ap (λ (z : Names_data). z.roles) s.names_are
+
+machine_labels : (bytes : List ℕ) (at : ℕ) (old new : Names_data) (machine : Machine_data) (until : ℕ) → SpellsMachine bytes at old new machine until → length old.labels ≤ length new.labels
+machine_labels bytes at old new machine until s = subst (λ (z : Names_data). length old.labels ≤ length z.labels) (sym s.names_are) (longer (labels_of s.tree.body) old.labels)
+
+pub of_machines : IsKind machine_parts
+of_machines = record {
+  begins = machine_begins;
+  role = machine_role;
+  roles = machine_roles;
+  labels = machine_labels;
+  few = machine_few;
+  within = machine_within;
+  one = λ bytes at old new other part another until stop h k. machine_laws.one_spelling old bytes at new other part another until stop h k;
+  one_fault = λ bytes at old j k n i few h g. machine_faults.one_fault old bytes at j k n i h g;
+  not_both = λ bytes at old new part until k offset few h g. machine_laws.spelt_no_fault old bytes at new part until k offset h g;
+  either = λ bytes at old few le. machine_laws.spelt_or_faulty old bytes at le;
+}
+
+first_known : (a b : Bool) → (a && b) ≡ true → a ≡ true
+first_known true b e = refl
+first_known false b e = absurd cc
+
+-- derivations
+derivation_within : (bytes : List ℕ) (at : ℕ) (old new : Names_data) (derivation : Derivation_data) (until : ℕ) → at ≤ length bytes → SpellsDerivation bytes at old new derivation until → until ≤ length bytes
+derivation_within bytes at old new derivation until le s = subst (λ (n : ℕ). n ≤ length bytes) (sym s.goes_on) (lexed_within bytes s.lexemes at s.behind s.others le s.lexed)
+
+derivation_begins : (bytes : List ℕ) (at : ℕ) (old new : Names_data) (derivation : Derivation_data) (until : ℕ) → SpellsDerivation bytes at old new derivation until → StandsAt bytes at (plain (codes "derivation"))
+derivation_begins bytes at old new derivation until s = first_sign bytes at s.lexemes (s.behind ∷ s.others) (plain (codes "derivation")) _ s.spelt s.lexed
+
+derivation_role : (bytes : List ℕ) (at : ℕ) (old new : Names_data) (derivation : Derivation_data) (until : ℕ) → SpellsDerivation bytes at old new derivation until → RoleStands bytes at old derivation.role
+derivation_role bytes at old new derivation until s =
+    let known : is_among s.tree.role old.roles ≡ true = first_known _ _ s.fits.roles in
+    let p = among_place old.roles s.tree.role 0 known in
+    let lt : p.0 < 0 + length old.roles = p.2 in
+    record {
+      name = s.tree.role;
+      place = p.0;
+      word = second_sign bytes at s.lexemes (s.behind ∷ s.others) (plain (codes "derivation")) (plain s.tree.role) _ refl s.spelt s.lexed;
+      known = p.1;
+      few = omega (arith, lt);
+      is = ap (λ (d : Derivation_data). d.role.0) s.derivation_is ∙ ap (λ (z : Names_data). number_or (place_of s.tree.role z.roles)) s.names_are ∙ ap number_or p.1;
+    }
+
+derivation_roles : (bytes : List ℕ) (at : ℕ) (old new : Names_data) (derivation : Derivation_data) (until : ℕ) → SpellsDerivation bytes at old new derivation until → new.roles ≡ old.roles
+derivation_roles bytes at old new derivation until s = ap (λ (z : Names_data). z.roles) s.names_are
+
+derivation_labels : (bytes : List ℕ) (at : ℕ) (old new : Names_data) (derivation : Derivation_data) (until : ℕ) → SpellsDerivation bytes at old new derivation until → length old.labels ≤ length new.labels
+derivation_labels bytes at old new derivation until s = subst (λ (z : Names_data). length old.labels ≤ length z.labels) (sym s.names_are) (longer (derivations.labels_of_nodes s.tree.nodes) old.labels)
+
+pub of_derivations : IsKind derivation_parts
+of_derivations = record {
+  begins = derivation_begins;
+  role = derivation_role;
+  roles = derivation_roles;
+  labels = derivation_labels;
+  few = λ bytes at old new derivation until few s. subst (λ (z : Names_data). length z.labels ≤ MOST_LABELS) (sym s.names_are) s.fits.labels;
+  within = derivation_within;
+  one = λ bytes at old new other part another until stop h k. derivation_laws.one_spelling old new other bytes at until stop part another h k;
+  one_fault = λ bytes at old j k n i few h g. derivation_laws.one_fault old few bytes at j k n i h g;
+  not_both = λ bytes at old new part until k offset few h g. derivation_laws.spelt_no_fault old new bytes at until part k offset few h g;
+  either = λ bytes at old few le. derivation_laws.spelt_or_faulty old bytes at few le;
+}
