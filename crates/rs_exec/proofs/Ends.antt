@@ -42,7 +42,7 @@ module _ {A : Type 0} (b : Behaviour A) where
 
   room-or-full : (capacity : Option ℕ) (queue : List Message) → HasRoom capacity queue ⊎ IsFull capacity queue
   room-or-full None queue = inl tt
-  room-or-full (Some capacity) queue = elim (cases_lt (length queue) capacity) [ | inl less ↦ inl less | inr more ↦ inr more ]
+  room-or-full (Some capacity) queue = elim (cases_lt (length queue) capacity) [ inl less ↦ inl less | inr more ↦ inr more ]
 
   below-limit : (ms : List Machine_data) (limit p : ℕ) (l : Moment A) → length (l.history p) < limit → IsAtLimit ms limit p l → ⊥
   below-limit ms limit p l less at = let h = at.acts in absurd (omega arith)

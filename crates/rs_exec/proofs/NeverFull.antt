@@ -1,16 +1,15 @@
 -- A plain run with queues of at least the room is never stuck.
-use Rattle.std.proofs.Common.{◌≡◌, ◌≢◌, ◌⊎◌, inl, inr, ℕ, zero, suc, ◌+◌, ◌<◌, ◌≤◌, Bool, true, false, ◌||◌, List, [], ◌∷◌, Option, Some, length, slice_get, slice_index_or, refl, sym, ap, ◌∙◌, subst, arith}
+use Rattle.std.proofs.Common.{◌≡◌, ◌≢◌, inl, inr, ℕ, zero, suc, ◌+◌, ◌<◌, ◌≤◌, Bool, true, false, ◌||◌, List, [], Some, length, slice_index_or, refl, sym, ap, ◌∙◌, subst, arith}
 use Rattle.std.proofs.lemmas.Bool.Decides.{eqb_tells}
 use Rattle.std.proofs.lemmas.Option.{get_or_from_slice_get}
 use Rattle.rs_model.specs.Data.{Machine_data}
-use Rattle.rs_model.specs.declared.graph.Arm.{Arm}
 use Rattle.rs_model.specs.declared.graph.Role.{Role}
 use Rattle.rs_model.specs.declared.machines.State.TheVariants.{Done, Puts, Takes}
-use Rattle.rs_core.specs.Actors.{Behaviour, ChoosesWell}
+use Rattle.rs_core.specs.Actors.{Behaviour}
 use Rattle.rs_core.specs.Configurations.{Configuration, IsReachable, state_at}
 use Rattle.rs_core.specs.Plain.{Moment, Rests, HasEnded, Waits, FindsFull, LimitedTurn, Turns, Ending, Ended, Stopped, Stuck, PlainFrom, AllDone, Stops, NoneMoves, GoesOn, IsPlain}
 use Rattle.rs_core.specs.Runs.{IsFullAt, IsGiven}
-use Rattle.rs_core.proofs.Ends.{Given, get-there, reached, sound-round}
+use Rattle.rs_core.proofs.Ends.{get-there, reached, sound-round}
 use Rattle.rs_core.proofs.Rounds.{Sound, sound-start}
 use Rattle.rs_safety.specs.Accepting.{Accepted_data, IsAcceptedSession}
 use Rattle.rs_safety.specs.Room.{room_of}
