@@ -25,6 +25,7 @@ use Rattle.rs_tool.specs.declared.statuses.Status.TheVariants as status
 use Rattle.rs_tool.specs.declared.statuses.Verdict.{Verdict}
 use Rattle.rs_tool.specs.declared.statuses.Verdict.TheVariants as verdict
 use Rattle.rs_words.specs.declared.tasks.Task.{Task}
+use Rattle.rs_words.specs.declared.tasks.Task.TheVariants as task
 use Rattle.rs_words.specs.Meaning.{IsMeaning, SpellsTask}
 use Rattle.rs_pipeline.specs.Pipelines.{pipeline_of, pipeline_summary, pipeline_text}
 use Rattle.rs_words.proofs.Exact.{words_spell_one_task}
