@@ -1,5 +1,5 @@
 -- An accepted text spells safe machines.
-use Rattle.std.proofs.Common.{◌≡◌, ℕ, List, [], true, false, Option, Some, None, sym, subst}
+use Rattle.std.proofs.Common.{◌≡◌, ℕ, List, [], true, false, Option, Some, None, sym, ◌∙◌, subst}
 use Rattle.std.specs.Prelude.{IfSome}
 use Rattle.rs_core.specs.Safety.{IsSafe}
 use Rattle.rs_project.specs.declared.projecting.ProjFault.{ProjFault}
@@ -9,6 +9,9 @@ use Rattle.rs_search.specs.declared.faults.SearchFault.{SearchFault}
 use Rattle.rs_search.specs.declared.faults.SearchFault.TheVariants as search
 use Rattle.rs_tool.proofs.Derivings.{canonical_safe, session_of}
 use Rattle.rs_documents.proofs.SpeltSessions.{spelt_session}
+use Rattle.rs_tool.specs.Verifying as verifying
+use Rattle.rs_tool.specs.Verifying.{Verifies}
+use Rattle.rs_tool.proofs.Verified.{verified_safe}
 use Rattle.rs_documents.proofs.Spelt.{one_place_each, spelt_machines}
 use Rattle.rs_text.specs.declared.faults.TextKind.{TextKind}
 use Rattle.rs_text.specs.declared.faults.TextKind.TheVariants as kind
@@ -119,6 +122,24 @@ run-is-safe : (options : RunOptions) (bytes : List ℕ) (d : Document_data) (a :
 run-is-safe options bytes d a doc (runs.IsRefused r h is) run = absurd (no-run a _ is (refusal-is-no-run d.names r) run)
 run-is-safe options bytes d a doc (runs.IsRun projections machines derivations h found tells) run = derived-is-safe options.bound bytes d projections machines derivations doc h found
 
+verify-is-safe : (bytes : List ℕ) (d : Document_data) (a : Answer_data) → SpellsDocument bytes d → Verifies d a → IsOfRun (status_of a.verdict) → SpellsSafeMachines bytes
+verify-is-safe bytes d a doc (verifying.IsRefused r h is) run = absurd (no-run a _ is (refusal-is-no-run d.names r) run)
+verify-is-safe bytes d a doc (verifying.IsBlamed ps ms h b e is) run = absurd (no-run a _ is (λ e. e) run)
+verify-is-safe bytes d a doc (verifying.IsVerified ps ms h e is) run =
+    let spelt = spelt_session bytes d doc in
+    let spells = spelt_machines bytes d doc in
+    let session = session_of d ps ms spelt h.projections_are.well_formed h.projections_are.projected h.machines_are h.well_formed in
+    record {
+      protocol = d.protocol;
+      machines = d.machines;
+      projections = ps;
+      spells = spells;
+      well_formed = session.well_formed;
+      projected = h.projections_are.projected;
+      one_each = one_place_each bytes d.protocol d.machines spells;
+      safe = subst IsSafe h.machines_are (verified_safe d.protocol d.derivations ms ps session (spelt.a_derivation_each ∙ spelt.roles) e);
+    }
+
 -- what a task answers to a document tells that its machines are safe
 abbrev TellsSafe : Task → List ℕ → Answer_data → Type 0
 TellsSafe t bytes a = (d : Document_data) → SpellsDocument bytes d → AnswersDocument t d a → IsOfRun (status_of a.verdict) → SpellsSafeMachines bytes
@@ -136,6 +157,11 @@ checks-safely : (bound : ℕ) (bytes : List ℕ) (a : Answer_data) → AnswersTa
 checks-safely bound bytes a (IsNotBuilt not is) run = absurd (no-run a _ is (λ e. e) run)
 checks-safely bound bytes a (ReadsInput reads h) run = check-is-safe bound bytes a h run
 checks-safely bound bytes a (MakesPipeline number same h) run = absurd cc
+
+verifies-safely : (bytes : List ℕ) (a : Answer_data) → AnswersTask task.Verify bytes a → IsOfRun (status_of a.verdict) → SpellsSafeMachines bytes
+verifies-safely bytes a (IsNotBuilt not is) run = absurd (no-run a _ is (λ e. e) run)
+verifies-safely bytes a (ReadsInput reads h) run = text-is-safe task.Verify bytes a (λ d doc k is. verify-is-safe bytes d a doc k is) h run
+verifies-safely bytes a (MakesPipeline number same h) run = absurd cc
 
 runs-safely : (options : RunOptions) (bytes : List ℕ) (a : Answer_data) → AnswersTask (task.Run options.bound options.ring 1 options.limit options.seed) bytes a → IsOfRun (status_of a.verdict) → SpellsSafeMachines bytes
 runs-safely options bytes a (IsNotBuilt not is) run = absurd (no-run a _ is (λ e. e) run)
@@ -169,6 +195,12 @@ fine-is-safe words None old new s bound check told = tt
 fine-is-safe words (Some bytes) old new s bound check told = λ fine.
     let is = told-is-run words (task.Check bound false) bytes old new s check told.told (fine-is-run s fine) in
     checks-safely bound bytes is.0 is.1 is.2
+
+pub verified-is-safe : (words : List (List ℕ)) (o old new : Option (List ℕ)) (s : Status) → SpellsTask words task.Verify → ForInput words o (λ bytes. Tells words bytes old new s) → IfSome o (λ bytes. s ≡ status.Fine → SpellsSafeMachines bytes)
+verified-is-safe words None old new s spells told = tt
+verified-is-safe words (Some bytes) old new s spells told = λ fine.
+    let is = told-is-run words task.Verify bytes old new s spells told.told (fine-is-run s fine) in
+    verifies-safely bytes is.0 is.1 is.2
 
 pub runs-are-safe : (words : List (List ℕ)) (o old new : Option (List ℕ)) (s : Status) (options : RunOptions) → SpellsRun words options → ForInput words o (λ bytes. Tells words bytes old new s) → IfSome o (λ bytes. IsOfRun s → SpellsSafeMachines bytes)
 runs-are-safe words None old new s options spells told = tt

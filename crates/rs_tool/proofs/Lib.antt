@@ -8,3 +8,4 @@ pub mod EnoughRoom
 pub mod Complete
 pub mod SomeAnswer
 pub mod OneSession
+pub mod Verified

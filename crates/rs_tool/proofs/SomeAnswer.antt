@@ -59,6 +59,9 @@ use Rattle.rs_documents.proofs.CanShow.{role_names}
 use Rattle.rs_tool.proofs.EachRole.{next_projection, no_projections}
 use Rattle.rs_machines.proofs.Existence as of_machines
 use Rattle.rs_documents.proofs.OneDocument.{spelt_or_faulty}
+use Rattle.rs_tool.specs.Verifying as verifying
+use Rattle.rs_tool.specs.Verifying.{first_blame}
+use Rattle.rs_tool.proofs.Verified.{some_verifying}
 
 record Some_for (t : Task) (d : Document_data) : Type 0 where
   answer : Answer_data
@@ -135,6 +138,14 @@ checked : (bound : ℕ) (d : Document_data) → Prepared bound d → Some_for (t
 checked bound d (NotSo why h) = record { answer = refusal_answer d.names why; answers = checks.IsRefused why h refl }
 checked bound d (Derived projections machines derivations h found) = record { answer = report d.names.roles derivations; answers = checks.IsAccepted projections machines derivations h found refl }
 
+verified_by : (d : Document_data) (ps : List Projection_data) (ms : List Machine_data) → HasMachines d ps ms → Some_for task.Verify d
+verified_by d ps ms h = let a = some_verifying d ps ms h (first_blame 0 d.derivations ms ps) refl in record { answer = a.0; answers = a.1 }
+
+verified : (d : Document_data) → Prepared 1 d → Some_for task.Verify d
+verified d (NotSo why (IsWithoutSession r h)) = record { answer = refusal_answer d.names r; answers = verifying.IsRefused r h refl }
+verified d (NotSo why (HasNoDerivation ps ms h role fault u)) = verified_by d ps ms h
+verified d (Derived ps ms ds h found) = verified_by d ps ms h
+
 run_answer : (options : RunOptions) (bytes : List ℕ) (d : Document_data) → SpellsDocument bytes d → Prepared options.bound d → (a : Answer_data) × Runs options d a
 run_answer options bytes d doc (NotSo why h) = (refusal_answer d.names why, runs.IsRefused why h refl)
 run_answer options bytes d doc (Derived projections machines derivations h found) =
@@ -176,7 +187,7 @@ shown bytes d h =
 document_answer : (t : Task) (bytes : List ℕ) (d : Document_data) → IsInRange t → reads_input t ≡ true → SpellsDocument bytes d → Some_for t d
 document_answer (task.Check bound false) bytes d range reads h = checked bound d (prepared bound bytes d h (first_fault d.protocol) refl)
 document_answer (task.Check bound true) bytes d range reads h = absurd cc
-document_answer task.Verify bytes d range reads h = absurd cc
+document_answer task.Verify bytes d range reads h = verified d (prepared 1 bytes d h (first_fault d.protocol) refl)
 document_answer task.Show bytes d range reads h = shown bytes d h
 document_answer task.Project bytes d range reads h = some_tables d (first_fault d.protocol) refl
 document_answer (task.Run bound ring workers limit seed) bytes d range reads h =
@@ -221,7 +232,7 @@ of_run bound ring workers limit seed bytes range false one = not_yet (task.Run b
 of_task : (t : Task) (bytes : List ℕ) → IsInRange t → Some_task t bytes
 of_task (task.Check bound false) bytes range = of_input (task.Check bound false) bytes range refl
 of_task (task.Check bound true) bytes range = not_yet (task.Check bound true) bytes refl
-of_task task.Verify bytes range = not_yet task.Verify bytes refl
+of_task task.Verify bytes range = of_input task.Verify bytes range refl
 of_task task.Show bytes range = of_input task.Show bytes range refl
 of_task task.Project bytes range = of_input task.Project bytes range refl
 of_task (task.Run bound ring workers limit seed) bytes range = of_run bound ring workers limit seed bytes range (workers == 1) refl

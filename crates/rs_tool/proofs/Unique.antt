@@ -30,7 +30,7 @@ use Rattle.rs_tool.specs.Checks.{Checks, IsRefused, IsAccepted}
 use Rattle.rs_documents.specs.Data.{Document_data}
 use Rattle.rs_tool.specs.Data.{Answer_data}
 use Rattle.rs_documents.specs.Documents.{SpellsDocument}
-use Rattle.rs_tool.specs.RefusalTexts.{fault_answer, wf_answer, proj_answer}
+use Rattle.rs_tool.specs.RefusalTexts.{blame_answer, fault_answer, wf_answer, proj_answer}
 use Rattle.rs_tool.specs.Refusals.{HasNoDerivations, HasNoSession, IsIllFormed, HasNoProjection, HasIllMachine, IsWithoutSession, HasNoDerivation, refusal_answer}
 use Rattle.rs_tool.specs.declared.refusals.Refusal.{Refusal}
 use Rattle.rs_tool.specs.declared.refusals.Refusal.TheVariants as refusal
@@ -44,6 +44,8 @@ use Rattle.rs_documents.proofs.SpeltSessions.{spelt_session}
 use Rattle.rs_tool.specs.Sessions.{HasMachines, HasProjections, IsUnprojectable, MachineRefusal, first_refusal, machines_of}
 use Rattle.rs_documents.specs.Canonical.{AreCanonicalMachines, AreShown, derivations_text}
 use Rattle.rs_tool.specs.Shown.{Shows}
+use Rattle.rs_tool.specs.Verifying as verifying
+use Rattle.rs_tool.specs.Verifying.{RoleBlame, Verifies, first_blame}
 use Rattle.rs_tool.specs.Tables as tables
 use Rattle.rs_tool.specs.Tables.{Projects, tables_text}
 use Rattle.rs_tool.specs.Tasks.{is_built, reads_input}
@@ -265,10 +267,30 @@ one_show bytes d a b doc h k =
     let text : a.text ≡ b.text = h.text.is ∙ ap (λ z. z ++ (h.text.back ++ last)) front ∙ ap (λ z. k.text.front ++ (z ++ last)) back ∙ sym k.text.is in
     ap (λ z. record { text = z; verdict = a.verdict }) text ∙ ap (λ z. record { text = b.text; verdict = z }) (h.fine ∙ sym k.fine)
 
+-- there is one answer ..
+same_blame : (d : Document_data) (ps qs : List Projection_data) (ms ns : List Machine_data) → HasMachines d ps ms → HasMachines d qs ns → first_blame 0 d.derivations ms ps ≡ first_blame 0 d.derivations ns qs
+same_blame d ps qs ms ns h k =
+    let same = same_session d ps qs ms ns h k in
+    ap (λ z. first_blame 0 d.derivations z ps) same.1 ∙ ap (λ z. first_blame 0 d.derivations ns z) same.0
+
+one_verifying : (d : Document_data) (a b : Answer_data) → Verifies d a → Verifies d b → a ≡ b
+one_verifying d a b (verifying.IsRefused r h x) (verifying.IsRefused s k y) = x ∙ ap (refusal_answer d.names) (one_reason d r s h k) ∙ sym y
+one_verifying d a b (verifying.IsRefused r h x) (verifying.IsBlamed ps ms k w e y) = absurd (has_a_session d ps ms r k h)
+one_verifying d a b (verifying.IsRefused r h x) (verifying.IsVerified ps ms k e y) = absurd (has_a_session d ps ms r k h)
+one_verifying d a b (verifying.IsBlamed ps ms h v e x) (verifying.IsRefused s k y) = absurd (has_a_session d ps ms s h k)
+one_verifying d a b (verifying.IsBlamed ps ms h v e x) (verifying.IsBlamed qs ns k w f y) =
+    let same : Some v ≡ Some w = sym e ∙ same_blame d ps qs ms ns h k ∙ f in
+    let is : v ≡ w = same_Some v w same in
+    x ∙ ap (λ (z : RoleBlame). blame_answer d.names z.role z.blame) is ∙ sym y
+one_verifying d a b (verifying.IsBlamed ps ms h v e x) (verifying.IsVerified qs ns k f y) = let clash : Some v ≡ None = sym e ∙ same_blame d ps qs ms ns h k ∙ f in absurd cc
+one_verifying d a b (verifying.IsVerified ps ms h e x) (verifying.IsRefused s k y) = absurd (has_a_session d ps ms s h k)
+one_verifying d a b (verifying.IsVerified ps ms h e x) (verifying.IsBlamed qs ns k w f y) = let clash : None ≡ Some w = sym e ∙ same_blame d ps qs ms ns h k ∙ f in absurd cc
+one_verifying d a b (verifying.IsVerified ps ms h e x) (verifying.IsVerified qs ns k f y) = x ∙ sym y
+
 one_of_document : (t : Task) (bytes : List ℕ) (d : Document_data) (a b : Answer_data) → SpellsDocument bytes d → AnswersDocument t d a → AnswersDocument t d b → a ≡ b
 one_of_document (task.Check bound false) bytes d a b doc h k = one_check bound d a b h k
 one_of_document (task.Check bound true) bytes d a b doc h k = absurd h
-one_of_document task.Verify bytes d a b doc h k = absurd h
+one_of_document task.Verify bytes d a b doc h k = one_verifying d a b h k
 one_of_document (task.Run bound ring workers limit seed) bytes d a b doc h k = one_of_run (record { bound = bound; ring = ring; limit = limit; seed = seed }) bytes d a b doc h k
 one_of_document (task.Demo kind ring workers) bytes d a b doc h k = absurd h
 one_of_document (task.Gen number) bytes d a b doc h k = absurd h

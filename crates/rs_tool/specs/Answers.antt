@@ -12,6 +12,7 @@ use Rattle.rs_tool.specs.Runs.{Runs}
 use Rattle.rs_tool.specs.Shown.{Shows}
 use Rattle.rs_tool.specs.Tables.{Projects}
 use Rattle.rs_tool.specs.Tasks.{is_built, reads_input}
+use Rattle.rs_tool.specs.Verifying.{Verifies}
 use Rattle.rs_words.specs.Meaning.{IsMeaning, SpellsTask}
 use Rattle.rs_words.specs.declared.limits.TheConstants.{DEFAULT_BOUND}
 use Rattle.rs_words.specs.declared.tasks.Task.{Task}
@@ -20,6 +21,7 @@ use Rattle.rs_words.specs.declared.tasks.Task.TheVariants as task
 -- the answer of the task to a document; tasks that read none have no such answer
 abbrev pub AnswersDocument : Task → Document_data → Answer_data → Type 0
 AnswersDocument (task.Check bound false) d answer = Checks bound d answer
+AnswersDocument task.Verify d answer = Verifies d answer
 AnswersDocument task.Show d answer = Shows d answer
 AnswersDocument task.Project d answer = Projects d answer
 AnswersDocument (task.Run bound ring workers limit seed) d answer = Runs (record { bound = bound; ring = ring; limit = limit; seed = seed }) d answer

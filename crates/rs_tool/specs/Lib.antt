@@ -17,4 +17,5 @@ pub mod Statuses
 pub mod Tables
 pub mod Tasks
 pub mod Texts
+pub mod Verifying
 pub mod TranscriptTexts

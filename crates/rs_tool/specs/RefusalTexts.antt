@@ -18,9 +18,13 @@ use Rattle.rs_project.specs.declared.projecting.ProjFault.TheVariants as proj
 use Rattle.rs_search.specs.declared.faults.SearchFault.{SearchFault}
 use Rattle.rs_search.specs.declared.faults.SearchFault.TheVariants as search
 use Rattle.rs_tool.specs.Data.{Answer_data}
+use Rattle.rs_derive.specs.declared.faults.DeriveFault.{DeriveFault}
+use Rattle.rs_derive.specs.declared.faults.DeriveFault.TheVariants as derive
 use Rattle.rs_tool.specs.Texts.{joined}
 use Rattle.rs_tool.specs.declared.statuses.Verdict.{Verdict}
 use Rattle.rs_tool.specs.declared.statuses.Verdict.TheVariants as verdict
+use Rattle.rs_tool.specs.declared.verifying.Blame.{Blame}
+use Rattle.rs_tool.specs.declared.verifying.Blame.TheVariants as blame
 
 -- what is said, behind the words that tell its kind, and the end of the line
 abbrev pub line_of_answer : List ℕ → List ℕ → Verdict → Answer_data
@@ -130,3 +134,28 @@ search_answer names role (search.NotFound cut) = refused (role_name names role) 
 search_answer names role (search.Forgets node) = refused (role_name names role) (joined (codes "forgets at node " ∷ decimal node ∷ []))
 search_answer names role search.TooLarge = too_large (joined (codes "candidates " ∷ role_name names role ∷ []))
 search_answer names role search.NoMemory = refused [] []
+
+-- where a derivation is refused
+abbrev pub at_node : List ℕ → ℕ → List ℕ
+at_node what node = joined (what ∷ codes " at node " ∷ decimal node ∷ [])
+
+abbrev pub at_arm : List ℕ → ℕ → ℕ → List ℕ
+at_arm what node arm = joined (what ∷ codes " at node " ∷ decimal node ∷ codes " arm " ∷ decimal arm ∷ [])
+
+-- .. and why
+abbrev pub derive_text : DeriveFault → List ℕ
+derive_text derive.BadStart = codes "bad start"
+derive_text (derive.BadState node) = at_node (codes "bad state") node
+derive_text (derive.TooLongPending node) = at_node (codes "too long") node
+derive_text (derive.NoMove node) = at_node (codes "no move") node
+derive_text (derive.WrongNext node arm) = at_arm (codes "wrong next") node arm
+derive_text (derive.Forgets node arm) = at_arm (codes "forgets") node arm
+
+-- .. or that there is none
+abbrev pub blame_text : Blame → List ℕ
+blame_text blame.Missing = codes "no derivation"
+blame_text (blame.Fault fault) = derive_text fault
+
+-- what is answered where the role's own derivation doesn't show that its machine may stand for its projection
+abbrev pub blame_answer : Names_data → Role → Blame → Answer_data
+blame_answer names role why = refused (role_name names role) (blame_text why)

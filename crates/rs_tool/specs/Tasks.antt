@@ -8,6 +8,7 @@ use Rattle.rs_words.specs.declared.tasks.Task.TheVariants as task
 -- the task is carried out on the text of the input
 abbrev pub reads_input : Task → Bool
 reads_input (task.Check bound derivations) = not derivations
+reads_input task.Verify = true
 reads_input task.Show = true
 reads_input task.Project = true
 reads_input (task.Run bound ring workers limit seed) = workers == 1
@@ -16,6 +17,7 @@ reads_input _ = false
 -- the task is carried out
 abbrev pub is_built : Task → Bool
 is_built (task.Check bound derivations) = not derivations
+is_built task.Verify = true
 is_built task.Show = true
 is_built task.Project = true
 is_built (task.Run bound ring workers limit seed) = workers == 1

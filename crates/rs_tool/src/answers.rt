@@ -16,6 +16,7 @@ use crate::shown::show;
 use crate::statuses::Verdict;
 use crate::tables::project_all;
 use crate::texts::Piece::Words;
+use crate::verifying::verify;
 use rs_documents::{Document, read_document};
 use rs_model::{MOST_BYTES, NoMemory};
 use rs_text::{Text, TextFault, TextKind};
@@ -51,18 +52,19 @@ fn answer_to_fault(alloc: Global, bytes: &[u8], fault: TextFault) -> Result<Answ
 }
 
 /// The answer of the task, which reads the input, to a document.
-fn answer_to_document(alloc: Global, task: Task, document: &Document) -> Result<Answer, NoMemory>
+fn answer_to_document(alloc: Global, task: Task, document: Document) -> Result<Answer, NoMemory>
     requires range { IsInRange task }
     requires reads { reads_input task ≡ true }
-    requires ready { IsReady document.now }
-    requires roles { length document.now.names.roles ≡ document.now.protocol.roles }
-    requires shown { CanBeShown document.now }
-    ensures { IfOk result (AnswersDocument task document.now) }
+    requires ready { IsReady document }
+    requires roles { length document.names.roles ≡ document.protocol.roles }
+    requires shown { CanBeShown document }
+    ensures { IfOk result (AnswersDocument task document) }
 {
     match task {
-        Task::Check { bound, .. } => check(alloc, document, bound),
-        Task::Show => show(alloc, document),
-        Task::Project => project_all(alloc, document),
+        Task::Check { bound, .. } => check(alloc, &document, bound),
+        Task::Verify => verify(alloc, document),
+        Task::Show => show(alloc, &document),
+        Task::Project => project_all(alloc, &document),
         Task::Run {
             bound,
             ring,
@@ -71,7 +73,7 @@ fn answer_to_document(alloc: Global, task: Task, document: &Document) -> Result<
             ..
         } => run(
             alloc,
-            document,
+            &document,
             RunOptions {
                 bound,
                 ring,
@@ -93,7 +95,7 @@ pub fn answer_to_text(alloc: Global, task: Task, bytes: &[u8]) -> Result<Answer,
         return too_large(alloc, &[Words(b"text")]);
     }
     match read_document(alloc, bytes) {
-        Ok(document) => answer_to_document(alloc, task, &document),
+        Ok(document) => answer_to_document(alloc, task, document),
         Err(fault) => answer_to_fault(alloc, bytes, fault),
     }
 }

@@ -123,6 +123,8 @@ pub fn command_serial<S: Source, K: Sink>(
         source.old source.new status) }
     ensures headline { IfAnswered result (λ status. (bound : ℕ) → SpellsCheck (bytes_of_words words.now) bound
         → IfSome (S.left source.old) (λ bytes. status ≡ Status.Fine → SpellsSafeMachines bytes)) }
+    ensures verified { IfAnswered result (λ status. SpellsTask (bytes_of_words words.now) Task.Verify
+        → IfSome (S.left source.old) (λ bytes. status ≡ Status.Fine → SpellsSafeMachines bytes)) }
     ensures run { IfAnswered result (λ status. (options : RunOptions) → SpellsRun (bytes_of_words words.now) options
         → IfSome (S.left source.old) (λ bytes. IsOfRun status → SpellsSafeMachines bytes)) }
     ensures pipeline { IfAnswered result (λ status. (number : ℕ) → SpellsTask (bytes_of_words words.now) (Task.Gen number)
@@ -148,6 +150,8 @@ pub fn command<R: Threads + Wait + Sync, S: Source, K: Sink>(
         (Rose (S.faults source.old) (S.faults source.new) (S.last source.new)) (Rose (K.faults sink.old) (K.faults sink.new) (K.last sink.new))
         source.old source.new result.status }
     ensures headline { (bound : ℕ) → SpellsCheck (bytes_of_words words.now) bound
+        → IfSome (S.left source.old) (λ bytes. result.status ≡ Status.Fine → SpellsSafeMachines bytes) }
+    ensures verified { SpellsTask (bytes_of_words words.now) Task.Verify
         → IfSome (S.left source.old) (λ bytes. result.status ≡ Status.Fine → SpellsSafeMachines bytes) }
     ensures run { (options : RunOptions) → SpellsRun (bytes_of_words words.now) options
         → IfSome (S.left source.old) (λ bytes. IsOfRun result.status → SpellsSafeMachines bytes) }

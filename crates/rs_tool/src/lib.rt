@@ -18,6 +18,7 @@ mod tables;
 mod tasks;
 mod texts;
 mod transcript_texts;
+mod verifying;
 
 pub use calls::{command, command_serial};
 pub use derivations::{
@@ -29,6 +30,7 @@ pub use rs_words::DEFAULT_BOUND;
 pub use runs::{RunOptions, run};
 pub use sessions::{Session, first_refusal, machines_of, projections_of, session_of};
 pub use statuses::{Reply, Serial, Status};
+pub use verifying::{Blame, verify};
 
 #[cfg(test)]
 mod tests;

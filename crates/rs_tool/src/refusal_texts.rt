@@ -10,6 +10,8 @@ use crate::answers::Answer;
 use crate::statuses::Verdict;
 use crate::texts::Piece::{self, Number, Words};
 use crate::texts::{push_pieces, text_of};
+use crate::verifying::Blame;
+use rs_derive::DeriveFault;
 use rs_model::{Label, MachineFault, Name, Names, NoMemory, Role};
 use rs_project::ProjFault;
 use rs_search::SearchFault;
@@ -338,4 +340,64 @@ pub fn search_answer(
         ),
         SearchFault::NoMemory => Err(NoMemory),
     }
+}
+
+/// Why a role's own derivation is refused, in words.
+fn blame_text(alloc: Global, blame: Blame) -> Result<Text, NoMemory>
+    ensures { IfOk result (λ text. text ≡ spec.blame_text blame) }
+{
+    match blame {
+        Blame::Missing => text_of(alloc, &[Words(b"no derivation")]),
+        Blame::Fault(fault) => derive_text(alloc, fault),
+    }
+}
+
+fn derive_text(alloc: Global, fault: DeriveFault) -> Result<Text, NoMemory>
+    ensures { IfOk result (λ text. text ≡ spec.derive_text fault) }
+{
+    match fault {
+        DeriveFault::BadStart => text_of(alloc, &[Words(b"bad start")]),
+        DeriveFault::BadState { node } => at_node(alloc, b"bad state", node),
+        DeriveFault::TooLongPending { node } => at_node(alloc, b"too long", node),
+        DeriveFault::NoMove { node } => at_node(alloc, b"no move", node),
+        DeriveFault::WrongNext { node, arm } => at_arm(alloc, b"wrong next", node, arm),
+        DeriveFault::Forgets { node, arm } => at_arm(alloc, b"forgets", node, arm),
+    }
+}
+
+fn at_node(alloc: Global, what: &[u8], node: u32) -> Result<Text, NoMemory>
+    ensures { IfOk result (λ text. text ≡ spec.at_node what.now node) }
+{
+    text_of(
+        alloc,
+        &[Words(what), Words(b" at node "), Number(u64::from(node))],
+    )
+}
+
+fn at_arm(alloc: Global, what: &[u8], node: u32, arm: u32) -> Result<Text, NoMemory>
+    ensures { IfOk result (λ text. text ≡ spec.at_arm what.now node arm) }
+{
+    text_of(
+        alloc,
+        &[
+            Words(what),
+            Words(b" at node "),
+            Number(u64::from(node)),
+            Words(b" arm "),
+            Number(u64::from(arm)),
+        ],
+    )
+}
+
+/// What is answered where the role's own derivation doesn't show that its machine may stand for its projection.
+pub fn blame_answer(
+    alloc: Global,
+    names: &Names,
+    role: Role,
+    blame: Blame,
+) -> Result<Answer, NoMemory>
+    ensures { IfOk result (λ a. a ≡ spec.blame_answer names.now role blame) }
+{
+    let what = blame_text(alloc, blame)?;
+    refused(alloc, role_name(names, role), what.as_slice())
 }

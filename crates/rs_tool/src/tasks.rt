@@ -11,6 +11,7 @@ pub fn reads_input(task: Task) -> bool
 {
     match task {
         Task::Check { derivations, .. } => !derivations,
+        Task::Verify => true,
         Task::Show => true,
         Task::Project => true,
         Task::Run { workers, .. } => workers == 1,
@@ -24,6 +25,7 @@ pub fn is_built(task: Task) -> bool
 {
     match task {
         Task::Check { derivations, .. } => !derivations,
+        Task::Verify => true,
         Task::Show => true,
         Task::Project => true,
         Task::Run { workers, .. } => workers == 1,

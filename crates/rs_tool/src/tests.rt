@@ -79,7 +79,6 @@ fn words_that_read_nothing_have_their_answers(rt: HostRuntime) -> Result<(), Fai
             Status::Usage,
             usage,
         ),
-        (["verify"].as_slice(), Status::NotBuilt, not_built),
         (
             ["check", "--derivations"].as_slice(),
             Status::NotBuilt,
@@ -853,5 +852,64 @@ fn limits_hold_at_their_last_value(rt: HostRuntime) -> Result<(), Fail> {
     let (found, bytes) = answer(&rt, alloc, &["check"], text.as_bytes())?;
     assert_eq!(rt; found, Status::TooLarge);
     assert_eq!(rt; bytes.as_slice(), b"too large: name\n".as_slice());
+    Ok(())
+}
+
+/// Double buffering with a kernel that is ahead, and a derivation for each role.
+const DERIVED: &str =
+    "roles K, S, T\nprotocol rec X0. K->S:ready(). T->K:ready(). S->K{copy(bytes). K->T:copy(bytes). X0, stop(). K->S:ready(). K->T:stop(). end}\nmachine K: S!ready(). rec X1. S!ready(). T?ready(). S?{copy(bytes). T!copy(bytes). X1, stop(). T!stop(). end}\nderivation K bound 16 {\n0: 0 [] 0 rank 0 next [1]\n1: 1 [] 1 rank 0 next [2]\n2: 1 [T?ready()] 2 rank 3 next [3, 4]\n3: 1 [T?ready(), S?copy(bytes)] 3 rank 2 next [5]\n4: 1 [T?ready(), S?stop()] 4 rank 1 next [6]\n5: 1 [T?ready(), S?copy(bytes), T!copy(bytes)] 0 rank 1 next [7]\n6: 2 [T?ready(), S?stop()] 5 rank 0 next [8]\n7: 2 [T?ready(), S?copy(bytes), T!copy(bytes)] 1 rank 0 next [9]\n8: 3 [S?stop()] 5 rank 0 next [10]\n9: 3 [S?copy(bytes), T!copy(bytes)] 1 rank 0 next [11]\n10: 5 [] 5 rank 0 next [12]\n11: 4 [T!copy(bytes)] 1 rank 0 next [1]\n12: 6 [] 6 rank 0 next []\n}\nderivation S bound 16 {\n0: 0 [] 0 rank 0 next [1]\n1: 0 [K?ready()] 1 rank 0 next [2]\n2: 1 [] 1 rank 0 next [0, 3]\n3: 2 [] 2 rank 0 next [4]\n4: 2 [K?ready()] 3 rank 0 next [5]\n5: 3 [] 3 rank 0 next []\n}\nderivation T bound 16 {\n0: 0 [] 0 rank 0 next [1]\n1: 1 [] 1 rank 0 next [2, 3]\n2: 1 [K?copy(bytes)] 0 rank 0 next [0]\n3: 1 [K?stop()] 2 rank 0 next [4]\n4: 2 [] 2 rank 0 next []\n}\n";
+
+const T_DERIVED: &str =
+    "derivation T bound 16 {\n0: 0 [] 0 rank 0 next [1]\n1: 1 [] 1 rank 0 next [2, 3]\n2: 1 [K?copy(bytes)] 0 rank 0 next [0]\n3: 1 [K?stop()] 2 rank 0 next [4]\n4: 2 [] 2 rank 0 next []\n}\n";
+
+#[test]
+fn derivations_are_verified(rt: HostRuntime) -> Result<(), Fail> {
+    let alloc = rt.alloc();
+    let report =
+        "accepted\nK: nodes 13 pending 3 rank 3\nS: nodes 6 pending 1 rank 0\nT: nodes 5 pending 1 rank 0\nroom 16\n";
+    for (old, new, status, written) in [
+        ("machine", "machine", Status::Fine, report),
+        (
+            "4 rank 1 next [6]",
+            "4 rank 1 next [7]",
+            Status::Refused,
+            "refused\nK: wrong next at node 4 arm 0\n",
+        ),
+        (
+            "2 rank 3 next [3, 4]",
+            "2 rank 2 next [3, 4]",
+            Status::Refused,
+            "refused\nK: forgets at node 2 arm 0\n",
+        ),
+        (
+            "derivation K bound 16",
+            "derivation K bound 2",
+            Status::Refused,
+            "refused\nK: too long at node 5\n",
+        ),
+        (
+            "derivation S bound 16 {\n0: 0",
+            "derivation S bound 16 {\n0: 1",
+            Status::Refused,
+            "refused\nS: bad start\n",
+        ),
+        (
+            T_DERIVED,
+            "",
+            Status::Refused,
+            "refused\nT: no derivation\n",
+        ),
+        (
+            "4: 2 [] 2 rank 0 next []\n}\n",
+            "4: 2 [] 2 rank 0 next []\n",
+            Status::Malformed,
+            "malformed 33:1 expected node or }\n",
+        ),
+    ] {
+        let text = DERIVED.replacen(alloc, old, new, 1)?;
+        let (told, found) = answer(&rt, alloc, &["verify"], text.as_bytes())?;
+        assert!(rt; told == status, "{written}");
+        assert!(rt; found.as_slice() == written.as_bytes(), "{written}");
+    }
     Ok(())
 }

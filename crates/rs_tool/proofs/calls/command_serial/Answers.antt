@@ -1,7 +1,7 @@
 use Rattle.rs_words.specs.Words.{bytes_of_words}
 use Rattle.rs_io.specs.Faults.{Rose}
 use Rattle.rs_tool.proofs.Complete.{complete}
-use Rattle.rs_tool.proofs.Headline.{fine-is-safe, pipeline-is-safe, runs-are-safe}
+use Rattle.rs_tool.proofs.Headline.{fine-is-safe, pipeline-is-safe, runs-are-safe, verified-is-safe}
 use Rattle.rs_tool.proofs.calls.command_serial.Goals as goal
 
 pub returns-clause-headline : goal.returns-clause-headline
@@ -11,6 +11,10 @@ returns-clause-headline g c = λ bound check.
 pub returns-clause-run : goal.returns-clause-run
 returns-clause-run g c = λ options spells.
     runs-are-safe (bytes_of_words c.args.words.now) (g.S.Source.left c.args.source.now) (g.K.Sink.written c.args.sink.now) (g.K.Sink.written c.carry_out.new.sink) c.carry_out.result options spells c.carry_out.ensures.answer
+
+pub returns-clause-verified : goal.returns-clause-verified
+returns-clause-verified g c = λ spells.
+    verified-is-safe (bytes_of_words c.args.words.now) (g.S.Source.left c.args.source.now) (g.K.Sink.written c.args.sink.now) (g.K.Sink.written c.carry_out.new.sink) c.carry_out.result spells c.carry_out.ensures.answer
 
 pub returns-clause-pipeline : goal.returns-clause-pipeline
 returns-clause-pipeline g c = λ number spells.

@@ -1,0 +1,70 @@
+use Rattle.std.proofs.Common.{◌≡◌, ℕ, List, Some, None, ◌∙◌, ap, sym, subst, subst₂}
+use Rattle.std.specs.Prelude.{IfOk}
+use Rattle.rs_derive.specs.Data.{Derivation_data}
+use Rattle.rs_documents.specs.Data.{Document_data}
+use Rattle.rs_model.specs.Data.{Machine_data, Names_data, Protocol_data}
+use Rattle.rs_project.specs.Data.{Projection_data}
+use Rattle.rs_safety.specs.Accepting.{Accepted_data, FirstRefused}
+use Rattle.rs_safety.specs.Sessions.{AreDerivations, AreOneEach, IsSession}
+use Rattle.rs_tool.specs.Refusals.{refusal_answer}
+use Rattle.rs_tool.specs.RefusalTexts.{blame_answer}
+use Rattle.rs_tool.specs.Report.{report}
+use Rattle.rs_tool.specs.Sessions.{HasMachines}
+use Rattle.rs_tool.specs.Verifying.{AreCheckable, Verifies, first_blame, those_there}
+use Rattle.rs_tool.specs.declared.refusals.Refusal.TheVariants as refusal
+use Rattle.rs_tool.proofs.Derivings.{session_has}
+use Rattle.rs_tool.proofs.Verified.{are_derivations, are_one_each, checkable, refused_nowhere, verify_blamed, verify_fine, verify_refused}
+use Rattle.rs_tool.proofs.verifying.verify.Goals as goal
+
+pub returns-in-Err : goal.returns-in-Err
+returns-in-Err c =
+    verify_refused c.args.document c.in-Err.refusal c.refusal_answer.result c.in-Err.ensures.err
+    (subst (λ (d : Document_data). IfOk c.refusal_answer.result (λ a. a ≡ refusal_answer d.names c.in-Err.refusal)) c.document.view_is c.refusal_answer.ensures.answer) c.refusal_answer.ensures.memory
+
+pub first_blame-blame-requires-clause-checkable : goal.first_blame-blame-requires-clause-checkable
+first_blame-blame-requires-clause-checkable c =
+    rw (c.as_slice.ensures.value, c.as_slice-2.ensures.value, c.as_slice-3.ensures.value)
+    (subst (λ (d : Document_data). AreCheckable d.derivations c.in-Ok.session.machines.items c.in-Ok.session.projections.items) (sym c.document.view_is)
+    (checkable c.args.document.protocol c.args.document.derivations c.in-Ok.session.machines.items c.in-Ok.session.projections.items c.args.document.names.roles
+    (session_has c.args.document c.in-Ok.session.projections.items c.in-Ok.session.machines.items c.requires.ready c.requires.roles c.in-Ok.ensures.ok) c.requires.ready.derivations))
+
+pub returns-in-Some : goal.returns-in-Some
+returns-in-Some c =
+    verify_blamed c.args.document c.in-Ok.session.projections.items c.in-Ok.session.machines.items c.in-Some.role c.in-Some.blame c.blame_answer.result c.in-Ok.ensures.ok
+    (subst (λ (d : Document_data). first_blame 0 d.derivations c.in-Ok.session.machines.items c.in-Ok.session.projections.items ≡ Some (record { role = c.in-Some.role; blame = c.in-Some.blame })) c.document.view_is
+    (rw c.as_slice.ensures.value at (rw c.as_slice-2.ensures.value at (rw c.as_slice-3.ensures.value at c.in-Some.ensures.some))))
+    (subst (λ (d : Document_data). IfOk c.blame_answer.result (λ a. a ≡ blame_answer d.names c.in-Some.role c.in-Some.blame)) c.document.view_is c.blame_answer.ensures)
+
+pub accept-requires-clause-session : goal.accept-requires-clause-session
+accept-requires-clause-session c =
+    rw c.as_slice-4.ensures.value
+    (subst (λ (d : Document_data). IsSession d.protocol c.in-Ok.session.projections.items c.in-Ok.session.machines.items) (sym c.document.view_is)
+    (session_has c.args.document c.in-Ok.session.projections.items c.in-Ok.session.machines.items c.requires.ready c.requires.roles c.in-Ok.ensures.ok))
+
+pub accept-requires-clause-derivations : goal.accept-requires-clause-derivations
+accept-requires-clause-derivations c =
+    let none = subst (λ (d : Document_data). first_blame 0 d.derivations c.in-Ok.session.machines.items c.in-Ok.session.projections.items ≡ None) c.document.view_is
+    (rw c.as_slice.ensures.value at (rw c.as_slice-2.ensures.value at (rw c.as_slice-3.ensures.value at c.in_default.ensures.none))) in
+    rw (c.as_slice-5.ensures.value ∙ c.in_ok-derivations.ensures)
+    (subst (λ (d : Document_data). AreOneEach d.protocol.roles (those_there d.derivations)) (sym c.document.view_is)
+    (are_one_each c.args.document.protocol c.args.document.derivations c.in-Ok.session.machines.items c.in-Ok.session.projections.items c.args.document.names.roles
+    (session_has c.args.document c.in-Ok.session.projections.items c.in-Ok.session.machines.items c.requires.ready c.requires.roles c.in-Ok.ensures.ok) c.requires.roles c.requires.ready.derivations none))
+
+pub unreachable-requires : goal.unreachable-requires
+unreachable-requires c =
+    let session = session_has c.args.document c.in-Ok.session.projections.items c.in-Ok.session.machines.items c.requires.ready c.requires.roles c.in-Ok.ensures.ok in
+    let none = subst (λ (d : Document_data). first_blame 0 d.derivations c.in-Ok.session.machines.items c.in-Ok.session.projections.items ≡ None) c.document.view_is
+    (rw c.as_slice.ensures.value at (rw c.as_slice-2.ensures.value at (rw c.as_slice-3.ensures.value at c.in_default.ensures.none))) in
+    refused_nowhere c.in-Ok.session.machines.items c.in-Ok.session.projections.items (those_there c.args.document.derivations) c.in-Err-accept.field-0.role.0 c.in-Err-accept.field-0.cause
+    (are_derivations c.args.document.protocol c.args.document.derivations c.in-Ok.session.machines.items c.in-Ok.session.projections.items session (c.requires.ready.derivations.one_each ∙ c.requires.roles) none)
+    (subst (λ (d : Document_data). FirstRefused c.in-Ok.session.machines.items c.in-Ok.session.projections.items (those_there d.derivations) c.in-Err-accept.field-0.role.0 c.in-Err-accept.field-0.cause) c.document.view_is
+    (rw c.as_slice-4.ensures.value at (rw (c.as_slice-5.ensures.value ∙ c.in_ok-derivations.ensures) at c.in-Err-accept.ensures.refused)))
+
+pub returns : goal.returns
+returns c =
+    let none = subst (λ (d : Document_data). first_blame 0 d.derivations c.in-Ok.session.machines.items c.in-Ok.session.projections.items ≡ None) c.document.view_is
+    (rw c.as_slice.ensures.value at (rw c.as_slice-2.ensures.value at (rw c.as_slice-3.ensures.value at c.in_default.ensures.none))) in
+    verify_fine c.args.document c.in-Ok.session.projections.items c.in-Ok.session.machines.items c.report.result c.in-Ok.ensures.ok none
+    (subst₂ (λ (x : List (List ℕ)) (y : List Derivation_data). IfOk c.report.result (λ a. a ≡ report x y))
+    (c.as_slice-in-Ok-accept.ensures.value ∙ ap (λ (n : Names_data). n.roles) c.names.view_is ∙ ap (λ (d : Document_data). d.names.roles) c.document.view_is)
+    (ap (λ (x : Accepted_data). x.derivations) c.in-Ok-accept.ensures.accepted ∙ c.as_slice-5.ensures.value ∙ c.in_ok-derivations.ensures ∙ ap (λ (d : Document_data). those_there d.derivations) c.document.view_is) c.report.ensures)
