@@ -117,7 +117,7 @@ fn long_past(alloc: Global) -> Result<Vec<Event>, NoMemory>
     ensures { IfOk result (λ v. length v.items < 2 ^ 32) }
 {
     let mut events = Vec::new(alloc);
-    for number in 0..100_000 {
+    for number in 0..100_000_u32 {
         events.push(if number % 2 == 0 {
             puts(0, 0, Value::Unit)
         } else {
