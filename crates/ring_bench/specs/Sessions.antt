@@ -13,12 +13,15 @@ use Rattle.rs_model.specs.declared.values.Sort.TheVariants as sort
 use Rattle.rs_project.specs.Data.{Projection_data}
 use Rattle.rs_derive.specs.Data.{DNode_data, Derivation_data}
 
+-- role A
 abbrev pub a : Role
 a = record { 0 = 0 }
 
+-- role B
 abbrev pub b : Role
 b = record { 0 = 1 }
 
+-- role C
 abbrev pub c : Role
 c = record { 0 = 2 }
 
@@ -30,6 +33,7 @@ arm label so next = record { label = record { 0 = label }; sort = so; next = nex
 abbrev pub puts : Role → ℕ → Sort → ℕ → State
 puts peer label so next = Puts peer (arm label so next ∷ [])
 
+-- .. that receives
 abbrev pub takes : Role → ℕ → Sort → ℕ → State
 takes peer label so next = Takes peer (arm label so next ∷ [])
 
@@ -41,12 +45,14 @@ machine role states = record { role = role; states = states; start = 0 }
 abbrev pub stream : Protocol_data
 stream = record { roles = 2; nodes = Talk a b (arm 0 sort.Natural 0 ∷ []) ∷ []; root = 0 }
 
+-- its projections, in role order
 abbrev pub projections_of_stream : List Projection_data
 projections_of_stream =
     record { machine = machine a (puts b 0 sort.Natural 0 ∷ []); sets = (0 ∷ []) ∷ [] }
     ∷ record { machine = machine b (takes a 0 sort.Natural 0 ∷ []); sets = (0 ∷ []) ∷ [] }
     ∷ []
 
+-- its machines: each role does as its projection does
 abbrev pub machines_of_stream : List Machine_data
 machines_of_stream = machine a (puts b 0 sort.Natural 0 ∷ []) ∷ machine b (takes a 0 sort.Natural 0 ∷ []) ∷ []
 
@@ -58,6 +64,7 @@ relay = record {
   root = 0;
 }
 
+-- its projections, in role order
 abbrev pub projections_of_relay : List Projection_data
 projections_of_relay =
     record { machine = machine a (takes b 2 sort.Natural 0 ∷ []); sets = (2 ∷ []) ∷ [] }
@@ -68,6 +75,7 @@ projections_of_relay =
     ∷ record { machine = machine c (takes b 0 sort.Natural 1 ∷ puts b 1 sort.Natural 0 ∷ []); sets = (0 ∷ []) ∷ (1 ∷ []) ∷ [] }
     ∷ []
 
+-- its machines: each role does as its projection does
 abbrev pub machines_of_relay : List Machine_data
 machines_of_relay =
     machine a (takes b 2 sort.Natural 0 ∷ [])
@@ -79,12 +87,14 @@ machines_of_relay =
 abbrev pub rounds : Protocol_data
 rounds = record { roles = 2; nodes = Talk a b (arm 0 sort.Natural 1 ∷ []) ∷ Talk b a (arm 1 sort.Natural 0 ∷ []) ∷ []; root = 0 }
 
+-- its projections, in role order
 abbrev pub projections_of_rounds : List Projection_data
 projections_of_rounds =
     record { machine = machine a (puts b 0 sort.Natural 1 ∷ takes b 1 sort.Natural 0 ∷ []); sets = (0 ∷ []) ∷ (1 ∷ []) ∷ [] }
     ∷ record { machine = machine b (takes a 0 sort.Natural 1 ∷ puts a 1 sort.Natural 0 ∷ []); sets = (0 ∷ []) ∷ (1 ∷ []) ∷ [] }
     ∷ []
 
+-- its machines: A does as its projection does, and B sends first
 abbrev pub machines_of_rounds : List Machine_data
 machines_of_rounds =
     machine a (puts b 0 sort.Natural 1 ∷ takes b 1 sort.Natural 0 ∷ [])
@@ -95,12 +105,14 @@ machines_of_rounds =
 abbrev pub swap : Protocol_data
 swap = record { roles = 2; nodes = Talk a b (arm 0 sort.Unit 1 ∷ []) ∷ Talk b a (arm 1 sort.Unit 2 ∷ []) ∷ Finished ∷ []; root = 0 }
 
+-- its projections, in role order
 abbrev pub projections_of_swap : List Projection_data
 projections_of_swap =
     record { machine = machine a (puts b 0 sort.Unit 1 ∷ takes b 1 sort.Unit 2 ∷ Done ∷ []); sets = (0 ∷ []) ∷ (1 ∷ []) ∷ [] ∷ [] }
     ∷ record { machine = machine b (takes a 0 sort.Unit 1 ∷ puts a 1 sort.Unit 2 ∷ Done ∷ []); sets = (0 ∷ []) ∷ (1 ∷ []) ∷ [] ∷ [] }
     ∷ []
 
+-- its machines: A does as its projection does, and B sends first
 abbrev pub machines_of_swap : List Machine_data
 machines_of_swap =
     machine a (puts b 0 sort.Unit 1 ∷ takes b 1 sort.Unit 2 ∷ Done ∷ [])
@@ -111,18 +123,22 @@ machines_of_swap =
 abbrev pub node : ℕ → List Act → ℕ → ℕ → List ℕ → DNode_data
 node state pending above rank next = record { state = state; pending = pending; above = above; rank = rank; next = next }
 
+-- A owes the receive of y
 abbrev pub takes_y : Sort → List Act
 takes_y so = act.Takes b (record { 0 = 1 }) so ∷ []
 
+-- B owes the receive of x
 abbrev pub takes_x : Sort → List Act
 takes_x so = act.Takes a (record { 0 = 0 }) so ∷ []
 
+-- those of the machines of `rounds`
 abbrev pub derivations_of_rounds : List Derivation_data
 derivations_of_rounds =
     record { role = a; bound = 16; nodes = node 0 [] 0 0 (1 ∷ []) ∷ node 1 [] 1 0 (2 ∷ []) ∷ node 1 (takes_y sort.Natural) 0 0 (0 ∷ []) ∷ [] }
     ∷ record { role = b; bound = 16; nodes = node 0 [] 0 0 (1 ∷ []) ∷ node 0 (takes_x sort.Natural) 1 1 (2 ∷ []) ∷ node 1 (takes_x sort.Natural) 0 0 (0 ∷ []) ∷ [] }
     ∷ []
 
+-- those of the machines of `swap`
 abbrev pub derivations_of_swap : List Derivation_data
 derivations_of_swap =
     record {

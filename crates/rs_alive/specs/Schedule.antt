@@ -31,6 +31,7 @@ waits_by (Some Done) back = None
 waits_by (Some (Puts peer arms)) back = None
 waits_by (Some (Takes peer arms)) back = if nat_lt 0 (length (back peer.0)) then None else Some peer
 
+-- for whom role p waits
 abbrev pub waits_for : List Machine_data → Configuration → ℕ → Option Role
 waits_for machines c p = waits_by (state_at machines c p) (λ q. c.queue q p)
 
@@ -55,6 +56,7 @@ act_by (Some (Puts peer [])) role = None
 act_by (Some (Puts peer (arm ∷ arms))) role = Some (Send role 0 (plain_value arm.sort))
 act_by (Some (Takes peer arms)) role = Some (Receive role)
 
+-- what the role does
 abbrev pub act_of : List Machine_data → Configuration → Role → Option Event
 act_of machines c role = act_by (state_at machines c role.0) role
 

@@ -48,6 +48,7 @@ abbrev pub arm_fault : Option Arm → Value → Option StepFault
 arm_fault None value = Some NoArm
 arm_fault (Some arm) value = if fits value arm.sort then None else Some WrongSort
 
+-- .. in that state, by the arm at that place
 abbrev pub send_fault : Option State → ℕ → Value → Option StepFault
 send_fault None place value = Some NotSending
 send_fault (Some Done) place value = Some NotSending
@@ -59,6 +60,7 @@ abbrev pub queue_fault : List Message → Option StepFault
 queue_fault [] = Some QueueEmpty
 queue_fault (message ∷ later) = None
 
+-- .. in that state, with these queues to the role
 abbrev pub receive_fault : Option State → (ℕ → List Message) → Option StepFault
 receive_fault None queue = Some NotReceiving
 receive_fault (Some Done) queue = Some NotReceiving
@@ -100,6 +102,7 @@ abbrev pub way_by : Role → Option Arm → Value → Result Way StepFault
 way_by peer None value = Err NoArm
 way_by peer (Some arm) value = if fits value arm.sort then Ok record { peer = peer; label = arm.label; next = arm.next } else Err WrongSort
 
+-- .. in that state, by the arm at that place
 abbrev pub way_of : Option State → ℕ → Value → Result Way StepFault
 way_of None place value = Err NotSending
 way_of (Some Done) place value = Err NotSending
@@ -111,10 +114,12 @@ abbrev pub next_by : Role → Option Arm → Option Way
 next_by peer None = None
 next_by peer (Some arm) = Some record { peer = peer; label = arm.label; next = arm.next }
 
+-- .. by the oldest message of these
 abbrev pub front_by : Role → List Arm → List Message → Result (Option Way) StepFault
 front_by peer arms [] = Err QueueEmpty
 front_by peer arms (message ∷ later) = Ok (next_by peer (arm_with arms message.label))
 
+-- .. in that state, with these queues to the role
 abbrev pub front_of : Option State → (ℕ → List Message) → Result (Option Way) StepFault
 front_of None queue = Err NotReceiving
 front_of (Some Done) queue = Err NotReceiving

@@ -29,6 +29,7 @@ abbrev pub draw_octets : ℕ → ℕ → List ℕ
 draw_octets zero x = []
 draw_octets (suc many) x = draw x % 256 ∷ draw_octets many (after x)
 
+-- so many whole numbers, one draw each
 abbrev pub draw_numbers : ℕ → ℕ → List ℤ
 draw_numbers zero x = []
 draw_numbers (suc many) x = draw_whole x ∷ draw_numbers many (after x)
@@ -60,6 +61,7 @@ abbrev pub value_for : Option Arm → ℕ → Value
 value_for None x = value.Unit
 value_for (Some arm) x = draw_value arm.sort x
 
+-- .. and the number that is left
 abbrev pub after_arm : Option Arm → ℕ → ℕ
 after_arm None x = x
 after_arm (Some arm) x = after_value arm.sort x

@@ -136,6 +136,7 @@ sent_to q [] = 0
 sent_to q (entry.Sent peer label ∷ xs) = if peer.0 == q then suc (sent_to q xs) else sent_to q xs
 sent_to q (entry.Got peer label value ∷ xs) = sent_to q xs
 
+-- .. and how many it takes from q
 abbrev pub got_from : ℕ → List Entry → ℕ
 got_from q [] = 0
 got_from q (entry.Sent peer label ∷ xs) = got_from q xs

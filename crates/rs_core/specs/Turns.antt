@@ -61,6 +61,7 @@ pub record GotTurn {A : Type 0} (b : Behaviour A) (c : Core_data) (x : Player A)
   pub kept : y.kept ≡ x.kept
   pub entry : y.transcript ≡ x.transcript ++ (entry.Got step.peer step.message.label step.message.value ∷ [])
 
+-- role p has made an act: it has sent, or it has received
 pub data HasMoved {A : Type 0} (b : Behaviour A) (capacity : Option ℕ) (c : Core_data) (x : Player A) (p : ℕ) (d : Core_data) (y : Player A) : Type 0 where
   HasSent : SentTurn b capacity c x p d y → HasMoved b capacity c x p d y
   HasGot : GotTurn b c x p d y → HasMoved b capacity c x p d y

@@ -19,33 +19,39 @@ use Rattle.rs_derive.specs.declared.targets.Target.{Target}
 
 -- tests of equality
 
+-- two acts are the same
 abbrev pub same_act : Act → Act → Bool
 same_act (Puts p l s) (Puts q k t) = (p.0 == q.0) && ((l.0 == k.0) && (sort_number s == sort_number t))
 same_act (Takes p l s) (Takes q k t) = (p.0 == q.0) && ((l.0 == k.0) && (sort_number s == sort_number t))
 same_act (Puts p l s) (Takes q k t) = false
 same_act (Takes p l s) (Puts q k t) = false
 
+-- .. two lists of acts
 abbrev pub same_acts : List Act → List Act → Bool
 same_acts [] [] = true
 same_acts [] (b ∷ bs) = false
 same_acts (a ∷ as') [] = false
 same_acts (a ∷ as') (b ∷ bs) = same_act a b && same_acts as' bs
 
+-- .. two spots
 abbrev pub same_spot : Spot → Spot → Bool
 same_spot p q = (p.state == q.state) && ((p.above == q.above) && same_acts p.pending q.pending)
 
 -- the spot that a target of an edge stands for
 
+-- what is owed behind the change, where these acts were owed
 abbrev pub changed : List Act → Change → List Act
 changed pending Same = pending
 changed pending (Without place) = without pending place
 changed pending (With x) = pending ++ x ∷ []
 
+-- the spot of a target, where these acts were owed
 abbrev pub target_spot : List Act → Target → Spot
 target_spot pending t = spot t.state (changed pending t.change) t.above
 
 -- faults
 
+-- the first fault where there is one, else the later one
 abbrev pub or_later : Option DeriveFault → Option DeriveFault → Option DeriveFault
 or_later None later = later
 or_later (Some f) _ = Some f
@@ -54,10 +60,12 @@ or_later (Some f) _ = Some f
 abbrev pub names : DNode_data → List Spot → Bool
 names m spots = list_any (λ r. same_spot (spot_of m) r) spots
 
+-- an edge leads to no spot that is due, or keeps its head and leads to no lower rank
 abbrev pub judged : Bool → ℕ → ℕ → ℕ → Bool → ℕ → Option DeriveFault
 judged keeps rank i k named there =
     if named then (if keeps && nat_le rank there then Some (Forgets i k) else None) else Some (WrongNext i k)
 
+-- .. or it names no node
 abbrev pub edge_fault : Bool → ℕ → ℕ → ℕ → List Spot → Option DNode_data → Option DeriveFault
 edge_fault keeps rank i k spots None = Some (WrongNext i k)
 edge_fault keeps rank i k spots (Some m) = judged keeps rank i k (names m spots) m.rank
@@ -68,43 +76,53 @@ edge_at due nodes keeps rank i k (Some a) (Some j) = edge_fault keeps rank i k (
 edge_at due nodes keeps rank i k (Some a) None = None
 edge_at due nodes keeps rank i k None next = None
 
+-- there are more nexts than are due
 abbrev pub spare : ℕ → ℕ → List ℕ → Option DeriveFault
 spare i k [] = None
 spare i k (j ∷ js) = Some (WrongNext i k)
 
+-- there are more or fewer nexts than are due
 abbrev pub counted : ℕ → ℕ → ℕ → ℕ → Option DeriveFault
 counted i k due given = if due == given then None else Some (WrongNext i k)
 
+-- the first fault of node i's edges, from the one at place k on
 abbrev pub nexts_fault : List DNode_data → Bool → ℕ → ℕ → List (List Spot) → List ℕ → ℕ → Option DeriveFault
 nexts_fault nodes keeps rank i [] js k = spare i k js
 nexts_fault nodes keeps rank i (d ∷ ds) [] k = Some (WrongNext i k)
 nexts_fault nodes keeps rank i (d ∷ ds) (j ∷ js) k =
     or_later (edge_fault keeps rank i k d (slice_get nodes j)) (nexts_fault nodes keeps rank i ds js (k + 1))
 
+-- node i has no move, or else the first fault of its edges
 abbrev pub move_fault : List DNode_data → ℕ → DNode_data → Option Due → Option DeriveFault
 move_fault nodes i n None = Some (NoMove i)
 move_fault nodes i n (Some d) = nexts_fault nodes d.keeps n.rank i d.nexts n.next 0
 
+-- node i stands at a state that isn't there
 abbrev pub state_fault : Machine_data → Machine_data → ℕ → DNode_data → Option DeriveFault
 state_fault sub above i n =
     if nat_lt n.state (length sub.states) && nat_lt n.above (length above.states) then None else Some (BadState i)
 
+-- node i owes more acts than the bound
 abbrev pub length_fault : ℕ → ℕ → DNode_data → Option DeriveFault
 length_fault bound i n = if nat_le (length n.pending) bound then None else Some (TooLongPending i)
 
+-- the first fault of node i
 abbrev pub node_fault : Derivation_data → Machine_data → Machine_data → ℕ → DNode_data → Option DeriveFault
 node_fault d sub above i n =
     or_later (state_fault sub above i n)
     (or_later (length_fault d.bound i n) (move_fault d.nodes i n (due sub above (spot_of n))))
 
+-- the first fault of the nodes from number i on
 abbrev pub nodes_fault : Derivation_data → Machine_data → Machine_data → List DNode_data → ℕ → Option DeriveFault
 nodes_fault d sub above [] i = None
 nodes_fault d sub above (n ∷ later) i = or_later (node_fault d sub above i n) (nodes_fault d sub above later (i + 1))
 
+-- the first node is the start of both machines, with nothing owed
 abbrev pub starts : Machine_data → Machine_data → List DNode_data → Bool
 starts sub above [] = false
 starts sub above (n ∷ later) = (n.state == sub.start) && ((n.above == above.start) && (length n.pending == 0))
 
+-- the first fault of a derivation
 abbrev pub derive_fault : Derivation_data → Machine_data → Machine_data → Option DeriveFault
 derive_fault d sub above =
     or_later (if starts sub above d.nodes then None else Some BadStart) (nodes_fault d sub above d.nodes 0)

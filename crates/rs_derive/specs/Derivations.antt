@@ -6,6 +6,7 @@ use Rattle.rs_model.specs.declared.machines.Act.{Act}
 use Rattle.rs_derive.specs.Data.{DNode_data, Derivation_data}
 use Rattle.rs_derive.specs.Moves.{Spot, spot, HasMove}
 
+-- the spot of a node
 abbrev pub spot_of : DNode_data → Spot
 spot_of n = spot n.state n.pending n.above
 

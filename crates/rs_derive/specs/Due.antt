@@ -24,36 +24,45 @@ pub record Due : Type 0 where
 
 -- moves that push nothing
 
+-- both have ended, and nothing is owed
 abbrev pub stops : List Act → Option Due
 stops pending = if length pending == 0 then Some (record { keeps = false; nexts = [] }) else None
 
+-- the arm pays the act that is owed at the place
 abbrev pub paid : Spot → ℕ → Arm → Due
 paid p place a = record { keeps = nat_lt 0 place; nexts = (spot a.next (without p.pending place) p.above ∷ []) ∷ [] }
 
+-- the machine's only arm pays the send that is owed at the place
 abbrev pub pays_send : Spot → ℕ → List Arm → Option Act → Option Due
 pays_send p place (a ∷ []) (Some (act.Puts r l so)) =
     if (a.label.0 == l.0) && serves a.sort so then Some (paid p place a) else None
 pays_send p place _ _ = None
 
+-- that arm pays the receive that is owed at the place, where its sort is served
 abbrev pub served_by : Spot → ℕ → Sort → Option Arm → Option Due
 served_by p place so None = None
 served_by p place so (Some a) = if serves so a.sort then Some (paid p place a) else None
 
+-- the arm with the label of the receive that is owed at the place pays it
 abbrev pub pays_receive : Spot → ℕ → List Arm → Option Act → Option Due
 pays_receive p place arms (Some (act.Takes r l so)) = served_by p place so (arm_of arms l)
 pays_receive p place arms _ = None
 
+-- there is such an arm of the projection, and the machine's arm serves it
 abbrev pub serves_some : Arm → Option Arm → Bool
 serves_some a None = false
 serves_some a (Some b) = serves a.sort b.sort
 
+-- the projection has each arm of the machine, with a sort that serves
 abbrev pub all_serve : List Arm → List Arm → Bool
 all_serve theirs arms = list_all (λ a. serves_some a (arm_of theirs a.label)) arms
 
+-- the spot behind an arm that both send
 abbrev pub both_at : List Act → Arm → Option Arm → List Spot
 both_at pending a None = []
 both_at pending a (Some b) = spot a.next pending b.next ∷ []
 
+-- both send to one peer
 abbrev pub sends_both : Spot → List Arm → List Arm → Option Due
 sends_both p theirs arms =
     if all_serve theirs arms
@@ -62,43 +71,52 @@ sends_both p theirs arms =
 
 -- moves that push an act
 
+-- the projection sends to r: one of its arms is guessed
 abbrev pub guesses : Spot → Role → List Arm → Option Due
 guesses p r theirs = Some (record { keeps = nat_lt 0 (length p.pending); nexts = map (λ b. owing_send p r b) theirs ∷ [] })
 
+-- the projection receives from r: all its arms are followed
 abbrev pub follows : Spot → Role → List Arm → Option Due
 follows p r theirs = Some (record { keeps = nat_lt 0 (length p.pending); nexts = map (λ b. owing_receive p r b ∷ []) theirs })
 
 -- the rows together
 
+-- the machine sends to q, and no send to q is owed
 abbrev pub sends_past : Spot → Role → List Arm → Option State → Option Due
 sends_past p q arms (Some (Puts r theirs)) = if r.0 == q.0 then sends_both p theirs arms else guesses p r theirs
 sends_past p q arms (Some (Takes r theirs)) = follows p r theirs
 sends_past p q arms _ = None
 
+-- the machine receives, no receive from its peer is owed, and nothing blocks one
 abbrev pub receives_past : Spot → Option State → Option Due
 receives_past p (Some (Takes r theirs)) = follows p r theirs
 receives_past p _ = None
 
+-- the machine sends to q, and this is found of a send to q among what is owed
 abbrev pub sends : Spot → Role → List Arm → Option State → Found → Option Due
 sends p q arms t (At place) = pays_send p place arms (slice_get p.pending place)
 sends p q arms t (Blocked place) = None
 sends p q arms t Absent = sends_past p q arms t
 
+-- the machine receives, and this is found of a receive from its peer among what is owed
 abbrev pub receives : Spot → List Arm → Option State → Found → Option Due
 receives p arms t (At place) = pays_receive p place arms (slice_get p.pending place)
 receives p arms t (Blocked place) = None
 receives p arms t Absent = receives_past p t
 
+-- the machine has ended
 abbrev pub ends : List Act → Option State → Option Due
 ends pending (Some Done) = stops pending
 ends pending _ = None
 
+-- what is due for the machine's state and the projection's
 abbrev pub due_at : Spot → Option State → Option State → Option Due
 due_at p None t = None
 due_at p (Some Done) t = ends p.pending t
 due_at p (Some (Puts q arms)) t = sends p q arms t (earliest p.pending Send q)
 due_at p (Some (Takes q arms)) t = receives p arms t (earliest p.pending Receive q)
 
+-- what is due of the nexts of a spot, where it has a move
 abbrev pub due : Machine_data → Machine_data → Spot → Option Due
 due sub above p = due_at p (slice_get sub.states p.state) (slice_get above.states p.above)
 

@@ -18,6 +18,7 @@ pub record Spot : Type 0 where
   pub pending : List Act
   pub above : ℕ
 
+-- the spot with that state, these acts owed, and that state of the projection
 abbrev pub spot : ℕ → List Act → ℕ → Spot
 spot s pending t = record { state = s; pending = pending; above = t }
 
@@ -39,6 +40,7 @@ Both theirs pending (a ∷ later) (r ∷ rs) =
 abbrev pub owing_send : Spot → Role → Arm → Spot
 owing_send p r b = spot p.state (p.pending ++ act.Puts r b.label b.sort ∷ []) b.next
 
+-- .. of passing a receive
 abbrev pub owing_receive : Spot → Role → Arm → Spot
 owing_receive p r b = spot p.state (p.pending ++ act.Takes r b.label b.sort ∷ []) b.next
 

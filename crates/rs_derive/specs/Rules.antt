@@ -33,6 +33,7 @@ abbrev pub served_rule : ℕ → Sort → Option Arm → Option Rule
 served_rule place so None = None
 served_rule place so (Some a) = if serves so a.sort then Some (Pays place a) else None
 
+-- .. which the arm with its label pays
 abbrev pub pay_receive_rule : ℕ → List Arm → Option Act → Option Rule
 pay_receive_rule place arms (Some (act.Takes r l so)) = served_rule place so (arm_of arms l)
 pay_receive_rule place arms _ = None
@@ -48,16 +49,19 @@ abbrev pub receive_past_rule : State → Option Rule
 receive_past_rule (Takes r theirs) = Some (Follows r)
 receive_past_rule _ = None
 
+-- the machine sends to q, and this is found of a send to q among what is owed
 abbrev pub send_rule : List Act → Role → List Arm → State → Found → Option Rule
 send_rule pending q arms there (At place) = pay_send_rule place arms (slice_get pending place)
 send_rule pending q arms there (Blocked place) = None
 send_rule pending q arms there Absent = send_past_rule q arms there
 
+-- the machine receives, and this is found of a receive from its peer among what is owed
 abbrev pub receive_rule : List Act → List Arm → State → Found → Option Rule
 receive_rule pending arms there (At place) = pay_receive_rule place arms (slice_get pending place)
 receive_rule pending arms there (Blocked place) = None
 receive_rule pending arms there Absent = receive_past_rule there
 
+-- the rule for the machine's state and the projection's
 abbrev pub rule_at : List Act → State → State → Option Rule
 rule_at pending Done there = end_rule pending there
 rule_at pending (Puts q arms) there = send_rule pending q arms there (earliest pending Send q)
@@ -89,9 +93,11 @@ nexts_by p arms theirs SendsBoth = map (λ a. both_at p.pending a (arm_of theirs
 nexts_by p arms theirs (Guesses r) = map (λ b. owing_send p r b) theirs ∷ []
 nexts_by p arms theirs (Follows r) = map (λ b. owing_receive p r b ∷ []) theirs
 
+-- .. and whether its edges keep the oldest act that is owed
 abbrev pub due_by : Spot → List Arm → List Arm → Rule → Due
 due_by p arms theirs rule = record { keeps = keeps_head p.pending rule; nexts = nexts_by p arms theirs rule }
 
+-- .. where a rule applies
 abbrev pub due_of : Spot → List Arm → List Arm → Option Rule → Option Due
 due_of p arms theirs None = None
 due_of p arms theirs (Some rule) = Some (due_by p arms theirs rule)

@@ -23,10 +23,12 @@ abbrev pub path_of : List Layer → List ℕ
 path_of [] = []
 path_of (l ∷ ls) = path_of ls ++ l.nodes
 
+-- all edges that are still to be looked at
 abbrev pub edges_of : List Layer → List ℕ
 edges_of [] = []
 edges_of (l ∷ ls) = edges_of ls ++ l.edges
 
+-- where each part begins among the nodes and among these edges, and whether it goes round
 abbrev pub parts_of : List Layer → List Part
 parts_of [] = []
 parts_of (l ∷ ls) = parts_of ls ++ (record { start = length (path_of ls); edges = length (edges_of ls); round = l.round } ∷ [])
@@ -41,6 +43,7 @@ pub record LayerFits (rows : List (List ℕ)) (marks : List Mark) (lower nodes e
   pub sources : (y : ℕ) → Among edges y → (x : ℕ) × Among nodes x × Edge rows x y
   pub told : (x y : ℕ) → Among nodes x → Edge rows x y → IsKnown marks y ⊎ (Among edges y ⊎ (Among nodes y × (round ≡ true)))
 
+-- each part fits behind those before it
 abbrev pub AllFit : List (List ℕ) → List Mark → List Layer → Type 0
 AllFit rows marks [] = Unit {0}
 AllFit rows marks (l ∷ ls) = LayerFits rows marks (path_of ls) l.nodes l.edges l.round × AllFit rows marks ls

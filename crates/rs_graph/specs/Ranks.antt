@@ -12,6 +12,7 @@ pub record Earlier (order : List ℕ) (n before : ℕ) : Type 0 where
   pub is : slice_get order index ≡ Some n
   pub early : index < before
 
+-- the order has numbers of rows, each once, and each behind all that its row leads to
 pub record IsOrdered (rows : List (List ℕ)) (order : List ℕ) : Type 0 where
   pub within : (i n : ℕ) → slice_get order i ≡ Some n → n < length rows
   pub ends : (i n j : ℕ) → slice_get order i ≡ Some n → Edge rows n j → Earlier order j i

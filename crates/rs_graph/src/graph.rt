@@ -5,21 +5,29 @@ ghost use Rattle.rs_graph.specs.declared.graph.Move.{Move};
 
 use crate::steps::Steps;
 use rs_model::NoMemory;
+use smallvec::SmallVec;
 use std::alloc::Global;
+use std::default::MadeWith;
 use std::marker::Model;
 use std::sync::ledger::Ledger;
 
 /// A move, by its node and its place among the node's moves.
-#[derive(Clone, Copy, Debug, PartialEq, Eq)]
+#[derive(Clone, Copy, Debug, Default, PartialEq, Eq)]
 pub struct Move {
     pub node: u32,
     pub place: u32,
 }
 
-/// Numbers of nodes, in order.
+/// Numbers of nodes, in order. A few of them need no allocation.
 #[derive(Drop, Debug)]
 pub struct Row {
-    numbers: Vec<u32>,
+    numbers: SmallVec<u32, 4>,
+}
+
+impl MadeWith<Global> for Row {
+    fn made_with(alloc: Global) -> Row {
+        Row::new(alloc)
+    }
 }
 
 impl Model for Row {
@@ -36,7 +44,7 @@ impl Row {
         ensures { result ≡ [] }
     {
         Row {
-            numbers: Vec::new(alloc),
+            numbers: SmallVec::new(alloc),
         }
     }
 
@@ -52,7 +60,7 @@ impl Row {
         ensures { IfOk result (λ r. r ≡ self.now) }
     {
         Ok(Row {
-            numbers: Vec::from_slice(alloc, self.numbers.as_slice())?,
+            numbers: SmallVec::from_slice(alloc, self.numbers.as_slice())?,
         })
     }
 
@@ -66,10 +74,10 @@ impl Row {
     }
 }
 
-/// The moves of a node, each with its results.
+/// The moves of a node, each with its results. One move needs no allocation.
 #[derive(Drop, Debug)]
 pub struct Rows {
-    rows: Vec<Row>,
+    rows: SmallVec<Row, 1>,
 }
 
 impl Model for Rows {
@@ -89,7 +97,7 @@ impl Rows {
         ensures { result ≡ [] }
     {
         Rows {
-            rows: Vec::new(alloc),
+            rows: SmallVec::new(alloc),
         }
     }
 
@@ -119,14 +127,14 @@ impl Rows {
         ensures ok { OnOk result (self.new ≡ slice_set self.old place (slice_index_or self.old place [] ++ n ∷ [])) }
         ensures err { OnErr result (self.new ≡ self.old) }
     {
-        self.rows[place as usize].push(n)
+        self.rows.as_mut_slice()[place as usize].push(n)
     }
 }
 
-/// The moves that lead to a node.
+/// The moves that lead to a node. A few of them need no allocation.
 #[derive(Drop, Debug)]
 pub struct Ends {
-    moves: Vec<Move>,
+    moves: SmallVec<Move, 2>,
 }
 
 impl Model for Ends {
@@ -143,7 +151,7 @@ impl Ends {
         ensures { result ≡ [] }
     {
         Ends {
-            moves: Vec::new(alloc),
+            moves: SmallVec::new(alloc),
         }
     }
 

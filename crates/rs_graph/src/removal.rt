@@ -7,14 +7,15 @@ ghost use Rattle.rs_graph.specs.declared.graph.Move.{Move};
 use crate::graph::{Graph, Move};
 use crate::steps::Steps;
 use rs_model::NoMemory;
+use smallvec::SmallVec;
 use std::alloc::Global;
 use std::marker::{Brand, Model};
 use std::sync::ledger::{Blank, Ledger};
 
-/// For each move of a node whether it is lost.
+/// For each move of a node whether it is lost. A few of them need no allocation.
 #[derive(Drop, Debug)]
 pub struct Flags {
-    flags: Vec<bool>,
+    flags: SmallVec<bool, 8>,
 }
 
 impl Model for Flags {
@@ -32,7 +33,7 @@ impl Flags {
         ensures { IfOk result (λ f. f ≡ replicate count false) }
     {
         Ok(Flags {
-            flags: vec![in alloc; false; count]?,
+            flags: SmallVec::from_elem(alloc, false, count)?,
         })
     }
 
@@ -46,7 +47,7 @@ impl Flags {
         requires { place < length self.old }
         ensures { self.new ≡ slice_set self.old place true }
     {
-        self.flags[place as usize] = true;
+        self.flags.as_mut_slice()[place as usize] = true;
     }
 }
 

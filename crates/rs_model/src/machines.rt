@@ -130,3 +130,14 @@ pub enum Act {
         sort: Sort,
     },
 }
+
+impl Default for Act {
+    /// A receive of nothing, which stands at the unused places of lists that keep a few acts in the value itself.
+    fn default() -> Act {
+        Act::Takes {
+            peer: Role(0),
+            label: Label(0),
+            sort: Sort::Unit,
+        }
+    }
+}

@@ -13,5 +13,6 @@ earliest_from [] kind q place = Absent
 earliest_from (a ∷ later) kind q place =
     if has kind q a then At place else (if may_overtake kind q a then earliest_from later kind q (place + 1) else Blocked place)
 
+-- among all pending acts
 abbrev pub earliest : List Act → Kind → Role → Found
 earliest pending kind q = earliest_from pending kind q 0

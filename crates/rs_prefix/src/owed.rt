@@ -5,13 +5,14 @@ ghost use Rattle.rs_prefix.specs.Search.{earliest};
 use crate::earliest::{has, may_overtake};
 use crate::{Found, Kind};
 use rs_model::{Act, NoMemory, Role};
+use smallvec::SmallVec;
 use std::alloc::Global;
 use std::marker::Model;
 
-/// The acts that a machine owes, the oldest first.
+/// The acts that a machine owes, the oldest first. A few of them need no allocation.
 #[derive(Drop, Debug)]
 pub struct Pending {
-    acts: Vec<Act>,
+    acts: SmallVec<Act, 4>,
 }
 
 impl Model for Pending {
@@ -29,7 +30,7 @@ impl Pending {
         ensures { result ≡ [] }
     {
         Pending {
-            acts: Vec::new(alloc),
+            acts: SmallVec::new(alloc),
         }
     }
 
@@ -38,7 +39,7 @@ impl Pending {
         ensures { IfOk result (λ p. p ≡ self.now) }
     {
         Ok(Pending {
-            acts: Vec::from_slice(alloc, self.acts.as_slice())?,
+            acts: SmallVec::from_slice(alloc, self.acts.as_slice())?,
         })
     }
 
@@ -46,7 +47,7 @@ impl Pending {
     pub fn copy_with(&self, alloc: Global, act: Act) -> Result<Pending, NoMemory>
         ensures { IfOk result (λ p. p ≡ self.now ++ act ∷ []) }
     {
-        let mut acts = Vec::with_capacity(alloc, self.acts.len() + 1)?;
+        let mut acts = SmallVec::with_capacity(alloc, self.acts.len().saturating_add(1))?;
         acts.extend_from_slice(self.acts.as_slice())?;
         acts.push(act)?;
         Ok(Pending { acts })
@@ -59,7 +60,7 @@ impl Pending {
     {
         let (before, rest) = self.acts.as_slice().split_at(place);
         let (_, behind) = rest.split_at(1);
-        let mut acts = Vec::with_capacity(alloc, self.acts.len())?;
+        let mut acts = SmallVec::with_capacity(alloc, self.acts.len())?;
         acts.extend_from_slice(before)?;
         acts.extend_from_slice(behind)?;
         Ok(Pending { acts })
@@ -87,7 +88,7 @@ impl Pending {
     fn scan(&self, kind: Kind, peer: Role) -> Found
         ensures { result ≡ earliest self.now kind peer }
     {
-        for (place, act) in self.acts.iter().enumerate() {
+        for (place, act) in self.acts.as_slice().iter().enumerate() {
             if has(*act, kind, peer) {
                 return Found::At(place);
             }

@@ -36,9 +36,11 @@ pub record IsOver (c : Closed_data) : Type 0 where
 abbrev pub sender_of : ℕ → ℕ → ℕ
 sender_of roles ring = ring / (roles - 1)
 
+-- .. and its receiver
 abbrev pub receiver_of : ℕ → ℕ → ℕ
 receiver_of roles ring = if nat_lt (ring % (roles - 1)) (sender_of roles ring) then ring % (roles - 1) else ring % (roles - 1) + 1
 
+-- the parcel, left in the ring from p to q
 abbrev pub loose_from : ℕ → ℕ → Parcel → Loose
 loose_from p q x = record { sender = numbered p; receiver = numbered q; parcel = x }
 

@@ -16,6 +16,7 @@ abbrev pub content_of : ℕ → ℕ → Option Parcel → List Loose
 content_of p q None = []
 content_of p q (Some x) = loose_from p q x ∷ []
 
+-- .. where there is such a slot
 abbrev pub found_one : ℕ → ℕ → maybe.Option (Option Parcel) → List Loose
 found_one p q none = []
 found_one p q (some content) = content_of p q content

@@ -16,6 +16,7 @@ abbrev pub unboxed : Option (Box Row) → Option Row
 unboxed None = None
 unboxed (Some b) = Some b.value
 
+-- .. among these rows
 abbrev pub row_at : List (Option (Box Row)) → ℕ → Option Row
 row_at items i = unboxed (slice_index_or items i None)
 
@@ -24,6 +25,7 @@ abbrev pub with_sent_count : ℕ → ℕ → ℕ → Option Row → Option Row
 with_sent_count q sent next None = None
 with_sent_count q sent next (Some r) = Some (record { state = next; sent = slice_set r.sent q sent; got = r.got })
 
+-- .. got from p
 abbrev pub with_got_count : ℕ → ℕ → ℕ → Option Row → Option Row
 with_got_count p got next None = None
 with_got_count p got next (Some r) = Some (record { state = next; sent = r.sent; got = slice_set r.got p got })
@@ -32,6 +34,7 @@ with_got_count p got next (Some r) = Some (record { state = next; sent = r.sent;
 abbrev pub new_row : ℕ → Row
 new_row state = record { state = state; sent = replicate 16 0; got = replicate 16 0 }
 
+-- .. where it has that machine
 abbrev pub row_at_start : Option Machine_data → Option Row
 row_at_start None = None
 row_at_start (Some m) = Some (new_row m.start)

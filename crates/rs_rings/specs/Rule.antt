@@ -83,6 +83,7 @@ configuration_of known = record {
   queue = λ p q. map message_of (drop (length (parcels_got p (known q).history)) (parcels_sent q (known p).history));
 }
 
+-- what each role has done
 abbrev pub histories_of : (ℕ → Part) → ℕ → History
 histories_of known p = (known p).history
 
@@ -90,6 +91,7 @@ histories_of known p = (known p).history
 abbrev pub AreLegal : List Machine_data → (ℕ → Part) → Type 0
 AreLegal machines known = IsLegal machines (histories_of known) (configuration_of known)
 
+-- the machines that the table was made with
 abbrev pub machines_of : Key → List Machine_data
 machines_of key = key.machines.items
 

@@ -104,6 +104,7 @@ pub record SplitsOff (s t : State (Option Parcel) View) (r : ℕ) : Type 0 where
   pub words : t.words ≡ s.words
   pub views : t.views ≡ slice_set s.views seat (left_by r view) ++ alone r view ∷ []
 
+-- a view takes in another, which then speaks for no role
 pub record JoinsIn (s t : State (Option Parcel) View) : Type 0 where
   pub seat : ℕ
   pub view : View

@@ -39,9 +39,11 @@ own r m = the_part r m.0.parts
 abbrev pub sent_of : Call → Me (Option Parcel) View → ℕ
 sent_of w m = length (parcels_sent w.receiver (own w.sender m).history)
 
+-- how many the receiver has got from the sender
 abbrev pub got_of : Call → Me (Option Parcel) View → ℕ
 got_of w m = length (parcels_got w.sender (own w.receiver m).history)
 
+-- the slot of the ring's parcel number k
 abbrev pub slot_at : Call → ℕ → ℕ
 slot_at w k = place_of w.roles w.capacity w.sender w.receiver k
 
@@ -59,6 +61,7 @@ GivesFilled w m m' ((k, None) ∷ cs) = Unit {0}
 GivesFilled w m m' ((k, Some x) ∷ cs) =
     (m' ≡ (with_part w.sender (sending w.receiver x w.next (own w.sender m)) m.0, cs)) × Happened w.machines w.sender (own w.sender m).history (sent_act w.receiver x)
 
+-- .. of the slots that the seat holds
 abbrev pub StoresTail : Call → Step (Option Parcel) → Me (Option Parcel) View → ℕ → Me (Option Parcel) View → Type 0
 StoresTail w st m r m' = GivesFilled w m m' m.1
 
@@ -76,5 +79,6 @@ GivesEmptied w m m' (Putting q) = Unit {0}
 GivesEmptied w m m' (Taking p x) =
     (m' ≡ (with_part w.receiver (getting w.sender x w.next (own w.receiver m)) m.0, rest m.1)) × Happened w.machines w.receiver (own w.receiver m).history (got_act w.sender x)
 
+-- .. which the receiver is in the middle of taking
 abbrev pub StoresHead : Call → Step (Option Parcel) → Me (Option Parcel) View → ℕ → Me (Option Parcel) View → Type 0
 StoresHead w st m r m' = GivesEmptied w m m' (own w.receiver m).middle

@@ -32,9 +32,11 @@ abbrev pub speaks : ℕ → List Part → Bool
 speaks r [] = false
 speaks r (x ∷ xs) = if r == x.role then true else speaks r xs
 
+-- the part of a role of which nothing is known
 abbrev pub blank_part : ℕ → Part
 blank_part r = record { role = r; state = 0; history = []; heads = []; tails = []; middle = Idle }
 
+-- the first part that is that of role r, and else a blank one
 abbrev pub the_part : ℕ → List Part → Part
 the_part r [] = blank_part r
 the_part r (x ∷ xs) = if r == x.role then x else the_part r xs
@@ -43,12 +45,15 @@ the_part r (x ∷ xs) = if r == x.role then x else the_part r xs
 abbrev pub SpeaksFor : View → ℕ → Type 0
 SpeaksFor v r = speaks r v.parts ≡ true
 
+-- .. its part
 abbrev pub part_of : View → ℕ → Part
 part_of v r = the_part r v.parts
 
+-- .. the state in which its machine stands
 abbrev pub state_in : View → ℕ → ℕ
 state_in v r = (the_part r v.parts).state
 
+-- .. what it has done
 abbrev pub history_in : View → ℕ → History
 history_in v r = (the_part r v.parts).history
 
@@ -61,6 +66,7 @@ abbrev pub put_part : ℕ → Part → List Part → List Part
 put_part r y [] = []
 put_part r y (x ∷ xs) = if r == x.role then y ∷ xs else x ∷ put_part r y xs
 
+-- .. of the whole view
 abbrev pub with_part : ℕ → Part → View → View
 with_part r y v = record { parts = put_part r y v.parts }
 
@@ -69,9 +75,11 @@ with_part r y v = record { parts = put_part r y v.parts }
 abbrev pub looked_head : ℕ → ℕ → Part → Part
 looked_head q n a = record { role = a.role; state = a.state; history = a.history; heads = record { peer = q; found = n } ∷ a.heads; tails = a.tails; middle = a.middle }
 
+-- .. that has found room and gained a slot
 abbrev pub gaining : ℕ → ℕ → Part → Part
 gaining q n a = record { role = a.role; state = a.state; history = a.history; heads = record { peer = q; found = n } ∷ a.heads; tails = a.tails; middle = Putting q }
 
+-- .. that has sent the parcel
 abbrev pub sending : ℕ → Parcel → ℕ → Part → Part
 sending q x next a = record { role = a.role; state = next; history = a.history ++ sent_act q x ∷ []; heads = a.heads; tails = a.tails; middle = Idle }
 
@@ -80,9 +88,11 @@ sending q x next a = record { role = a.role; state = next; history = a.history +
 abbrev pub looked_tail : ℕ → ℕ → Part → Part
 looked_tail p n a = record { role = a.role; state = a.state; history = a.history; heads = a.heads; tails = record { peer = p; found = n } ∷ a.tails; middle = a.middle }
 
+-- .. that has gained the slot with the parcel
 abbrev pub taking : ℕ → Parcel → ℕ → Part → Part
 taking p x n a = record { role = a.role; state = a.state; history = a.history; heads = a.heads; tails = record { peer = p; found = n } ∷ a.tails; middle = Taking p x }
 
+-- .. that has got the parcel
 abbrev pub getting : ℕ → Parcel → ℕ → Part → Part
 getting p x next a = record { role = a.role; state = next; history = a.history ++ got_act p x ∷ []; heads = a.heads; tails = a.tails; middle = Idle }
 
@@ -91,13 +101,16 @@ abbrev pub start_of : Option Machine_data → ℕ
 start_of None = 0
 start_of (Some m) = m.start
 
+-- the part of role r at the start
 abbrev pub first_part : List Machine_data → ℕ → Part
 first_part machines r = record { role = r; state = start_of (slice_get machines r); history = []; heads = []; tails = []; middle = Idle }
 
+-- the parts of the first so many roles at the start
 abbrev pub first_parts : List Machine_data → ℕ → List Part
 first_parts machines zero = []
 first_parts machines (suc n) = first_part machines n ∷ first_parts machines n
 
+-- the view at the start
 abbrev pub starting : List Machine_data → View
 starting machines = record { parts = first_parts machines (length machines) }
 
@@ -106,9 +119,11 @@ abbrev pub without : ℕ → List Part → List Part
 without r [] = []
 without r (x ∷ xs) = if r == x.role then without r xs else x ∷ without r xs
 
+-- the view that has given up role r
 abbrev pub left_by : ℕ → View → View
 left_by r v = record { parts = without r v.parts }
 
+-- the new view, which speaks for r alone
 abbrev pub alone : ℕ → View → View
 alone r v = record { parts = the_part r v.parts ∷ [] }
 
@@ -116,5 +131,6 @@ alone r v = record { parts = the_part r v.parts ∷ [] }
 abbrev pub joined : View → View → View
 joined v w = record { parts = v.parts ++ w.parts }
 
+-- the view that speaks for no role
 abbrev pub spent_view : View
 spent_view = record { parts = [] }

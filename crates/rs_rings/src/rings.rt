@@ -60,6 +60,13 @@ impl Rings {
         Ok((Rings { inner }, Pass { seat, rows }))
     }
 
+    /// The machines, in role order.
+    pub fn machines(&self) -> &[Machine]
+        ensures { result.now ≡ self.now.machines }
+    {
+        self.inner.machines.as_slice()
+    }
+
     /// Cuts off a pass that speaks for the role alone; `pass` no longer speaks for it.
     pub fn split(&self, pass: &mut Pass, role: Role) -> Pass
         requires table { pass.old.table ≡ self.now.table }

@@ -30,6 +30,7 @@ full_by capacity (Some (Takes peer arms)) arm value out = None
 full_by capacity (Some (Puts peer arms)) arm value out =
     if is_right (slice_get arms arm) value && nat_le capacity (length (out peer.0)) then Some peer else None
 
+-- the peer to whom the event would send that finds the ring full
 abbrev pub full_ring : Bounded_data → Event → Option Role
 full_ring b (Receive role) = None
 full_ring b (Send role arm value) =
@@ -54,6 +55,7 @@ moves_by capacity (Some Done) out back = false
 moves_by capacity (Some (Puts peer arms)) out back = nat_lt (length (out peer.0)) capacity
 moves_by capacity (Some (Takes peer arms)) out back = nat_lt 0 (length (back peer.0))
 
+-- whether role p can go on
 abbrev pub can_move : Bounded_data → ℕ → Bool
 can_move b p =
     moves_by b.capacity (state_at b.core.machines (configuration_of b.core) p) (λ q. (configuration_of b.core).queue p q) (λ q. (configuration_of b.core).queue q p)

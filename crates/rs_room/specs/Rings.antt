@@ -75,6 +75,7 @@ pub record CountsReceive (b d : Bounded_data) (role : ℕ) : Type 0 where
   pub sent : (p q : ℕ) → messages_sent d p q ≡ messages_sent b p q
   pub taken : Rises (messages_taken b) (messages_taken d) peer.0 role
 
+-- each event counts so
 abbrev pub CountsStep : Bounded_data → Event → Bounded_data → Type 0
 CountsStep b (Send role arm value) d = CountsSend b d role.0
 CountsStep b (Receive role) d = CountsReceive b d role.0

@@ -9,12 +9,15 @@ use Rattle.rs_model.specs.declared.machines.State.TheVariants.{Done, Puts, Takes
 use Rattle.rs_model.specs.declared.values.Sort.TheVariants as sort
 use Rattle.rs_project.specs.Data.{Projection_data}
 
+-- role A
 abbrev pub a : Role
 a = record { 0 = 0 }
 
+-- role B
 abbrev pub b : Role
 b = record { 0 = 1 }
 
+-- role C
 abbrev pub c : Role
 c = record { 0 = 2 }
 
@@ -48,6 +51,7 @@ rounds_for_b = projection_with b (Takes a (to 0 0 ∷ to 1 1 ∷ []) ∷ Done �
 abbrev pub rounds_for_c : Projection_data
 rounds_for_c = projection_with c (Takes a (to 2 0 ∷ to 3 1 ∷ []) ∷ Done ∷ []) ((1 ∷ 2 ∷ []) ∷ [] ∷ [])
 
+-- the three, in role order
 abbrev pub projections_of_rounds : List Projection_data
 projections_of_rounds = rounds_for_a ∷ rounds_for_b ∷ rounds_for_c ∷ []
 

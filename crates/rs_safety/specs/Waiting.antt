@@ -7,20 +7,25 @@ use Rattle.rs_model.specs.declared.machines.State.{State}
 use Rattle.rs_model.specs.declared.machines.State.TheVariants.{Done, Puts, Takes}
 use Rattle.rs_model.specs.declared.values.Sort.TheVariants as sort
 
+-- role A
 abbrev a : Role
 a = record { 0 = 0 }
 
+-- role B
 abbrev b : Role
 b = record { 0 = 1 }
 
 -- one arm with the unit value: x() has the label 0, and y() the label 1
 
+-- x()
 abbrev x : ℕ → List Arm
 x next = record { label = record { 0 = 0 }; sort = sort.Unit; next = next } ∷ []
 
+-- y()
 abbrev y : ℕ → List Arm
 y next = record { label = record { 0 = 1 }; sort = sort.Unit; next = next } ∷ []
 
+-- the machine of A that starts in its first state
 abbrev machine : List State → Machine_data
 machine states = record { role = a; states = states; start = 0 }
 

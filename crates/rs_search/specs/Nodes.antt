@@ -3,6 +3,7 @@ use Rattle.std.specs.Prelude.{◌≡◌, ◌<◌, ℕ, List, [], length, slice_g
 use Rattle.rs_derive.specs.Data.{DNode_data}
 use Rattle.rs_derive.specs.Moves.{Spot}
 
+-- the node at a spot, with that rank and these nexts
 abbrev pub node_of : Spot → ℕ → List ℕ → DNode_data
 node_of p rank row = record { state = p.state; pending = p.pending; above = p.above; rank = rank; next = row }
 

@@ -18,6 +18,7 @@ pub record Turn_data : Type 0 where
   pub keeps : Bool
   pub spots : List Spot
 
+-- no move, and whether the bound takes it away
 abbrev pub no_turn : Bool → Turn_data
 no_turn cut = record { cut = cut; any = true; keeps = false; spots = [] }
 
@@ -30,6 +31,7 @@ turn_of (Some d) = record { cut = false; any = length d.nexts == 1; keeps = d.ke
 abbrev pub owes_more : ℕ → List Spot → Bool
 owes_more bound spots = list_any (λ (r : Spot). nat_lt bound (length r.pending)) spots
 
+-- the bound takes the moves away where a spot owes more
 abbrev pub cut_at : ℕ → Turn_data → Turn_data
 cut_at bound t = if owes_more bound t.spots then no_turn true else t
 
@@ -45,9 +47,11 @@ nexts_within sub above bound p = (turn_within sub above bound p).spots
 abbrev pub is_any : Machine_data → Machine_data → ℕ → Spot → Bool
 is_any sub above bound p = (turn_within sub above bound p).any
 
+-- whether its edges keep the oldest act that is owed
 abbrev pub is_keeping : Machine_data → Machine_data → ℕ → Spot → Bool
 is_keeping sub above bound p = (turn_within sub above bound p).keeps
 
+-- whether the bound takes its moves away
 abbrev pub is_cut : Machine_data → Machine_data → ℕ → Spot → Bool
 is_cut sub above bound p = (turn_within sub above bound p).cut
 
@@ -59,5 +63,6 @@ may_choose arms theirs SendsBoth = length arms == 1
 may_choose arms theirs (Guesses r) = true
 may_choose arms theirs (Follows r) = length theirs == 1
 
+-- whether the bound takes the moves by the rule away: there are some, and they would owe more acts
 abbrev pub cuts : ℕ → List Act → List Arm → Rule → Bool
 cuts bound pending theirs rule = pushes rule && (nat_le bound (length pending) && nat_lt 0 (length theirs))

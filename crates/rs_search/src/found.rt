@@ -214,7 +214,7 @@ fn empty_buckets(alloc: Global, size: usize) -> Result<Vec<Row>, Fault>
     ensures ok { IfOk result (λ v. v.items ≡ replicate size []) }
     ensures err { IfErr result (λ e. e ≡ Memory) }
 {
-    let mut buckets = Vec::new(alloc);
+    let mut buckets = Vec::with_capacity(alloc, size)?;
     for _i in 0..size {
         buckets.push(Row::new(alloc))?;
     }

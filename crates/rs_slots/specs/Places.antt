@@ -25,6 +25,7 @@ ring_of roles p q = p * (roles - 1) + column p q
 abbrev pub head_word : ℕ → ℕ
 head_word ring = 2 * ring
 
+-- its tail word
 abbrev pub tail_word : ℕ → ℕ
 tail_word ring = 2 * ring + 1
 

@@ -21,6 +21,7 @@ pub record Automaton (R : Type 0) : Type 0 where
 abbrev pub fault : {R : Type 0} → TextKind → ℕ → Result R TextFault
 fault k at = Err (record { kind = k; at = at })
 
+-- something else is wanted there
 abbrev pub expected : {R : Type 0} → Wanted → ℕ → Result R TextFault
 expected w at = fault (kind.Expected w) at
 

@@ -41,6 +41,39 @@ name_all-requires-clause-within g c = λ y m.
     let w = into_within c.args.graph.now.outs c.args.graph.now.intos c.requires.into (record { node = c.index-n.result.now; place = at c.args.current.now c.index-n.result.now }) y (subst (λ (z : List ℕ). Among z y) r m) in
     let s = c.loop-alloc.invariant.2 in omega arith
 
+pub loop-alloc-smaller-in_ok-push : goal.loop-alloc-smaller-in_ok-push
+loop-alloc-smaller-in_ok-push g c =
+    let f = placed_few c.loop-alloc.items.items c.loop-alloc.places.items c.loop-alloc.invariant.1 in
+    let s = c.loop-alloc.invariant.2 in
+    let lt : length c.loop-alloc.nexts.items < length c.loop-alloc.items.items = grind arith in
+    let m : length c.push.new.self.items ≡ length c.loop-alloc.nexts.items + 1 = rw c.in_ok-push.ensures.items (let l = length-append c.loop-alloc.nexts.items (c.in_ok-next.next ∷ []) in omega arith) in
+    omega arith
+
+pub loop-alloc-preserved-in_ok-push : goal.loop-alloc-preserved-in_ok-push
+loop-alloc-preserved-in_ok-push g c =
+    let i = c.loop-alloc.invariant in
+    let e = c.in_ok-next.ensures in
+    let lt : length c.loop-alloc.nexts.items < length c.loop-alloc.items.items = grind arith in
+    let is : c.index-n.result.now ≡ slice_index_or c.loop-alloc.items.items (length c.loop-alloc.nexts.items) c.index-n.result.now = grind arith in
+    let h : slice_get c.loop-alloc.items.items (length c.loop-alloc.nexts.items) ≡ Some c.index-n.result.now = reads_at c.loop-alloc.items.items (length c.loop-alloc.nexts.items) c.index-n.result.now c.index-n.result.now lt (sym is) in
+    let at-n = index_at c.loop-alloc.items.items (length c.loop-alloc.nexts.items) c.index-n.result.now lt is in
+    let r : c.as_slice.result.now ≡ next_of c.args.graph.now.outs c.args.current.now c.index-n.result.now = c.as_slice.ensures ∙ c.in_ok-row.ensures.row in
+    let gr : Grown c.loop-alloc.items.items (next_of c.args.graph.now.outs c.args.current.now c.index-n.result.now) c.name_all.new.items.items = subst (λ (z : List ℕ). Grown c.loop-alloc.items.items z c.name_all.new.items.items) r e.grown in
+    let na : Names c.name_all.new.items.items c.in_ok-next.next (next_of c.args.graph.now.outs c.args.current.now c.index-n.result.now) = subst (λ (z : List ℕ). Names c.name_all.new.items.items c.in_ok-next.next z) r e.names in
+    let m : length c.push.new.self.items ≡ length c.loop-alloc.nexts.items + 1 = rw c.in_ok-push.ensures.items (let l = length-append c.loop-alloc.nexts.items (c.in_ok-next.next ∷ []) in omega arith) in
+    let f : ℕ → ℕ = λ n. length (next_of c.args.graph.now.outs c.args.current.now n) + 1 in
+    let cost = cost_on (λ (n : ℕ). length (next_of c.args.graph.now.outs c.args.current.now n) + 1) c.loop-alloc.items.items c.name_all.new.items.items (length c.loop-alloc.nexts.items) gr.kept lt in
+    let row-len : length c.in_ok-row.row ≡ length (next_of c.args.graph.now.outs c.args.current.now c.index-n.result.now) = ap (λ (z : List ℕ). length z) c.in_ok-row.ensures.row in
+    let cost-n : length (next_of c.args.graph.now.outs c.args.current.now (slice_index_or c.loop-alloc.items.items (length c.loop-alloc.nexts.items) 0)) ≡ length (next_of c.args.graph.now.outs c.args.current.now c.index-n.result.now) = ap (λ (z : ℕ). length (next_of c.args.graph.now.outs c.args.current.now z)) at-n in
+    let st = c.in_ok-row.ensures.steps in
+    let old = i.4 in (
+      rw c.in_ok-push.ensures.items (growing_on (next_of c.args.graph.now.outs c.args.current.now) 0 c.loop-alloc.items.items c.loop-alloc.nexts.items c.index-n.result.now c.name_all.new.items.items c.in_ok-next.next i.0 h gr na e.numbered e.longer),
+      e.placed,
+      e.size ∙ i.2,
+      (λ k n q. elim (gr.only k n q) [ inl a ↦ i.3 k n a | inr a ↦ c.requires.stays c.index-n.result.now n (i.3 (length c.loop-alloc.nexts.items) c.index-n.result.now h) a ]),
+      rw m (omega arith),
+    )
+
 pub loop-alloc-smaller : goal.loop-alloc-smaller
 loop-alloc-smaller g c =
     let f = placed_few c.loop-alloc.items.items c.loop-alloc.places.items c.loop-alloc.invariant.1 in
