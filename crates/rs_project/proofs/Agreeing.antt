@@ -125,11 +125,11 @@ other-is b a h = (
 sort-decide : (s t : Sort) → (s ≡ t) ⊎ (s ≡ t → ⊥)
 sort-decide s t = elim (eqb_tells (sort_number s) (sort_number t)) [ inl e ↦ inl (sort-same s t e.1) | inr n ↦ inr (λ e. n.1 (ap (λ (z : Sort). sort_number z) e)) ]
 
-or-none-left : (a b : Bool) → (a || b) ≡ false → a ≡ false
+pub or-none-left : (a b : Bool) → (a || b) ≡ false → a ≡ false
 or-none-left false b h = refl
 or-none-left true b h = absurd (cc (h))
 
-or-none-right : (a b : Bool) → (a || b) ≡ false → b ≡ false
+pub or-none-right : (a b : Bool) → (a || b) ≡ false → b ≡ false
 or-none-right false b h = h
 or-none-right true b h = absurd (cc (h))
 

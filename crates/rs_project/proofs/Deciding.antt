@@ -1,38 +1,38 @@
 -- Each well-formed protocol has a projection onto a role, or a first refusal: the work on the states, carried out on the
 -- definitions.
-use Rattle.std.proofs.Common.{◌≡◌, ◌≢◌, ◌⊎◌, inl, inr, ℕ, zero, suc, ◌+◌, ◌<◌, ◌≤◌, Bool, true, false, List, [], ◌∷◌, ◌++◌, All, map, take, drop, length, take_all, get_or, Option, Some, None, slice_get, refl, sym, ap, ap₂, ◌∙◌, subst, arith, ◌==◌}
+use Rattle.std.proofs.Common.{◌≡◌, ◌≢◌, ◌⊎◌, inl, inr, ℕ, zero, suc, ◌+◌, ◌<◌, ◌≤◌, Bool, true, false, List, [], ◌∷◌, ◌++◌, map, take, drop, length, take_all, get_or, Option, Some, None, slice_get, refl, sym, ap, ap₂, ◌∙◌, subst, arith, ◌==◌}
 use Rattle.std.specs.List.{Contains}
 use Rattle.std.proofs.lemmas.Bool.{cases_lt, false≢true}
 use Rattle.std.proofs.lemmas.Bool.Decides.{eqb_tells}
-use Rattle.std.proofs.lemmas.List.{length-append, length-map}
+use Rattle.std.proofs.lemmas.List.{length-append}
 use Rattle.std.proofs.lemmas.Option.{same_Some}
 use Rattle.rs_model.specs.Data.{Protocol_data}
 use Rattle.rs_model.specs.declared.graph.Arm.{Arm}
 use Rattle.rs_model.specs.declared.graph.Label.{Label}
 use Rattle.rs_model.specs.declared.graph.Node.{Node}
-use Rattle.rs_model.specs.declared.graph.Node.TheVariants.{Finished, Talk}
+use Rattle.rs_model.specs.declared.graph.Node.TheVariants.{Talk}
 use Rattle.rs_model.specs.declared.graph.Role.{Role}
 use Rattle.rs_model.specs.declared.limits.TheConstants.{MOST_STATES}
 use Rattle.rs_model.specs.declared.machines.State.{State}
 use Rattle.rs_model.specs.declared.machines.State.TheVariants.{Done, Puts, Takes}
 use Rattle.rs_wellformed.specs.WellFormed.{IsWellFormed}
-use Rattle.rs_project.specs.Clashes.{AgreeBefore, AllAgree, ClashesWith, EndsAlone, TalksClash, agree_nodes}
+use Rattle.rs_project.specs.Clashes.{AgreeBefore, AllAgree, ClashesWith, TalksClash, agree_nodes}
 use Rattle.rs_project.specs.Data.{Front_data, Projection_data}
 use Rattle.rs_project.specs.Graph.{Involves}
-use Rattle.rs_project.specs.Marks.{Among, IsSurvey, StartEnds, StartMeets, Survey_data}
+use Rattle.rs_project.specs.Marks.{Among, IsSurvey, Survey_data}
 use Rattle.rs_project.specs.Numbered.{IsNumberedProjection, nexts_behind, nexts_of}
 use Rattle.rs_project.specs.Projection.{Agree, Choice, choice_of, merged_choices}
-use Rattle.rs_project.specs.Refusals.{FirstClash, FirstRefusal, IsFront, Merges, NoneUnreached}
-use Rattle.rs_project.specs.Working.{Adds, AreFound, Discovers, Finds, FindsNone, HasShape, IsFrontBehind, IsNew, StateFault, TooManyAt, Working, WorksOn}
+use Rattle.rs_project.specs.Refusals.{FirstClash, FirstRefusal, Merges, NoneUnreached}
+use Rattle.rs_project.specs.Working.{AreFound, Discovers, Finds, FindsNone, HasShape, IsNew, StateFault, TooManyAt, Working, WorksOn}
 use Rattle.rs_project.specs.declared.projecting.ProjFault.{ProjFault}
 use Rattle.rs_project.specs.declared.projecting.ProjFault.TheVariants as fault
-use Rattle.rs_project.proofs.Agreeing.{agree-sound, agree-whole, agrees-at, all-all, all-more, before-more, clashes-at, first-of-end, first-of-talks, merges-by}
+use Rattle.rs_project.proofs.Agreeing.{agree-sound, agree-whole, all-all, all-more, before-more, clashes-at, first-of-end, first-of-talks, merges-by}
 use Rattle.rs_project.proofs.Behind.{front-behind, involved-within, receive-each, send-each, starts-of, starts-within}
-use Rattle.rs_project.proofs.Lists.{at-short, at-within, contained, contains}
+use Rattle.rs_project.proofs.Lists.{at-within, contains}
 use Rattle.rs_project.proofs.Marking.{among-all, front-any, least-or-none, survey-any}
 use Rattle.rs_project.proofs.Meetings.{place-among}
 use Rattle.rs_project.proofs.Numbers.{arm-more, discovers-none, same-more, too-many}
-use Rattle.rs_project.proofs.Steps.{front-root, state-fault, work-fault, working-begin, working-done, working-on, works-on}
+use Rattle.rs_project.proofs.Steps.{front-root, work-fault, working-begin, working-done, working-on, works-on}
 use Rattle.rs_project.proofs.Surveys.{role-by, role-eq}
 
 -- two talks agree or don't

@@ -54,3 +54,10 @@ pub all-on : (count n : ℕ) → n < count → IsOn (replicate count true) n
 all-on zero n h = let bad : ⊥ = omega arith in absurd bad
 all-on (suc count) zero h = refl
 all-on (suc count) (suc n) h = all-on count n (omega arith)
+
+pub off-flag : (flags : List Bool) (n : ℕ) → (IsOn flags n → ⊥) → get_or flags n false ≡ false
+off-flag flags n h = go (get_or flags n false) refl
+  where
+    go : (b : Bool) → get_or flags n false ≡ b → get_or flags n false ≡ false
+    go true e = absurd (h e)
+    go false e = e

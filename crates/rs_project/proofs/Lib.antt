@@ -1,6 +1,8 @@
 pub mod Lists
+pub mod Handed
 pub mod Flags
 pub mod Spread
+pub mod Walks
 pub mod Surveys
 pub mod Cycles
 pub mod Peels

@@ -13,10 +13,10 @@ use Rattle.rs_project.specs.Graph.{IsUnreached}
 use Rattle.rs_project.specs.Marks.{Among, AllAwaited, AreCommon, HasFlags, IsLive, IsOn, IsSettled, IsSpread, IsSurvey, Spreading, StartEnds, StartMeets, Survey_data, involves_role, leads_on, nexts_of_node, unmarked}
 use Rattle.rs_project.specs.Refusals.{IsFront, NoneUnreached}
 use Rattle.rs_project.proofs.Cycles.{is-live, least-so-far, nexts-within, none-at-all, none-more, passes-unreached, round-found, round-marked, round-of, unreached-by}
-use Rattle.rs_project.proofs.Flags.{on-decide, on-within, set-on, set-unmarked}
+use Rattle.rs_project.proofs.Flags.{none-on, off-flag, on-decide, on-within, set-on, set-unmarked}
 use Rattle.rs_project.proofs.Lists.{among-at, at-read, at-short, at-within}
 use Rattle.rs_project.proofs.Meetings.{common-less, common-more, is-front, none-common}
-use Rattle.rs_project.proofs.Spread.{begun, gone-on, marked-before, marked-now, popped-within, spread-whole, stopped}
+use Rattle.rs_project.proofs.Spread.{begun, gone-on, marked-before, marked-now, first-within, spread-whole, stopped}
 use Rattle.rs_project.proofs.Surveys.{awaited-set, is-survey}
 
 -- P of all, of one among them
@@ -24,23 +24,6 @@ pub among-all : {A : Type 0} (P : A → Type 0) (xs : List A) → All P xs → (
 among-all P xs h x m =
     let at = among-at xs x m in
     subst P (at-read xs at.0 x x at.1) (h at.0 x (at-short xs at.0 x at.1))
-
-pub off-flag : (flags : List Bool) (n : ℕ) → (IsOn flags n → ⊥) → get_or flags n false ≡ false
-off-flag flags n h = go (get_or flags n false) refl
-  where
-    go : (b : Bool) → get_or flags n false ≡ b → get_or flags n false ≡ false
-    go true e = absurd (h e)
-    go false e = e
-
--- a list that has an item, cut before its last one
-record Cut {A : Type 0} (xs : List A) : Type 0 where
-  pub front : List A
-  pub last : A
-  pub is : xs ≡ front ++ (last ∷ [])
-
-cut : {A : Type 0} (x : A) (xs : List A) → Cut (x ∷ xs)
-cut x [] = record { front = []; last = x; is = refl }
-cut {A} x (y ∷ xs) = let c = cut y xs in record { front = x ∷ c.front; last = c.last; is = ap (λ (z : List A). x ∷ z) c.is }
 
 -- all that is to be marked soon is marked
 record Marked (pr : Protocol_data) (th : List Bool) (starts : List ℕ) (marks : List Bool) (todo : List ℕ) : Type 0 where
@@ -70,19 +53,16 @@ spread-on : (pr : Protocol_data) (th : List Bool) (starts : List ℕ) → IsWell
 spread-on pr th starts wf k marks [] size le s = (marks, spread-whole pr th starts marks size s)
 spread-on pr th starts wf zero marks (x ∷ todo) size le s = absurd (omega (arith, le))
 spread-on pr th starts wf (suc k) marks (x ∷ todo) size le s =
-    let c = cut x todo in
-    let w = popped-within pr th starts marks (x ∷ todo) c.front c.last c.is size s in
-    let at = at-within pr.nodes c.last w in
-    let l : length (x ∷ todo) ≡ length (c.front ++ (c.last ∷ [])) = ap length c.is in
-    let a = length-append c.front (c.last ∷ []) in
-    elim (on-decide th c.last) [
+    let w = first-within pr th starts marks todo x size s in
+    let at = at-within pr.nodes x w in
+    elim (on-decide th x) [
       | inl on ↦ (
-          let m = mark-all pr th starts (nexts_of_node at.0) marks c.front
-          (λ y h. (let k = among-all (λ s. s < length pr.nodes) (nexts_of_node at.0) (nexts-within pr c.last at.0 wf at.1) y h in omega (arith, k, size)))
-          (gone-on pr th starts marks (x ∷ todo) c.front c.last at.0 c.is at.1 on s) in
+          let m = mark-all pr th starts (nexts_of_node at.0) marks todo
+          (λ y h. (let k = among-all (λ s. s < length pr.nodes) (nexts_of_node at.0) (nexts-within pr x at.0 wf at.1) y h in omega (arith, k, size)))
+          (gone-on pr th starts marks todo x at.0 at.1 on s) in
           let o = m.owed in
-          spread-on pr th starts wf k m.marks' m.todo' (m.size ∙ size) (omega (arith, o, l, a, le)) m.going)
-      | inr off ↦ spread-on pr th starts wf k marks c.front size (omega (arith, l, a, le)) (stopped pr th starts marks (x ∷ todo) c.front c.last c.is (off-flag th c.last off) s)
+          spread-on pr th starts wf k m.marks' m.todo' (m.size ∙ size) (omega (arith, o, le)) m.going)
+      | inr off ↦ spread-on pr th starts wf k marks todo size (omega (arith, le)) (stopped pr th starts marks todo x (off-flag th x off) s)
     ]
 
 -- there are marks of all nodes to which the starts spread
@@ -90,7 +70,7 @@ pub spread-any : (pr : Protocol_data) (th : List Bool) (starts : List ℕ) → I
 spread-any pr th starts wf w =
     let none = replicate (length pr.nodes) false in
     let size : length none ≡ length pr.nodes = length-replicate (length pr.nodes) false in
-    let m = mark-all pr th starts starts none [] (λ x h. (let k = w x h in omega (arith, k, size))) (begun pr th starts (length pr.nodes)) in
+    let m = mark-all pr th starts starts none [] (λ x h. (let k = w x h in omega (arith, k, size))) (begun pr th starts none (none-on (length pr.nodes))) in
     spread-on pr th starts wf (unmarked m.marks' + length m.todo') m.marks' m.todo' (m.size ∙ size) (omega arith) m.going
 
 -- a node that isn't flagged and leads to a flagged one

@@ -1,5 +1,5 @@
 -- What is first met, by marks.
-use Rattle.std.proofs.Common.{◌≡◌, ◌⊎◌, inl, inr, ℕ, zero, suc, ◌+◌, ◌<◌, Bool, true, false, ◌&&◌, List, [], ◌∷◌, ◌++◌, length, get_or, refl, sym, subst, arith}
+use Rattle.std.proofs.Common.{◌≡◌, ◌⊎◌, inl, inr, ℕ, zero, suc, ◌+◌, ◌<◌, Bool, true, false, List, [], ◌∷◌, ◌++◌, length, get_or, refl, sym, subst, arith}
 use Rattle.std.proofs.lemmas.Bool.{cases_lt}
 use Rattle.std.proofs.lemmas.List.Quantifiers.{all_pairs_push}
 use Rattle.rs_model.specs.Data.{Protocol_data}
@@ -9,7 +9,7 @@ use Rattle.rs_project.specs.Marks.{Among, IsOn, IsSpread, IsSurvey, Survey_data,
 use Rattle.rs_project.specs.Refusals.{IsFront}
 use Rattle.rs_project.proofs.Flags.{on-within, on-decide}
 use Rattle.rs_project.proofs.Lists.{contained, contains, among-left, among-right, among-split}
-use Rattle.rs_project.proofs.Cycles.{passing-steps, flagged-steps, and-split, and-join}
+use Rattle.rs_project.proofs.Cycles.{passing-steps, flagged-steps}
 
 pub none-common : (one other : List Bool) → AreCommon one other 0 []
 none-common one other = record {
@@ -121,9 +121,3 @@ meets-some pr role sv is n = elim (on-decide sv.awaited n) [
   | inl o ↦ (let a = is.awaited n o in inl (meets-by pr role sv is a.reached.0 n a.talk a.reached.1 a.involved))
   | inr none ↦ inr record { steps = []; last = n; path = refl; earlier = tt; idle = is.idle n none }
 ]
-
-pub both-on : (one other : List Bool) (i : ℕ) → (get_or one i false && get_or other i false) ≡ true → IsOn one i × IsOn other i
-both-on one other i h = and-split (get_or one i false) (get_or other i false) h
-
-pub not-both-on : (one other : List Bool) (i : ℕ) → (get_or one i false && get_or other i false) ≡ false → IsOn one i → IsOn other i → ⊥
-not-both-on one other i h a b = cc (and-join (get_or one i false) (get_or other i false) a b, h)

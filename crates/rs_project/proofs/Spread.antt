@@ -1,5 +1,5 @@
 -- Marks that spread from starts through flagged nodes.
-use Rattle.std.proofs.Common.{◌≡◌, inl, inr, ℕ, zero, suc, ◌<◌, Bool, true, false, List, [], ◌∷◌, ◌++◌, length, set, get_or, replicate, Some, slice_get, refl, sym, subst, arith}
+use Rattle.std.proofs.Common.{◌≡◌, inl, inr, ℕ, zero, suc, ◌<◌, Bool, true, false, List, [], ◌∷◌, ◌++◌, length, set, get_or, Some, slice_get, refl, sym, subst, arith}
 use Rattle.std.proofs.lemmas.Option.{slice_get-get_or}
 use Rattle.rs_model.specs.Data.{Protocol_data}
 use Rattle.rs_model.specs.declared.graph.Arm.{Arm}
@@ -10,7 +10,7 @@ use Rattle.rs_wellformed.specs.WellFormed.{IsWellFormed}
 use Rattle.rs_project.specs.Marks.{Among, LeadsWithin, IsOn, AllOn, Spreads, Spreading, IsSpread, nexts_of_node}
 use Rattle.rs_project.specs.Numbered.{nexts_of}
 use Rattle.rs_project.proofs.Lists.{among-split, among-left, among-right, at-among, at-map}
-use Rattle.rs_project.proofs.Flags.{on-within, none-on, set-on, set-itself, set-only}
+use Rattle.rs_project.proofs.Flags.{on-within, set-on, set-itself, set-only}
 
 abbrev pub step_of : ℕ → ℕ → PathStep
 step_of g a = record { node = g; place = a }
@@ -34,13 +34,13 @@ spreads-on pr th starts n place next s on goes = record {
 }
 
 -- nothing is marked yet
-pub begun : (pr : Protocol_data) (th : List Bool) (starts : List ℕ) (count : ℕ) → Spreading pr th starts (replicate count false) [] starts
-begun pr th starts count = record {
-  sound = λ n h. absurd (none-on count n h);
+pub begun : (pr : Protocol_data) (th : List Bool) (starts : List ℕ) (marks : List Bool) → ((n : ℕ) → IsOn marks n → ⊥) → Spreading pr th starts marks [] starts
+begun pr th starts marks none = record {
+  sound = λ n h. absurd (none n h);
   right = λ n h. record { start = n; among = h; steps = []; path = refl; earlier = tt };
   listed = λ n h. absurd h;
   begun = λ s h. inr h;
-  closed = λ n place next h on goes. absurd (none-on count n h);
+  closed = λ n place next h on goes. absurd (none n h);
 }
 
 -- the node is marked already
@@ -105,42 +105,34 @@ among-leads pr n next (Talk sender receiver arms) is h =
     let r = among-next arms next h in
     (r.0, record { sender = sender; receiver = receiver; arms = arms; arm = r.1; talks = is; stands = r.2; leads = r.3 })
 
--- the last of those listed is gone on from, through
-pub gone-on : (pr : Protocol_data) (th : List Bool) (starts : List ℕ) (marks : List Bool) (all todo : List ℕ) (n : ℕ) (node : Node) → all ≡ todo ++ (n ∷ [])
-    → slice_get pr.nodes n ≡ Some node → IsOn th n → Spreading pr th starts marks all [] → Spreading pr th starts marks todo (nexts_of_node node)
-gone-on pr th starts marks all todo n node e is on s = record {
+-- the first of those listed is gone on from, through
+pub gone-on : (pr : Protocol_data) (th : List Bool) (starts : List ℕ) (marks : List Bool) (todo : List ℕ) (n : ℕ) (node : Node)
+    → slice_get pr.nodes n ≡ Some node → IsOn th n → Spreading pr th starts marks (n ∷ todo) [] → Spreading pr th starts marks todo (nexts_of_node node)
+gone-on pr th starts marks todo n node is on s = record {
   sound = s.sound;
-  right = λ m h. (let r = among-leads pr n m node is h in
-      let P : List ℕ → Type 0 = λ z. Among z n in
-      spreads-on pr th starts n r.0 m (s.sound n (s.listed n (subst P (sym e) (among-right todo (n ∷ []) n (inl refl))))) on r.1);
-  listed = λ m h. (let P : List ℕ → Type 0 = λ z. Among z m in s.listed m (subst P (sym e) (among-left todo (n ∷ []) m h)));
+  right = λ m h. (let r = among-leads pr n m node is h in spreads-on pr th starts n r.0 m (s.sound n (s.listed n (inl refl))) on r.1);
+  listed = λ m h. s.listed m (inr h);
   begun = λ b h. elim (s.begun b h) [ inl k ↦ inl k | inr k ↦ absurd k ];
   closed = λ m place next h o goes. elim (s.closed m place next h o goes) [
     | inl k ↦ inl k
-    | inr (inl k) ↦ (let P : List ℕ → Type 0 = λ z. Among z m in elim (among-split todo (n ∷ []) m (subst P e k)) [
-      | inl j ↦ inr (inl j)
-      | inr (inl f) ↦ (let Q : ℕ → Type 0 = λ z. LeadsTo pr z place next in inr (inr (leads-among pr n place next node is (subst Q (sym f) goes))))
-      | inr (inr j) ↦ absurd j
-    ])
+    | inr (inl (inl f)) ↦ (let Q : ℕ → Type 0 = λ z. LeadsTo pr z place next in inr (inr (leads-among pr n place next node is (subst Q (sym f) goes))))
+    | inr (inl (inr j)) ↦ inr (inl j)
     | inr (inr k) ↦ absurd k
   ];
 }
 
 -- .. not through
-pub stopped : (pr : Protocol_data) (th : List Bool) (starts : List ℕ) (marks : List Bool) (all todo : List ℕ) (n : ℕ) → all ≡ todo ++ (n ∷ [])
-    → get_or th n false ≡ false → Spreading pr th starts marks all [] → Spreading pr th starts marks todo []
-stopped pr th starts marks all todo n e off s = record {
+pub stopped : (pr : Protocol_data) (th : List Bool) (starts : List ℕ) (marks : List Bool) (todo : List ℕ) (n : ℕ)
+    → get_or th n false ≡ false → Spreading pr th starts marks (n ∷ todo) [] → Spreading pr th starts marks todo []
+stopped pr th starts marks todo n off s = record {
   sound = s.sound;
   right = s.right;
-  listed = λ m h. (let P : List ℕ → Type 0 = λ z. Among z m in s.listed m (subst P (sym e) (among-left todo (n ∷ []) m h)));
+  listed = λ m h. s.listed m (inr h);
   begun = s.begun;
   closed = λ m place next h o goes. elim (s.closed m place next h o goes) [
     | inl k ↦ inl k
-    | inr (inl k) ↦ (let P : List ℕ → Type 0 = λ z. Among z m in elim (among-split todo (n ∷ []) m (subst P e k)) [
-      | inl j ↦ inr (inl j)
-      | inr (inl f) ↦ (let Q : ℕ → Type 0 = λ z. IsOn th z in let on : IsOn th n = subst Q (sym f) o in absurd (cc (on, off)))
-      | inr (inr j) ↦ absurd j
-    ])
+    | inr (inl (inl f)) ↦ (let Q : ℕ → Type 0 = λ z. IsOn th z in let on : IsOn th n = subst Q (sym f) o in absurd (cc (on, off)))
+    | inr (inl (inr j)) ↦ inr (inl j)
     | inr (inr k) ↦ absurd k
   ];
 }
@@ -164,11 +156,10 @@ spread-whole pr th starts marks size s = record {
   whole = λ n w. elim (s.begun w.start w.among) [ inl k ↦ spread-along pr th starts marks s w.steps w.start n k w.path w.earlier | inr k ↦ absurd k ];
 }
 
-pub popped-within : (pr : Protocol_data) (th : List Bool) (starts : List ℕ) (marks : List Bool) (all todo : List ℕ) (n : ℕ) → all ≡ todo ++ (n ∷ [])
-    → length marks ≡ length pr.nodes → Spreading pr th starts marks all [] → n < length pr.nodes
-popped-within pr th starts marks all todo n e size s =
-    let P : List ℕ → Type 0 = λ z. Among z n in
-    let w = on-within marks n (s.listed n (subst P (sym e) (among-right todo (n ∷ []) n (inl refl)))) in
+pub first-within : (pr : Protocol_data) (th : List Bool) (starts : List ℕ) (marks : List Bool) (todo : List ℕ) (n : ℕ)
+    → length marks ≡ length pr.nodes → Spreading pr th starts marks (n ∷ todo) [] → n < length pr.nodes
+first-within pr th starts marks todo n size s =
+    let w = on-within marks n (s.listed n (inl refl)) in
     omega arith
 
 pub leads-within : (pr : Protocol_data) (n : ℕ) (node : Node) (count : ℕ) → IsWellFormed pr → slice_get pr.nodes n ≡ Some node → count ≡ length pr.nodes → LeadsWithin count node

@@ -42,6 +42,7 @@ both_receive role (Talk s r arms) Finished = false
 both_receive role (Talk s r arms) (Talk t q theirs) =
     (r.0 == role.0) && ((q.0 == role.0) && ((s.0 == t.0) && same_sorts theirs arms))
 
+-- the role can do the one where it can't tell it from the other
 abbrev pub agree_nodes : Role → Node → Node → Bool
 agree_nodes role one other = both_send role one other || both_receive role one other
 

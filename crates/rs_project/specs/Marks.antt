@@ -1,5 +1,5 @@
 -- Steps: what the search over the graph keeps: flags of nodes.
-use Rattle.std.specs.Prelude.{◌≡◌, ◌≢◌, ◌⊎◌, ◌↔◌, ℕ, ◌<◌, Bool, true, false, suc, List, [], ◌∷◌, length, slice_index_or, if◌then◌else◌, ◌==◌, ◌||◌, Option, None, Some, slice_get}
+use Rattle.std.specs.Prelude.{◌≡◌, ◌≢◌, ◌⊎◌, ◌↔◌, ℕ, ◌<◌, ◌≤◌, Bool, true, false, suc, List, [], ◌∷◌, ◌++◌, length, drop, slice_index_or, slice_set, if◌then◌else◌, ◌==◌, ◌||◌, Option, None, Some, slice_get}
 use Rattle.std.specs.List.{All, AllPairs}
 use Rattle.rs_model.specs.Data.{Protocol_data}
 use Rattle.rs_model.specs.declared.graph.Arm.{Arm}
@@ -55,6 +55,30 @@ pub record Spreading (protocol : Protocol_data) (through : List Bool) (starts : 
   pub begun : (s : ℕ) → Among starts s → IsOn marks s ⊎ Among soon s
   pub closed : (n place next : ℕ) → IsOn marks n → IsOn through n → LeadsTo protocol n place next
       → IsOn marks next ⊎ (Among todo n ⊎ Among soon next)
+
+-- flags of nodes, and the numbers of the nodes that were marked
+pub record Marks_data : Type 0 where
+  pub flags : List Bool
+  pub numbers : List ℕ
+
+-- the numbers are those of the flags that stand
+abbrev pub AreListed : List Bool → List ℕ → Type 0
+AreListed flags numbers = (n : ℕ) → IsOn flags n ↔ Among numbers n
+
+-- .. with the mark of one more node
+abbrev pub with_mark : Marks_data → ℕ → Marks_data
+with_mark marks n = record { flags = slice_set marks.flags n true; numbers = marks.numbers ++ (n ∷ []) }
+
+-- the flags without those of these nodes
+abbrev pub cleared : List ℕ → List Bool → List Bool
+cleared [] flags = flags
+cleared (n ∷ ns) flags = cleared ns (slice_set flags n false)
+
+-- marks that spread so far: so many of the marked nodes, the first ones, were gone on from, and the nodes of `soon` are
+-- still to be marked
+pub record Walking (protocol : Protocol_data) (through : List Bool) (starts : List ℕ) (marks : Marks_data) (done : ℕ) (soon : List ℕ) : Type 0 where
+  pub within : done ≤ length marks.numbers
+  pub going : Spreading protocol through starts marks.flags (drop done marks.numbers) soon
 
 -- the marks are those of all nodes to which the starts spread
 pub record IsSpread (protocol : Protocol_data) (through : List Bool) (starts : List ℕ) (marks : List Bool) : Type 0 where
@@ -123,6 +147,7 @@ pub record Survey_data : Type 0 where
   pub awaited : List Bool
   pub passing : List Bool
 
+-- the survey tells this of each node of the protocol
 pub record IsSurvey (protocol : Protocol_data) (role : Role) (survey : Survey_data) : Type 0 where
   pub involved_size : length survey.involved ≡ length protocol.nodes
   pub awaited_size : length survey.awaited ≡ length protocol.nodes

@@ -29,6 +29,7 @@ pub record Choice : Type 0 where
   pub label : Label
   pub sort : Sort
 
+-- the choice that an arm says
 abbrev pub choice_of : Arm → Choice
 choice_of arm = record { label = arm.label; sort = arm.sort }
 

@@ -57,6 +57,7 @@ pub record FindsNone (protocol : Protocol_data) (role : Role) (old : List Front_
   pub many : length old ≡ MOST_STATES
   pub new : IsNew old front
 
+-- what a fault of finding the front behind the label tells
 abbrev pub FindFault : Protocol_data → Role → List Front_data → List ℕ → Label → ProjFault → Type 0
 FindFault protocol role old talks label (TooManyStates r) = (r ≡ role) × FindsNone protocol role old talks label
 FindFault protocol role old talks label (Unmergeable r a b) = ⊥
@@ -89,6 +90,7 @@ pub record TooManyAt (protocol : Protocol_data) (role : Role) (old : List Front_
   pub discovers : Discovers protocol role old talks before fronts row
   pub none : FindsNone protocol role fronts talks choice.label
 
+-- what a fault of the work on the choices tells
 abbrev pub ArmsFault : Protocol_data → Role → List Front_data → List ℕ → List Choice → ProjFault → Type 0
 ArmsFault protocol role old talks choices (TooManyStates r) = (r ≡ role) × TooManyAt protocol role old talks choices
 ArmsFault protocol role old talks choices (Unmergeable r a b) = ⊥
@@ -126,6 +128,7 @@ pub record OverflowsAt (protocol : Protocol_data) (role : Role) (fronts : List F
   pub merges : Merges protocol role front
   pub many : TooManyAt protocol role fronts front.talks (merged_choices protocol front.talks)
 
+-- what a fault of the work on the state with that number tells
 abbrev pub StateFault : Protocol_data → Role → List Front_data → ℕ → ProjFault → Type 0
 StateFault protocol role fronts number (Unmergeable r a b) = (r ≡ role) × ClashesAt protocol role fronts number a b
 StateFault protocol role fronts number (TooManyStates r) = (r ≡ role) × OverflowsAt protocol role fronts number

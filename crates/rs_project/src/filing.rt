@@ -78,6 +78,14 @@ impl Fronts {
         self.items.as_slice()
     }
 
+    /// The fronts, without the index.
+    pub fn into_items(self) -> Vec<Front>
+        ensures { result.items ≡ self }
+    {
+        let Fronts { items, .. } = self;
+        items
+    }
+
     /// How many there are.
     pub fn len(&self) -> usize
         ensures { result ≡ length self.now }

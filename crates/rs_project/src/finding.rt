@@ -1,4 +1,4 @@
-ghost use Rattle.std.specs.Prelude.{◌≡◌, ◌<◌, ◌≤◌, ◌^◌, ◌∷◌, [], ℕ, true, false, map, length, slice_get, Some, IfOk, IfErr, MatchOption};
+ghost use Rattle.std.specs.Prelude.{◌≡◌, ◌<◌, ◌≤◌, ◌∷◌, [], ℕ, true, false, map, length, slice_get, Some, IfOk, IfErr, MatchOption};
 ghost use Rattle.std.specs.List.{All};
 ghost use Rattle.rs_project.specs.Marks.{IsSurvey};
 ghost use Rattle.rs_project.specs.Order.{IsOnce};
@@ -11,6 +11,7 @@ use crate::ProjFault;
 use crate::filing::Fronts;
 use crate::fronts::{Front, front_of};
 use crate::merging::starts_behind;
+use crate::spreading::Marks;
 use crate::surveying::Survey;
 use rs_model::{Arm, Arms, Label, MOST_STATES, NoMemory, Protocol, Role};
 use std::alloc::Global;
@@ -20,12 +21,12 @@ pub fn arms_of(
     alloc: Global,
     protocol: &Protocol,
     survey: &Survey,
+    marks: &mut Marks,
     talks: &[u32],
     choices: &[Arm],
     fronts: &mut Fronts,
 ) -> Result<Arms, ProjFault>
     requires well_formed { IsWellFormed protocol.now }
-    requires few { length protocol.now.nodes < 2 ^ 32 }
     requires survey { IsSurvey protocol.now survey.now.role survey.now }
     requires talks { All (λ t. t < length protocol.now.nodes) talks.now }
     requires choices { map choice_of choices.now ≡ merged_choices protocol.now talks.now }
@@ -36,10 +37,7 @@ pub fn arms_of(
 {
     let mut arms = Arms::new(alloc);
     for choice in choices {
-        let next = match find(alloc, protocol, survey, talks, choice.label, fronts) {
-            Ok(next) => next,
-            Err(fault) => return Err(fault),
-        };
+        let next = find(alloc, protocol, survey, marks, talks, choice.label, fronts)?;
         arms.push(Arm {
             label: choice.label,
             sort: choice.sort,
@@ -54,40 +52,38 @@ fn find(
     alloc: Global,
     protocol: &Protocol,
     survey: &Survey,
+    marks: &mut Marks,
     talks: &[u32],
     label: Label,
     fronts: &mut Fronts,
 ) -> Result<u32, ProjFault>
     requires well_formed { IsWellFormed protocol.now }
-    requires few { length protocol.now.nodes < 2 ^ 32 }
     requires survey { IsSurvey protocol.now survey.now.role survey.now }
     requires talks { All (λ t. t < length protocol.now.nodes) talks.now }
     requires fronts { length fronts.old ≤ MOST_STATES }
     ensures ok { IfOk result (λ n. Finds protocol.now survey.now.role fronts.old talks.now label fronts.new n) }
     ensures err { IfErr result (λ e. FindFault protocol.now survey.now.role fronts.old talks.now label e) }
 {
-    let front = front_behind(alloc, protocol, survey, talks, label)?;
-    match number_of(survey.role, fronts, front) {
-        Ok(number) => Ok(number),
-        Err(fault) => Err(fault),
-    }
+    let front = front_behind(alloc, protocol, survey, marks, talks, label)?;
+    let number = number_of(survey.role, fronts, front)?;
+    Ok(number)
 }
 
 fn front_behind(
     alloc: Global,
     protocol: &Protocol,
     survey: &Survey,
+    marks: &mut Marks,
     talks: &[u32],
     label: Label,
 ) -> Result<Front, NoMemory>
     requires well_formed { IsWellFormed protocol.now }
-    requires few { length protocol.now.nodes < 2 ^ 32 }
     requires survey { IsSurvey protocol.now survey.now.role survey.now }
     requires talks { All (λ t. t < length protocol.now.nodes) talks.now }
     ensures { IfOk result (λ f. IsFrontBehind protocol.now survey.now.role talks.now label f) }
 {
     let starts = starts_behind(alloc, protocol, talks, label)?;
-    let front = front_of(alloc, protocol, survey, &starts)?;
+    let front = front_of(alloc, protocol, survey, marks, &starts)?;
     Ok(front)
 }
 

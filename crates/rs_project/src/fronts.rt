@@ -1,10 +1,10 @@
-ghost use Rattle.std.specs.Prelude.{◌≡◌, ◌<◌, ◌^◌, ◌&&◌, ℕ, true, false, not, length, slice_index_or, IfOk};
-ghost use Rattle.std.specs.List.{All};
-ghost use Rattle.rs_project.specs.Marks.{AreCommon, IsOn, IsSurvey, StartEnds, StartMeets};
+ghost use Rattle.std.specs.Prelude.{◌≡◌, ◌↔◌, ◌<◌, ℕ, false, not, length, slice_index_or, IfOk};
+ghost use Rattle.std.specs.List.{All, AllPairs, Contains, filter, list_any};
+ghost use Rattle.rs_project.specs.Marks.{IsSurvey, StartEnds, StartMeets};
 ghost use Rattle.rs_project.specs.Refusals.{IsFront};
 ghost use Rattle.rs_wellformed.specs.WellFormed.{IsWellFormed};
 
-use crate::spreading::spread;
+use crate::spreading::Marks;
 use crate::surveying::Survey;
 use rs_model::{NoMemory, Protocol};
 use std::alloc::Global;
@@ -25,66 +25,62 @@ impl Model for Front {
     ghost view = { λ f. record { talks = f.talks.items; ends = f.ends } };
 }
 
-/// What the role may meet first from one of the nodes in `starts`.
+/// What the role may meet first from one of the nodes in `starts`. It is found by marks, whatever they were before.
 pub fn front_of(
     alloc: Global,
     protocol: &Protocol,
     survey: &Survey,
+    marks: &mut Marks,
     starts: &[u32],
 ) -> Result<Front, NoMemory>
     requires well_formed { IsWellFormed protocol.now }
-    requires few { length protocol.now.nodes < 2 ^ 32 }
     requires survey { IsSurvey protocol.now survey.now.role survey.now }
     requires starts { All (λ s. s < length protocol.now.nodes) starts.now }
     ensures { IfOk result (λ f. IsFront f (StartMeets protocol.now survey.now.role starts.now) (StartEnds protocol.now survey.now.role starts.now)) }
 {
-    let marks = spread(alloc, protocol, &survey.passing, starts)?;
-    let talks = common_numbers(alloc, &marks, &survey.involved)?;
-    let ends = has_other(&marks, &survey.awaited);
-    Ok(Front { talks, ends })
+    marks.spread(protocol, &survey.passing, starts)?;
+    let numbers = marks.as_slice();
+    let talks = flagged(alloc, numbers, &survey.involved)?;
+    let ends = has_unflagged(numbers, &survey.awaited);
+    Ok(Front {
+        talks: in_order(talks),
+        ends,
+    })
 }
 
-// The numbers of the flags that stand in both lists, in order.
-fn common_numbers(alloc: Global, ours: &[bool], theirs: &[bool]) -> Result<Vec<u32>, NoMemory>
-    requires few { length ours.now < 2 ^ 32 }
-    requires same { length theirs.now ≡ length ours.now }
-    ensures { IfOk result (λ v. AreCommon ours.now theirs.now (length ours.now) v.items) }
+// Those of the numbers whose flag stands.
+fn flagged(alloc: Global, numbers: &[u32], flags: &[bool]) -> Result<Vec<u32>, NoMemory>
+    requires { All (λ n. n < length flags.now) numbers.now }
+    ensures { IfOk result (λ v. v.items ≡ filter (λ n. slice_index_or flags.now n false) numbers.now) }
 {
-    let mut numbers = Vec::new(alloc);
-    for i in 0..ours.len() {
-        if stands_in_both(ours, theirs, i) {
-            numbers.push(i as u32)?;
+    let mut those = Vec::new(alloc);
+    for number in numbers {
+        if flags[*number as usize] {
+            those.push(*number)?;
         }
     }
-    Ok(numbers)
+    Ok(those)
 }
 
-fn stands_in_both(ours: &[bool], theirs: &[bool], i: usize) -> bool
-    requires ours { i < length ours.now }
-    requires theirs { i < length theirs.now }
-    ensures { result ≡ (slice_index_or ours.now i false && slice_index_or theirs.now i false) }
+// The numbers in order, each once.
+fn in_order(mut numbers: Vec<u32>) -> Vec<u32>
+    ensures rising { AllPairs (λ (n m : ℕ). n < m) result.items }
+    ensures same { (n : ℕ) → Contains result.items n ↔ Contains numbers.items n }
 {
-    ours[i] && theirs[i]
+    numbers.sort_unstable();
+    numbers.dedup();
+    numbers
 }
 
-// Whether a flag stands in our list alone.
-fn has_other(ours: &[bool], theirs: &[bool]) -> bool
-    requires { length theirs.now ≡ length ours.now }
-    ensures sound { result ≡ true → (n : ℕ) × IsOn ours.now n × (IsOn theirs.now n → ⊥) }
-    ensures whole { result ≡ false → (n : ℕ) → n < length ours.now → IsOn ours.now n → IsOn theirs.now n }
+// Whether the flag of one of the numbers doesn't stand.
+fn has_unflagged(numbers: &[u32], flags: &[bool]) -> bool
+    requires { All (λ n. n < length flags.now) numbers.now }
+    ensures { result ≡ list_any (λ n. not (slice_index_or flags.now n false)) numbers.now }
 {
-    for i in 0..ours.len() {
-        if stands_in_ours(ours, theirs, i) {
+    for number in numbers {
+        if !flags[*number as usize] {
             return true;
         }
     }
     false
-}
-
-fn stands_in_ours(ours: &[bool], theirs: &[bool], i: usize) -> bool
-    requires ours { i < length ours.now }
-    requires theirs { i < length theirs.now }
-    ensures { result ≡ (slice_index_or ours.now i false && not (slice_index_or theirs.now i false)) }
-{
-    ours[i] && !theirs[i]
 }

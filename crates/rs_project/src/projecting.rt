@@ -16,6 +16,7 @@ use crate::finding::arms_of;
 use crate::fronts::{Front, front_of};
 use crate::merging::merged_arms;
 use crate::rounds::first_unreached;
+use crate::spreading::Marks;
 use crate::surveying::{Survey, survey_of};
 use rs_model::{Arms, Machine, NoMemory, Node, Protocol, Role, State};
 use std::alloc::{AllocError, AllocFailed, Global};
@@ -103,11 +104,9 @@ pub fn project(alloc: Global, protocol: &Protocol, role: Role) -> Result<Project
     if let Some(node) = first_unreached(alloc, protocol, &survey)? {
         return Err(ProjFault::Unreached { role, node });
     }
-    let start = front_of(alloc, protocol, &survey, &[protocol.root])?;
-    let projection = match work(alloc, protocol, &survey, start) {
-        Ok(projection) => projection,
-        Err(fault) => return Err(fault),
-    };
+    let mut marks = Marks::new(alloc);
+    let start = front_of(alloc, protocol, &survey, &mut marks, &[protocol.root])?;
+    let projection = work(alloc, protocol, &survey, &mut marks, start)?;
     Ok(projection)
 }
 
@@ -115,10 +114,10 @@ fn work(
     alloc: Global,
     protocol: &Protocol,
     survey: &Survey,
+    marks: &mut Marks,
     start: Front,
 ) -> Result<Projection, ProjFault>
     requires well_formed { IsWellFormed protocol.now }
-    requires few { length protocol.now.nodes < 2 ^ 32 }
     requires survey { IsSurvey protocol.now survey.now.role survey.now }
     requires reached { NoneUnreached protocol.now survey.now.role }
     requires start { IsFront start (MeetsFirst protocol.now survey.now.role protocol.now.root) (MeetsTheEnd protocol.now survey.now.role protocol.now.root) }
@@ -129,13 +128,10 @@ fn work(
     fronts.add(start)?;
     let mut states: Vec<State> = Vec::new(alloc);
     while states.len() < fronts.len() {
-        let state = match state_of(alloc, protocol, survey, states.len(), &mut fronts) {
-            Ok(state) => state,
-            Err(fault) => return Err(fault),
-        };
+        let state = state_of(alloc, protocol, survey, marks, states.len(), &mut fronts)?;
         states.push(state)?;
     }
-    let sets = sets_of(alloc, fronts.as_slice())?;
+    let sets = sets_of(alloc, fronts.into_items())?;
     let machine = Machine {
         role: survey.role,
         states,
@@ -148,11 +144,11 @@ fn state_of(
     alloc: Global,
     protocol: &Protocol,
     survey: &Survey,
+    marks: &mut Marks,
     number: usize,
     fronts: &mut Fronts,
 ) -> Result<State, ProjFault>
     requires well_formed { IsWellFormed protocol.now }
-    requires few { length protocol.now.nodes < 2 ^ 32 }
     requires survey { IsSurvey protocol.now survey.now.role survey.now }
     requires found { AreFound protocol.now survey.now.role fronts.old }
     requires number { number < length fronts.old }
@@ -168,10 +164,7 @@ fn state_of(
         });
     }
     let talks = Vec::from_slice(alloc, &front.talks)?;
-    let state = match merged_state(alloc, protocol, survey, &talks, fronts) {
-        Ok(state) => state,
-        Err(fault) => return Err(fault),
-    };
+    let state = merged_state(alloc, protocol, survey, marks, &talks, fronts)?;
     Ok(state)
 }
 
@@ -180,11 +173,11 @@ fn merged_state(
     alloc: Global,
     protocol: &Protocol,
     survey: &Survey,
+    marks: &mut Marks,
     talks: &[u32],
     fronts: &mut Fronts,
 ) -> Result<State, ProjFault>
     requires well_formed { IsWellFormed protocol.now }
-    requires few { length protocol.now.nodes < 2 ^ 32 }
     requires survey { IsSurvey protocol.now survey.now.role survey.now }
     requires found { AreFound protocol.now survey.now.role fronts.old }
     requires involved { (t : ℕ) → Among talks.now t → Involves protocol.now survey.now.role t }
@@ -194,10 +187,7 @@ fn merged_state(
     ensures err { IfErr result (λ e. ArmsFault protocol.now survey.now.role fronts.old talks.now (merged_choices protocol.now talks.now) e) }
 {
     let choices = merged_arms(alloc, protocol, talks)?;
-    let arms = match arms_of(alloc, protocol, survey, talks, &choices, fronts) {
-        Ok(arms) => arms,
-        Err(fault) => return Err(fault),
-    };
+    let arms = arms_of(alloc, protocol, survey, marks, talks, &choices, fronts)?;
     Ok(act_of(protocol, survey.role, talks, arms))
 }
 
@@ -235,12 +225,13 @@ fn act_of(protocol: &Protocol, role: Role, talks: &[u32], arms: Arms) -> State
     }
 }
 
-fn sets_of(alloc: Global, fronts: &[Front]) -> Result<Vec<Vec<u32>>, NoMemory>
-    ensures { IfOk result (λ v. map (λ s. s.items) v.items ≡ map (λ f. f.talks) fronts.now) }
+fn sets_of(alloc: Global, fronts: Vec<Front>) -> Result<Vec<Vec<u32>>, NoMemory>
+    ensures { IfOk result (λ v. map (λ s. s.items) v.items ≡ map (λ f. f.talks) fronts.items) }
 {
-    let mut sets = Vec::new(alloc);
+    let mut sets = Vec::with_capacity(alloc, fronts.len())?;
     for front in fronts {
-        sets.push(Vec::from_slice(alloc, &front.talks)?)?;
+        let Front { talks, .. } = front;
+        sets.push(talks)?;
     }
     Ok(sets)
 }

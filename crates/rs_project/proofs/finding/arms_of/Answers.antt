@@ -4,7 +4,8 @@ use Rattle.rs_model.specs.declared.graph.Arm.{Arm}
 use Rattle.rs_model.specs.declared.values.Sort.TheVariants.{Unit as unit}
 use Rattle.rs_project.specs.Numbered.{nexts_of}
 use Rattle.rs_project.specs.Projection.{choice_of}
-use Rattle.rs_project.specs.Working.{Discovers}
+use Rattle.rs_project.specs.Working.{ArmsFault, Discovers}
+use Rattle.rs_project.proofs.Handed.{handed-on}
 use Rattle.rs_project.proofs.Numbers.{discovers-none, arm-more, same-more, arms-fault}
 use Rattle.rs_project.proofs.finding.arms_of.Goals as goal
 
@@ -16,11 +17,13 @@ loop-choice-init c =
       same = ap (λ (z : List Arm). map choice_of z) c.new-arms.ensures;
     }
 
-pub returns-in-Err-clause-err : goal.returns-in-Err-clause-err
-returns-in-Err-clause-err c =
+pub returns-in_err-next-clause-err : goal.returns-in_err-next-clause-err
+returns-in_err-next-clause-err c =
     let a : Arm = get_or c.args.choices.now c.loop-choice.choice-index record { label = record { 0 = 0 }; sort = unit; next = 0 } in
-    arms-fault c.args.protocol.now c.args.survey.now.role c.args.fronts.now c.loop-choice.fronts c.args.talks.now c.args.choices.now c.loop-choice.choice-index a (nexts_of c.loop-choice.arms)
-    (slice_get-get_or c.args.choices.now c.loop-choice.choice-index _ c.loop-choice-test.true) c.loop-choice.invariant.discovers c.in-Err.fault c.in-Err.ensures.err
+    handed-on c.from_residual.result c.in_err-next.field-0.0 (λ e. ArmsFault c.args.protocol.now c.args.survey.now.role c.args.fronts.now c.args.talks.now (map choice_of c.args.choices.now) e)
+    c.from_residual.ensures.1
+    (arms-fault c.args.protocol.now c.args.survey.now.role c.args.fronts.now c.loop-choice.fronts c.args.talks.now c.args.choices.now c.loop-choice.choice-index a (nexts_of c.loop-choice.arms)
+    (slice_get-get_or c.args.choices.now c.loop-choice.choice-index _ c.loop-choice-test.true) c.loop-choice.invariant.discovers c.in_err-next.field-0.0 c.in_err-next.ensures.err)
 
 pub loop-choice-preserved : goal.loop-choice-preserved
 loop-choice-preserved c =
@@ -28,6 +31,6 @@ loop-choice-preserved c =
     let at = slice_get-get_or c.args.choices.now c.loop-choice.choice-index _ c.loop-choice-test.true in
     record {
       discovers = arm-more c.args.protocol.now c.args.survey.now.role c.args.survey.now c.args.fronts.now c.loop-choice.fronts c.find.new.fronts c.args.talks.now c.args.choices.now c.loop-choice.choice-index a
-          c.loop-choice.arms c.push.new.self c.in-Ok.next c.requires.survey c.requires.choices at c.in_ok-push.ensures.ok c.loop-choice.invariant.discovers c.in-Ok.ensures.ok;
-      same = same-more c.args.choices.now c.loop-choice.choice-index a c.loop-choice.arms c.push.new.self c.in-Ok.next at c.in_ok-push.ensures.ok c.loop-choice.invariant.same;
+          c.loop-choice.arms c.push.new.self c.in_ok-next.next c.requires.survey c.requires.choices at c.in_ok-push.ensures.ok c.loop-choice.invariant.discovers c.in_ok-next.ensures.ok;
+      same = same-more c.args.choices.now c.loop-choice.choice-index a c.loop-choice.arms c.push.new.self c.in_ok-next.next at c.in_ok-push.ensures.ok c.loop-choice.invariant.same;
     }

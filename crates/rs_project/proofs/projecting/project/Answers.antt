@@ -27,12 +27,12 @@ work-requires-clause-start c =
 
 pub returns-clause-machine : goal.returns-clause-machine
 returns-clause-machine c =
-    let P : Role → Type 0 = λ z. IsNumberedProjection c.args.protocol.now z c.in-Ok.projection in
-    let h = subst P c.in_ok-survey.ensures.role c.in-Ok.ensures.ok in
-    projection-machine c.args.protocol.now c.args.role c.in-Ok.projection c.requires.well_formed c.requires.role h.is
+    let P : Role → Type 0 = λ z. IsNumberedProjection c.args.protocol.now z c.in_ok-projection.projection in
+    let h = subst P c.in_ok-survey.ensures.role c.in_ok-projection.ensures.ok in
+    projection-machine c.args.protocol.now c.args.role c.in_ok-projection.projection c.requires.well_formed c.requires.role h.is
 
 pub returns-clause-few : goal.returns-clause-few
 returns-clause-few c =
-    let f = c.in-Ok.ensures.ok.few in
-    let a = c.in-Ok.ensures.ok.is.all in
+    let f = c.in_ok-projection.ensures.ok.few in
+    let a = c.in_ok-projection.ensures.ok.is.all in
     omega arith

@@ -3,8 +3,8 @@ use Rattle.rs_model.specs.declared.limits.TheConstants.{MOST_STATES}
 use Rattle.rs_project.specs.Working.{Working}
 use Rattle.rs_project.proofs.projecting.work.Given as goal
 
-abbrev pub invariant-loop-states : goal.invariant-loop-states
-invariant-loop-states l = Working l.protocol l.survey.role l.fronts l.states.items
+abbrev pub invariant-loop-marks : goal.invariant-loop-marks
+invariant-loop-marks l = Working l.protocol l.survey.role l.fronts l.states.items
 
-abbrev pub decreases-loop-states : goal.decreases-loop-states
-decreases-loop-states l = MOST_STATES - length l.states.items
+abbrev pub decreases-loop-marks : goal.decreases-loop-marks
+decreases-loop-marks l = MOST_STATES - length l.states.items

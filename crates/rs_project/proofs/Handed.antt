@@ -1,0 +1,7 @@
+-- A fault that is handed on by `?`.
+use Rattle.std.proofs.Common.{◌≡◌, Result, Ok, Err, sym, subst}
+use Rattle.std.specs.Prelude.{IfErr, IsErrAnd}
+
+pub handed-on : {A E : Type 0} (r : Result A E) (f : E) (P : E → Type 0) → IsErrAnd r (λ e. e ≡ f) → P f → IfErr r P
+handed-on (Ok x) f P is h = tt
+handed-on (Err e) f P is h = subst P (sym is) h
