@@ -171,17 +171,15 @@ named names d p = nodes_named names d.nodes p.roles.peers p.labels
 pub no_new_labels : (names : Names_data) (d : Derivation_data) → IsSound names → IsPrintable names d → names_of names (tree_of names d) ≡ names
 no_new_labels names d sound p = ap (λ z. record { roles = names.roles; labels = z }) (grown_same (labels_of_nodes (map (tree_of_node names) d.nodes)) names.labels (nodes_known names d.nodes sound (named names d p)).1)
 
-fits : (old names : Names_data) (d : Derivation_data) → IsSound names → IsPrintable names d → names_of old (tree_of names d) ≡ names → length names.labels ≤ MOST_LABELS → Fits old (tree_of names d)
-fits old names d sound p e few =
-    let roles : old.roles ≡ names.roles = ap (λ (z : Names_data). z.roles) e in
-    let labels : grown old.labels (labels_of_nodes (map (tree_of_node names) d.nodes)) ≡ names.labels = ap (λ (z : Names_data). z.labels) e in
+fits : (old names : Names_data) (d : Derivation_data) → IsSound names → IsPrintable names d → old.roles ≡ names.roles → length (names_of old (tree_of names d)).labels ≤ MOST_LABELS → Fits old (tree_of names d)
+fits old names d sound p roles few =
     let size = length-map d.nodes (tree_of_node names) in
     let some = p.some in
     let all = p.nodes in
     record {
       formed = record { bound = p.bound; some = omega arith };
       roles = subst (λ (z : List (List ℕ)). list_all (λ x. is_among x z) (name_at names.roles d.role.0 ∷ peers_of_nodes (map (tree_of_node names) d.nodes)) ≡ true) (sym roles) (both (is_among (name_at names.roles d.role.0) names.roles) _ (there names.roles d.role.0 sound.roles_differ p.roles.role) (nodes_known names d.nodes sound (named names d p)).0);
-      labels = subst (λ (z : List (List ℕ)). length z ≤ MOST_LABELS) (sym labels) few;
+      labels = few;
       nodes = omega arith;
     }
 
@@ -219,10 +217,11 @@ writable names d sound p small =
 
 -- ---- and so it spells the derivation
 
-spells_with : (ls : List Lexeme) (bytes : List ℕ) (at : ℕ) (old names : Names_data) (d : Derivation_data) (rest : List ℕ) → IsTreeWritable (tree_of names d) → Fits old (tree_of names d) → names_of old (tree_of names d) ≡ names → derivation_of names (tree_of names d) ≡ d
-    → drop at bytes ≡ canonical_text names d ++ rest → Lexed bytes (at + length (canonical_text names d)) ls → SpellsDerivation bytes at old names d (next_lexeme bytes (at + length (canonical_text names d))).from
-spells_with [] bytes at old names d rest w f n e parts lexed = absurd lexed
-spells_with (l ∷ ls) bytes at old names d rest w f n e parts lexed =
+spells_with : (ls : List Lexeme) (bytes : List ℕ) (at : ℕ) (old names : Names_data) (d : Derivation_data) (rest : List ℕ) → IsTreeWritable (tree_of names d) → Fits old (tree_of names d)
+    → drop at bytes ≡ canonical_text names d ++ rest → Lexed bytes (at + length (canonical_text names d)) ls
+    → SpellsDerivation bytes at old (names_of old (tree_of names d)) (derivation_of (names_of old (tree_of names d)) (tree_of names d)) (next_lexeme bytes (at + length (canonical_text names d))).from
+spells_with [] bytes at old names d rest w f parts lexed = absurd lexed
+spells_with (l ∷ ls) bytes at old names d rest w f parts lexed =
     let c = written_cut bytes at (derivation_signs (tree_of names d)) (canonical_text names d) rest (l ∷ ls) parts (written (tree_of names d) rest w) lexed in
     record {
       tree = tree_of names d;
@@ -232,8 +231,8 @@ spells_with (l ∷ ls) bytes at old names d rest w f n e parts lexed =
       lexed = c.lexed;
       spelt = c.signs_are;
       fits = f;
-      names_are = sym n;
-      derivation_is = sym e;
+      names_are = refl;
+      derivation_is = refl;
       goes_on = ap (λ (x : Lexeme). x.from) (sym lexed.0);
     }
 
@@ -243,11 +242,26 @@ reaches bytes at text rest some parts =
     let all = length-drop at bytes in
     omega arith
 
+-- the canonical tree spells the derivation
+pub spells_the_derivation : (names : Names_data) (d : Derivation_data) → IsSound names → IsPrintable names d → derivation_of names (tree_of names d) ≡ d
+spells_the_derivation names d sound p = derivation_back names d sound p (named names d p)
+
+-- with any older names that have its roles, where the labels stay few
+pub read_with_older : (old names : Names_data) (d : Derivation_data) (bytes : List ℕ) (at : ℕ) (rest : List ℕ) → IsSound names → IsPrintable names d → AreSmall d → old.roles ≡ names.roles → length (names_of old (tree_of names d)).labels ≤ MOST_LABELS
+    → drop at bytes ≡ canonical_text names d ++ rest
+    → SpellsDerivation bytes at old (names_of old (tree_of names d)) (derivation_of (names_of old (tree_of names d)) (tree_of names d)) (next_lexeme bytes (at + length (canonical_text names d))).from
+read_with_older old names d bytes at rest sound p small roles few parts =
+    let t = exists bytes (at + length (canonical_text names d)) (reaches bytes at (canonical_text names d) rest (omega arith) parts) in
+    spells_with t.0 bytes at old names d rest (writable names d sound p small) (fits old names d sound p roles few) parts (are_lexed bytes t.0 (at + length (canonical_text names d)) t.1)
+
 pub read_again : (old names : Names_data) (d : Derivation_data) (bytes : List ℕ) (at : ℕ) (rest : List ℕ) → IsSound names → IsPrintable names d → AreSmall d → length names.labels ≤ MOST_LABELS → names_of old (tree_of names d) ≡ names → drop at bytes ≡ canonical_text names d ++ rest
     → SpellsDerivation bytes at old names d (next_lexeme bytes (at + length (canonical_text names d))).from
 read_again old names d bytes at rest sound p small few e parts =
-    let t = exists bytes (at + length (canonical_text names d)) (reaches bytes at (canonical_text names d) rest (omega arith) parts) in
-    spells_with t.0 bytes at old names d rest (writable names d sound p small) (fits old names d sound p e few) e (derivation_back names d sound p (named names d p)) parts (are_lexed bytes t.0 (at + length (canonical_text names d)) t.1)
+    let few' : length (names_of old (tree_of names d)).labels ≤ MOST_LABELS = subst (λ (z : Names_data). length z.labels ≤ MOST_LABELS) (sym e) few in
+    let until : ℕ = (next_lexeme bytes (at + length (canonical_text names d))).from in
+    let spelt = read_with_older old names d bytes at rest sound p small (ap (λ (z : Names_data). z.roles) e) few' parts in
+    subst (λ (z : Derivation_data). SpellsDerivation bytes at old names z until) (spells_the_derivation names d sound p)
+    (subst (λ (z : Names_data). SpellsDerivation bytes at old z (derivation_of z (tree_of names d)) until) e spelt)
 
 -- what is read from it is printed as it
 pub printed_again : (names new : Names_data) (d e : Derivation_data) (until : ℕ) → IsSound names → IsPrintable names d → AreSmall d → length names.labels ≤ MOST_LABELS → SpellsDerivation (canonical_text names d) 0 names new e until → canonical_text new e ≡ canonical_text names d

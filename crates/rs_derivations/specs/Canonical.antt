@@ -17,10 +17,12 @@ use Rattle.rs_derivations.specs.Texts.{derivation_text}
 abbrev pub shown_act : Names_data → Kind → Role → Label → Sort → ActTree
 shown_act names kind peer label sort = record { peer = name_at names.roles peer.0; kind = kind; label = name_at names.labels label.0; sort = shown_sort sort }
 
+-- the tree of an act
 abbrev pub tree_of_act : Names_data → Act → ActTree
 tree_of_act names (Puts peer label sort) = shown_act names act.Send peer label sort
 tree_of_act names (Takes peer label sort) = shown_act names act.Receive peer label sort
 
+-- the tree of a node
 abbrev pub tree_of_node : Names_data → DNode_data → NodeTree
 tree_of_node names n = record { state = n.state; pending = map (tree_of_act names) n.pending; above = n.above; rank = n.rank; next = n.next }
 

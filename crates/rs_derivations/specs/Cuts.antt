@@ -106,10 +106,12 @@ abbrev pub node_wanted : {A : Type 0} → List A → Wanted
 node_wanted [] = wanted.Node
 node_wanted (x ∷ xs) = wanted.NodeOrCloseBrace
 
+-- .. for a further act
 abbrev pub act_wanted : {A : Type 0} → List A → Wanted
 act_wanted [] = wanted.ActOrCloseBracket
 act_wanted (x ∷ xs) = wanted.Role
 
+-- .. for a further next
 abbrev pub next_wanted : {A : Type 0} → List A → Wanted
 next_wanted [] = wanted.NumberOrCloseBracket
 next_wanted (x ∷ xs) = wanted.Number

@@ -18,6 +18,7 @@ use Rattle.rs_derivations.specs.Trees.{ActTree, NodeTree, DerivationTree}
 abbrev pub labels_of_acts : List ActTree → List (List ℕ)
 labels_of_acts acts = map (λ a. a.label) acts
 
+-- .. of a node
 abbrev pub labels_of_node : NodeTree → List (List ℕ)
 labels_of_node t = labels_of_acts t.pending
 
@@ -29,9 +30,11 @@ labels_of_nodes nodes = flat_map labels_of_node nodes
 abbrev pub peers_of_acts : List ActTree → List (List ℕ)
 peers_of_acts acts = map (λ a. a.peer) acts
 
+-- .. of a node
 abbrev pub peers_of_node : NodeTree → List (List ℕ)
 peers_of_node t = peers_of_acts t.pending
 
+-- .. of nodes
 abbrev pub peers_of_nodes : List NodeTree → List (List ℕ)
 peers_of_nodes nodes = flat_map peers_of_node nodes
 
@@ -39,6 +42,7 @@ peers_of_nodes nodes = flat_map peers_of_node nodes
 abbrev pub with_labels : Names_data → List (List ℕ) → Names_data
 with_labels old labels = record { roles = old.roles; labels = grown old.labels labels }
 
+-- .. with the labels of a tree
 abbrev pub names_of : Names_data → DerivationTree → Names_data
 names_of old t = with_labels old (labels_of_nodes t.nodes)
 
@@ -46,6 +50,7 @@ names_of old t = with_labels old (labels_of_nodes t.nodes)
 abbrev pub role_named : Names_data → List ℕ → Role
 role_named names name = record { 0 = number_or (place_of name names.roles) }
 
+-- the label with that name
 abbrev pub label_named : Names_data → List ℕ → Label
 label_named names name = record { 0 = number_or (place_of name names.labels) }
 
@@ -54,9 +59,11 @@ abbrev pub act_of_kind : Kind → Role → Label → Sort → Act
 act_of_kind act.Send peer label sort = Puts peer label sort
 act_of_kind act.Receive peer label sort = Takes peer label sort
 
+-- the act that a tree spells, with these names
 abbrev pub act_of : Names_data → ActTree → Act
 act_of names a = act_of_kind a.kind (role_named names a.peer) (label_named names a.label) (sort_or_unit a.sort)
 
+-- the node that a tree spells, with these names
 abbrev pub node_of : Names_data → NodeTree → DNode_data
 node_of names t = record { state = t.state; pending = map (act_of names) t.pending; above = t.above; rank = t.rank; next = t.next }
 

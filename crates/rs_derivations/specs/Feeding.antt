@@ -27,54 +27,67 @@ use Rattle.rs_derivations.specs.Faults.{number_value}
 
 -- ---- which token it is
 
+-- a colon
 abbrev pub is_colon : Sign → Bool
 is_colon colon = true
 is_colon _ = false
 
+-- a comma
 abbrev pub is_comma : Sign → Bool
 is_comma comma = true
 is_comma _ = false
 
+-- an open brace
 abbrev pub is_open_brace : Sign → Bool
 is_open_brace open_brace = true
 is_open_brace _ = false
 
+-- a close brace
 abbrev pub is_close_brace : Sign → Bool
 is_close_brace close_brace = true
 is_close_brace _ = false
 
+-- an open parenthesis
 abbrev pub is_open_paren : Sign → Bool
 is_open_paren open_paren = true
 is_open_paren _ = false
 
+-- a close parenthesis
 abbrev pub is_close_paren : Sign → Bool
 is_close_paren close_paren = true
 is_close_paren _ = false
 
+-- an open bracket
 abbrev pub is_open_bracket : Sign → Bool
 is_open_bracket open_bracket = true
 is_open_bracket _ = false
 
+-- a close bracket
 abbrev pub is_close_bracket : Sign → Bool
 is_close_bracket close_bracket = true
 is_close_bracket _ = false
 
+-- a mark, which tells the kind of an act
 abbrev pub mark_kind : Sign → Option Kind
 mark_kind bang = Some act.Send
 mark_kind question = Some act.Receive
 mark_kind _ = None
 
+-- that word
 abbrev pub is_keyword : List ℕ → Sign → Bool
 is_keyword word t = is_text word (plain_text t)
 
+-- there are none
 abbrev pub is_none_of : {A : Type 0} → List A → Bool
 is_none_of [] = true
 is_none_of (x ∷ xs) = false
 
+-- there are some
 abbrev pub is_some_of : {A : Type 0} → List A → Bool
 is_some_of [] = false
 is_some_of (x ∷ xs) = true
 
+-- the number can be a bound
 abbrev pub is_bound : ℕ → Bool
 is_bound n = nat_le 1 n && nat_le n MOST_BOUND
 
@@ -85,9 +98,11 @@ IsSmall _ = Unit {0}
 
 -- ---- steps
 
+-- the reader behind a token, or the fault of the token
 abbrev pub Fed : Type 0
 Fed = Result Reader_data TextFault
 
+-- a node of which nothing was read
 abbrev pub no_node : DNode_data
 no_node = record { state = 0; pending = []; above = 0; rank = 0; next = [] }
 
@@ -95,6 +110,7 @@ no_node = record { state = 0; pending = []; above = 0; rank = 0; next = [] }
 abbrev pub begin : Names_data → Reader_data
 begin old = record { roles = old.roles; labels = old.labels; role = record { 0 = 0 }; bound = 0; nodes = []; node = no_node; mode = mode.Derivation }
 
+-- the reader goes on in that mode
 abbrev pub in_mode : Mode → Reader_data → Fed
 in_mode m r = Ok (record r { mode = m })
 
@@ -107,10 +123,12 @@ abbrev pub played_by : Option ℕ → ℕ → Reader_data → Fed
 played_by None at r = fault kind.UnknownRole at
 played_by (Some k) at r = Ok (record r { role = record { 0 = k }; mode = mode.AtBoundWord })
 
+-- .. by its name
 abbrev pub feed_role : Option (List ℕ) → ℕ → Reader_data → Fed
 feed_role None at r = expected wanted.Role at
 feed_role (Some word) at r = played_by (place_of word r.roles) at r
 
+-- the number of the bound
 abbrev pub feed_bound : Option ℕ → ℕ → Reader_data → Fed
 feed_bound None at r = expected wanted.BoundNumber at
 feed_bound (Some n) at r = if is_bound n then Ok (record r { bound = n; mode = mode.AtBrace }) else expected wanted.BoundNumber at
@@ -120,6 +138,7 @@ abbrev pub feed_node : Option ℕ → Bool → ℕ → Reader_data → Fed
 feed_node (Some n) closes at r = if n == length r.nodes then (if nat_le MOST_CANDIDATES (length r.nodes) then fault kind.TooManyNodes at else in_mode mode.AtColon r) else expected (node_wanted r.nodes) at
 feed_node None closes at r = passes (closes && is_some_of r.nodes) (node_wanted r.nodes) mode.Behind at r
 
+-- the number of the machine's state
 abbrev pub feed_state : Option ℕ → ℕ → Reader_data → Fed
 feed_state None at r = expected wanted.Number at
 feed_state (Some n) at r = Ok (record r { node = record r.node { state = n }; mode = mode.AtActs })
@@ -129,21 +148,26 @@ abbrev pub met_by : Option ℕ → ℕ → Reader_data → Fed
 met_by None at r = fault kind.UnknownRole at
 met_by (Some k) at r = in_mode (mode.AtMark (record { 0 = k })) r
 
+-- the peer's name of a further act, or the end of the acts
 abbrev pub feed_act : Option (List ℕ) → Bool → ℕ → Reader_data → Fed
 feed_act (Some word) closes at r = met_by (place_of word r.roles) at r
 feed_act None closes at r = passes (closes && is_none_of r.node.pending) (act_wanted r.node.pending) mode.AtAbove at r
 
+-- the mark of an act
 abbrev pub feed_mark : Role → Option Kind → ℕ → Reader_data → Fed
 feed_mark p None at r = expected wanted.Mark at
 feed_mark p (Some k) at r = in_mode (mode.AtLabel p k) r
 
+-- the label with that number
 abbrev pub label_of_number : ℕ → Label
 label_of_number k = record { 0 = k }
 
+-- the label k, or a new one
 abbrev pub labelled_by : Option ℕ → Role → Kind → List ℕ → ℕ → Reader_data → Fed
 labelled_by (Some k) p m word at r = in_mode (mode.AtParen p m (label_of_number k)) r
 labelled_by None p m word at r = if nat_le MOST_LABELS (length r.labels) then fault kind.TooManyLabels at else Ok (record r { labels = r.labels ++ word ∷ []; mode = mode.AtParen p m (label_of_number (length r.labels)) })
 
+-- the label of an act
 abbrev pub feed_label : Role → Kind → Option (List ℕ) → ℕ → Reader_data → Fed
 feed_label p m None at r = expected wanted.Label at
 feed_label p m (Some word) at r = labelled_by (place_of word r.labels) p m word at r
@@ -152,24 +176,30 @@ feed_label p m (Some word) at r = labelled_by (place_of word r.labels) p m word 
 abbrev pub pended : Role → Kind → Label → Sort → Reader_data → Fed
 pended p m l s r = Ok (record r { node = record r.node { pending = r.node.pending ++ act_of_kind m p l s ∷ [] }; mode = mode.BehindAct })
 
+-- the sort that a word names, where it names one
 abbrev pub sorted_by : Option Sort → Role → Kind → Label → ℕ → Reader_data → Fed
 sorted_by None p m l at r = expected wanted.SortOrCloseParen at
 sorted_by (Some s) p m l at r = in_mode (mode.CloseParen p m l s) r
 
+-- the sort of an act, or the close parenthesis where there is none
 abbrev pub feed_sort : Role → Kind → Label → Option (List ℕ) → Bool → ℕ → Reader_data → Fed
 feed_sort p m l (Some word) closes at r = sorted_by (sort_named word) p m l at r
 feed_sort p m l None closes at r = if closes then pended p m l sort.Unit r else expected wanted.SortOrCloseParen at
 
+-- the close parenthesis behind a sort
 abbrev pub feed_close_paren : Role → Kind → Label → Sort → Bool → ℕ → Reader_data → Fed
 feed_close_paren p m l s closes at r = if closes then pended p m l s r else expected wanted.CloseParen at
 
+-- the comma before a further act, or the end of the acts
 abbrev pub feed_behind_act : Bool → Bool → ℕ → Reader_data → Fed
 feed_behind_act goes closes at r = if goes then in_mode mode.AtAct r else passes closes wanted.CommaOrCloseBracket mode.AtAbove at r
 
+-- the number of the projection's state
 abbrev pub feed_above : Option ℕ → ℕ → Reader_data → Fed
 feed_above None at r = expected wanted.Number at
 feed_above (Some n) at r = Ok (record r { node = record r.node { above = n }; mode = mode.AtRankWord })
 
+-- the number of the rank
 abbrev pub feed_rank : Option ℕ → ℕ → Reader_data → Fed
 feed_rank None at r = expected wanted.Number at
 feed_rank (Some n) at r = Ok (record r { node = record r.node { rank = n }; mode = mode.AtNextWord })
@@ -183,6 +213,7 @@ abbrev pub feed_next : Option ℕ → Bool → ℕ → Reader_data → Fed
 feed_next (Some n) closes at r = Ok (record r { node = record r.node { next = r.node.next ++ n ∷ [] }; mode = mode.BehindNext })
 feed_next None closes at r = if closes && is_none_of r.node.next then ended r else expected (next_wanted r.node.next) at
 
+-- the comma before a further next, or the end of the node
 abbrev pub feed_behind_next : Bool → Bool → ℕ → Reader_data → Fed
 feed_behind_next goes closes at r = if goes then in_mode mode.AtNext r else if closes then ended r else expected wanted.CommaOrCloseBracket at
 
@@ -217,9 +248,11 @@ feed_at (mode.AtSort p m l) t at r = feed_sort p m l (plain_text t) (is_close_pa
 feed_at (mode.CloseParen p m l s) t at r = feed_close_paren p m l s (is_close_paren t) at r
 feed_at m t at r = feed_rest m t at r
 
+-- .. in the mode of the reader
 abbrev pub feed_of : Sign → ℕ → Reader_data → Fed
 feed_of t at r = feed_at r.mode t at r
 
+-- the mode behind the whole derivation
 abbrev pub is_behind : Mode → Bool
 is_behind mode.Behind = true
 is_behind _ = false
@@ -236,5 +269,6 @@ feeding = record { feed = λ t at next r. feed_of t at r; is_read = λ r. is_rea
 abbrev pub names_read : Reader_data → Names_data
 names_read r = record { roles = r.roles; labels = r.labels }
 
+-- .. as a derivation
 abbrev pub derivation_read : Reader_data → Derivation_data
 derivation_read r = record { role = r.role; bound = r.bound; nodes = r.nodes }

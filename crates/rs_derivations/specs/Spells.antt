@@ -13,6 +13,7 @@ use Rattle.rs_derivations.specs.Trees.{NodeTree, DerivationTree, derivation_sign
 abbrev pub IsBound : ℕ → Type 0
 IsBound n = (1 ≤ n) × (n ≤ MOST_BOUND)
 
+-- .. of a tree
 pub record IsFormed (t : DerivationTree) : Type 0 where
   pub bound : IsBound t.bound
   pub some : 1 ≤ length t.nodes

@@ -38,6 +38,7 @@ abbrev pub nodes_text : ℕ → List NodeTree → List ℕ
 nodes_text n [] = []
 nodes_text n (t ∷ ts) = node_text n t ++ nodes_text (suc n) ts
 
+-- ` bound NUM {`, the end of the first line
 abbrev pub bound_text : ℕ → List ℕ
 bound_text bound = codes " bound " ++ (decimal bound ++ codes " {\n")
 
@@ -45,5 +46,6 @@ bound_text bound = codes " bound " ++ (decimal bound ++ codes " {\n")
 abbrev pub head_text : List ℕ → ℕ → List ℕ
 head_text role bound = codes "derivation " ++ (role ++ bound_text bound)
 
+-- the text of a derivation tree
 abbrev pub derivation_text : DerivationTree → List ℕ
 derivation_text t = head_text t.role t.bound ++ (nodes_text 0 t.nodes ++ codes "}\n")

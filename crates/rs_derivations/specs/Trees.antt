@@ -41,6 +41,7 @@ act_signs a = plain a.peer ∷ mark_sign a.kind ∷ word_sign a.label ∷ open_p
 abbrev pub acts_signs : List ActTree → List Sign
 acts_signs acts = separated (comma ∷ []) act_signs acts
 
+-- the token of a number
 abbrev pub number_signs : ℕ → List Sign
 number_signs n = number n ∷ []
 

@@ -7,7 +7,7 @@ ghost use Rattle.rs_text.specs.declared.faults.TextKind.{TextKind};
 ghost use Rattle.rs_text.specs.Lexemes.{next_lexeme};
 ghost use Rattle.rs_text.specs.Sound.{IsSound};
 ghost use Rattle.rs_derivations.specs.Canonical.{canonical_text, tree_of};
-ghost use Rattle.rs_derivations.specs.Derivations.{names_of};
+ghost use Rattle.rs_derivations.specs.Derivations.{derivation_of, names_of};
 ghost use Rattle.rs_derivations.specs.Faults.{FirstFault};
 ghost use Rattle.rs_derivations.specs.Numbers.{AreSmall};
 ghost use Rattle.rs_derivations.specs.Printable.{IsPrintable};
@@ -47,6 +47,17 @@ pub fn canonical_text_is_read_again()
 /// .. as these do themselves.
 pub fn canonical_text_has_no_new_labels()
     ensures { (names : Names_data) (d : Derivation_data) → IsSound names → IsPrintable names d → names_of names (tree_of names d) ≡ names }
+{}
+
+/// .. With any older names that have its roles it spells the derivation too, but for the numbers of labels: each label has
+/// the number that its name gets ..
+pub fn canonical_text_is_read_with_older_names()
+    ensures { (old names : Names_data) (d : Derivation_data) (bytes : List ℕ) (at : ℕ) (rest : List ℕ) → IsSound names → IsPrintable names d → AreSmall d → old.roles ≡ names.roles → length (names_of old (tree_of names d)).labels ≤ MOST_LABELS → drop at bytes ≡ canonical_text names d ++ rest → SpellsDerivation bytes at old (names_of old (tree_of names d)) (derivation_of (names_of old (tree_of names d)) (tree_of names d)) (next_lexeme bytes (at + length (canonical_text names d))).from }
+{}
+
+/// .. since its canonical tree spells the derivation, with the names that it is printed with.
+pub fn canonical_tree_spells_the_derivation()
+    ensures { (names : Names_data) (d : Derivation_data) → IsSound names → IsPrintable names d → derivation_of names (tree_of names d) ≡ d }
 {}
 
 /// What is read from a canonical text is printed as it.

@@ -59,6 +59,10 @@ fn prints(rt: HostRuntime) -> Result<(), Fail> {
             "derivation T bound 064{00:1[K!x(unit),K?rec(list)]2rank 4294967295 next[7,0]01:2[]3rank 4 next[]}# behind",
             "derivation T bound 64 {\n0: 1 [K!x(), K?rec(list)] 2 rank 4294967295 next [7, 0]\n1: 2 [] 3 rank 4 next []\n}\n",
         ),
+        (
+            "derivation T bound 1{0:4294967295[]4294967295rank 04294967295next[1,4294967295]}",
+            "derivation T bound 1 {\n0: 4294967295 [] 4294967295 rank 4294967295 next [1, 4294967295]\n}\n",
+        ),
     ];
     for (text, want) in cases {
         let text = printed(rt.alloc(), text.as_bytes())?;
@@ -127,9 +131,49 @@ fn refuses(rt: HostRuntime) -> Result<(), Fail> {
         ("derivation K bound 65", TextKind::Expected(BoundNumber), 19),
         ("derivation K bound 1 {1:", TextKind::Expected(Node), 22),
         (
+            "derivation K bound 4294967295",
+            TextKind::Expected(BoundNumber),
+            19,
+        ),
+        (
+            "derivation K bound 4294967296",
+            TextKind::NumberTooLarge,
+            19,
+        ),
+        (
+            "derivation K bound 1 {4294967295",
+            TextKind::Expected(Node),
+            22,
+        ),
+        (
+            "derivation K bound 1 {4294967296",
+            TextKind::NumberTooLarge,
+            22,
+        ),
+        (
             "derivation K bound 1 {0:4294967296",
             TextKind::NumberTooLarge,
             24,
+        ),
+        (
+            "derivation K bound 1 {0:0[]4294967296",
+            TextKind::NumberTooLarge,
+            27,
+        ),
+        (
+            "derivation K bound 1 {0:0[]0 rank 4294967296",
+            TextKind::NumberTooLarge,
+            34,
+        ),
+        (
+            "derivation K bound 1 {0:0[]0 rank 0 next[4294967296",
+            TextKind::NumberTooLarge,
+            41,
+        ),
+        (
+            "derivation K bound 1 {0:0[]0 rank 0 next[0,4294967296",
+            TextKind::NumberTooLarge,
+            43,
         ),
         ("derivation K bound 1 {0:0[Q?x", TextKind::UnknownRole, 26),
         (

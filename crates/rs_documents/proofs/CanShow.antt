@@ -1,9 +1,9 @@
 -- A document that a text spells can be printed.
-use Rattle.std.proofs.Common.{◌≡◌, ℕ, zero, suc, ◌<◌, ◌≤◌, List, [], ◌∷◌, length, Option, Some, None, Result, Ok, Err, refl, sym, ap, subst, ◌∙◌, arith, slice_get, slice_set}
+use Rattle.std.proofs.Common.{◌≡◌, ℕ, suc, ◌<◌, ◌≤◌, List, [], ◌∷◌, length, Option, Some, None, Result, refl, sym, ap, subst, ◌∙◌, arith}
 use Rattle.std.proofs.lemmas.List.Elements.{All-cons, All-head, All-nil, All-tail}
 use Rattle.std.specs.List.{All}
 use Rattle.rs_derivations.proofs.Spelt as derivation_laws
-use Rattle.rs_derivations.specs.Printable.{IsPrintable, RolesHaveNames, acts_of, label_of, peer_of}
+use Rattle.rs_derivations.specs.Printable.{IsPrintable, acts_of, label_of, peer_of}
 use Rattle.rs_derive.specs.Data.{Derivation_data}
 use Rattle.rs_documents.specs.Canonical.{AreShown, ArePrintable, CanBeShown}
 use Rattle.rs_documents.specs.Data.{Document_data}
@@ -30,7 +30,7 @@ pub record Grows (old new : Names_data) : Type 0 where
   pub labels : length old.labels ≤ length new.labels
 
 -- what holds of each part with the names behind it, and of more labels too, holds of all parts with the last names
-kept : {A : Type 0} (kind : PartKind A) (i : IsKind kind) (P : Names_data → A → Type 0) → ((old new : Names_data) → Grows old new → (x : A) → P old x → P new x)
+pub kept : {A : Type 0} (kind : PartKind A) (i : IsKind kind) (P : Names_data → A → Type 0) → ((old new : Names_data) → Grows old new → (x : A) → P old x → P new x)
     → ((bytes : List ℕ) (at : ℕ) (old new : Names_data) (part : A) (until : ℕ) → kind.Spells bytes at old new part until → P new part)
     → (bytes : List ℕ) (at : ℕ) (names : Names_data) (parts : List (Option A)) (what : Result (Row A) TextFault) (row : Row A) → GoesOn kind bytes at names parts what → what ≡ good row
     → AllHave (P names) parts → AllHave (P row.names) row.parts

@@ -1,5 +1,5 @@
 -- A text has at most 256 labels, as far as a protocol or a machine goes.
-use Rattle.std.proofs.Common.{◌≡◌, ℕ, ◌≤◌, List, [], ◌∷◌, ◌++◌, length, Bool, true, false, if◌then◌else◌, refl, sym, subst, arith, length-append}
+use Rattle.std.proofs.Common.{◌≡◌, ℕ, ◌≤◌, List, [], ◌∷◌, ◌++◌, length, Bool, true, false, if◌then◌else◌, sym, subst, arith, length-append}
 use Rattle.rs_global.proofs.CanonNest.{few_labels, fits_labels}
 use Rattle.rs_global.specs.Scenes as scenes
 use Rattle.rs_global.specs.Spells.{SpellsProtocol}

@@ -7,3 +7,11 @@ pub mod CanShow
 pub mod SpeltSessions
 pub mod Lines
 pub mod ReadParts
+pub mod MoreNames
+pub mod MachinesAgain
+pub mod DerivationsAgain
+pub mod ProtocolsAgain
+pub mod PartsAgain
+pub mod Again
+pub mod SpeltAgain
+pub mod OneCanonical

@@ -1,5 +1,5 @@
 -- What is known of machines and of derivations, as parts of a text.
-use Rattle.std.proofs.Common.{◌≡◌, ◌⊎◌, ℕ, zero, suc, ◌+◌, ◌<◌, ◌≤◌, List, [], ◌∷◌, ◌++◌, length, Bool, true, false, Option, Some, None, refl, sym, ap, subst, ◌∙◌, inl, inr, arith}
+use Rattle.std.proofs.Common.{◌≡◌, ℕ, ◌+◌, ◌<◌, ◌≤◌, List, [], ◌∷◌, ◌++◌, length, Bool, true, false, refl, sym, ap, subst, ◌∙◌, arith}
 use Rattle.std.specs.Prelude.{codes, ◌&&◌}
 use Rattle.rs_documents.specs.Parts.{StandsAt, machine_parts, derivation_parts}
 use Rattle.rs_documents.proofs.FewLabels.{longer, machine_few}
@@ -8,7 +8,6 @@ use Rattle.rs_model.specs.Data.{Names_data, Protocol_data, Machine_data}
 use Rattle.rs_model.specs.declared.limits.TheConstants.{MOST_LABELS}
 use Rattle.rs_derivations.specs.Derivations as derivations
 use Rattle.rs_derivations.specs.Spells.{SpellsDerivation}
-use Rattle.rs_derivations.specs.Trees.{DerivationTree}
 use Rattle.rs_derivations.proofs.Spelt as derivation_laws
 use Rattle.rs_derive.specs.Data.{Derivation_data}
 use Rattle.rs_global.specs.Spells.{SpellsProtocol}
@@ -18,9 +17,9 @@ use Rattle.rs_machines.specs.Trees.{body_signs}
 use Rattle.rs_machines.proofs.OneFault as machine_faults
 use Rattle.rs_machines.proofs.SpeltLaws as machine_laws
 use Rattle.rs_text.proofs.Nexts.{within, next_is_next}
-use Rattle.rs_text.specs.Lexemes.{Lexeme, Lexed, next_lexeme, is_last, signs_of}
+use Rattle.rs_text.specs.Lexemes.{Lexeme, Lexed, next_lexeme, is_last}
 use Rattle.rs_text.specs.Names.{is_among, number_or, place_of}
-use Rattle.rs_text.specs.Signs.{Sign, plain, colon}
+use Rattle.rs_text.specs.Signs.{plain, colon}
 
 until_within : (bytes : List ℕ) (at : ℕ) → at ≤ length bytes → (next_lexeme bytes at).until ≤ length bytes
 until_within bytes at h = let w = within bytes at (next_lexeme bytes at) h (next_is_next bytes at) in w.inside

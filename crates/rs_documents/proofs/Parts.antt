@@ -4,11 +4,11 @@ use Rattle.std.specs.Prelude.{◌||◌}
 use Rattle.std.specs.Str.{bytes_eq}
 use Rattle.std.proofs.lemmas.Slice.Eq.{bytes_eq-Decides}
 use Rattle.rs_documents.specs.Parts.{PartKind, StandsAt, no_parts, with_part, IsTwice, Row, GoesOn, Stops, Repeats, Fails, Adds}
-use Rattle.rs_documents.specs.Reading.{is_word, is_held, place_named, role_at, twice_by, twice_of, AllHave, StandInPlace, AreGood, AreHeld, free_in, LeadsBack, IsAdded}
+use Rattle.rs_documents.specs.Reading.{is_word, is_held, place_named, twice_by, twice_of, AllHave, StandInPlace, AreGood, AreHeld, free_in, LeadsBack, IsAdded}
 use Rattle.rs_model.specs.Data.{Names_data}
 use Rattle.rs_model.specs.declared.graph.Role.{Role}
 use Rattle.rs_model.specs.declared.limits.TheConstants.{MOST_LABELS, MOST_ROLES}
-use Rattle.rs_text.proofs.Nexts.{within, next_is_next}
+use Rattle.rs_text.proofs.Nexts.{within}
 use Rattle.rs_text.specs.Lexemes.{Lexeme, Lexed, next_lexeme, is_last, signs_of}
 use Rattle.rs_text.specs.Names.{place_from, place_of, is_among}
 use Rattle.rs_text.specs.Seen.{plain_text}

@@ -1,9 +1,8 @@
 -- A document is read part by part.
-use Rattle.std.proofs.Common.{◌≡◌, ◌⊎◌, ℕ, ◌≤◌, ◌+◌, List, length, Option, Some, None, Result, Ok, Err, refl, sym, subst, inl, inr}
+use Rattle.std.proofs.Common.{◌≡◌, ◌⊎◌, ℕ, ◌≤◌, ◌+◌, List, length, Option, Some, None, Err, sym, subst, inl, inr}
 use Rattle.rs_derive.specs.Data.{Derivation_data}
-use Rattle.rs_documents.specs.Data.{Document_data}
 use Rattle.rs_documents.specs.Documents.{SpellsFront, SpellsParts, SpellsDocument, fault_behind, wanted_behind, FirstFault, InProtocol, InMachines, InDerivations, BehindParts}
-use Rattle.rs_documents.specs.Parts.{Row, GoesOn, machine_parts, derivation_parts, no_parts}
+use Rattle.rs_documents.specs.Parts.{GoesOn, machine_parts, derivation_parts, no_parts}
 use Rattle.rs_documents.specs.Reading.{AreGood, DerivationsAreHeld, IsReady, MachinesAreHeld}
 use Rattle.rs_documents.proofs.OneDocument.{document_is, nothing_behind}
 use Rattle.rs_documents.proofs.Parts.{good, row_of}

@@ -1,21 +1,20 @@
 -- A document that a text spells has the machines that the text spells.
-use Rattle.std.proofs.Common.{◌≡◌, ◌⊎◌, ℕ, ◌≤◌, List, length, Option, Some, None, Result, Ok, Err, refl, sym, ap, subst, ◌∙◌, inl, inr, slice_get}
+use Rattle.std.proofs.Common.{◌≡◌, ℕ, List, length, Option, Result, refl, sym, ap, subst, ◌∙◌, inl, inr}
 use Rattle.std.specs.Prelude.{codes}
 use Rattle.rs_derive.specs.Data.{Derivation_data}
 use Rattle.rs_documents.specs.Data.{Document_data}
 use Rattle.rs_documents.specs.Documents.{SpellsDocument}
 use Rattle.rs_documents.specs.Parts.{StandsAt, Row, GoesOn, Stops, Repeats, Fails, Adds, machine_parts, derivation_parts, no_parts}
-use Rattle.rs_documents.specs.Spells.{HasNoMachineBehind, HasMachine, MachinesBehind, NoMore, OneMore, SpellsMachines, no_machines, with_machine}
+use Rattle.rs_documents.specs.Spells.{HasNoMachineBehind, MachinesBehind, NoMore, OneMore, SpellsMachines, no_machines, with_machine}
 use Rattle.rs_documents.proofs.FewLabels.{protocol_few}
 use Rattle.rs_documents.proofs.PartKinds.{machine_begins, machine_role, of_machines}
 use Rattle.rs_documents.proofs.Parts.{good, keeps, one_row, role_of_twice, row_of, second_of, size_of_none, twice_of_role}
 use Rattle.rs_global.proofs.EnoughNames.{spelt_enough}
 use Rattle.rs_global.proofs.SpeltLaws as global
-use Rattle.rs_global.specs.Spells.{SpellsProtocol}
 use Rattle.rs_model.specs.Data.{Names_data, Protocol_data, Machine_data}
 use Rattle.rs_text.proofs.Nexts.{next_is_next, one_next}
 use Rattle.rs_text.specs.Lexemes.{Lexeme, next_lexeme}
-use Rattle.rs_text.specs.Signs.{Sign, plain, finish}
+use Rattle.rs_text.specs.Signs.{plain, finish}
 use Rattle.rs_text.specs.declared.faults.TextFault.{TextFault}
 
 -- where derivations, or nothing, stand behind the offset, no machine does

@@ -1,5 +1,5 @@
 -- What a document that a text spells gives to its session: two to sixteen roles, and each part in its role's place.
-use Rattle.std.proofs.Common.{◌≡◌, ℕ, ◌≤◌, List, length, Option, Some, refl, sym, ap, subst, ◌∙◌, arith}
+use Rattle.std.proofs.Common.{◌≡◌, ℕ, ◌≤◌, List, length, refl, sym, ap, subst, ◌∙◌, arith}
 use Rattle.rs_derive.specs.Data.{Derivation_data}
 use Rattle.rs_documents.specs.Data.{Document_data}
 use Rattle.rs_documents.specs.Documents.{SpellsDocument}
@@ -10,7 +10,7 @@ use Rattle.rs_documents.proofs.PartKinds.{of_machines, of_derivations}
 use Rattle.rs_documents.proofs.Parts.{good, keeps, none_there, row_of, size_of_none}
 use Rattle.rs_global.specs.Spells.{SpellsProtocol}
 use Rattle.rs_global.specs.Trees.{roles_of}
-use Rattle.rs_model.specs.Data.{Names_data, Machine_data, Protocol_data}
+use Rattle.rs_model.specs.Data.{Names_data, Protocol_data}
 use Rattle.rs_model.specs.declared.limits.TheConstants.{MOST_ROLES}
 
 -- the roles are two to sixteen, as many as the protocol has, and each has a place for its machine and for its

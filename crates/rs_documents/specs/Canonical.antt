@@ -62,6 +62,7 @@ pub record CanBeShown (d : Document_data) : Type 0 where
 abbrev pub IsMachineBehind : Names_data → Machine_data → List ℕ → List ℕ → Type 0
 IsMachineBehind names machine old new = (line : List ℕ) × IsCanonicalMachineText names machine line × (new ≡ old ++ line)
 
+-- .. where there is one, else nothing was written
 abbrev pub IsLineBehind : Names_data → Option Machine_data → List ℕ → List ℕ → Type 0
 IsLineBehind names None old new = new ≡ old
 IsLineBehind names (Some machine) old new = IsMachineBehind names machine old new

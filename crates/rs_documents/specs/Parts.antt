@@ -22,6 +22,7 @@ pub record PartKind (A : Type 0) : Type 1 where
   pub Spells : (bytes : List ℕ) → (at : ℕ) → (old new : Names_data) → A → (until : ℕ) → Type 0
   pub Fails : (old : Names_data) → (bytes : List ℕ) → (at : ℕ) → TextKind → (offset : ℕ) → Type 0
 
+-- machines, as a kind of part
 abbrev pub machine_parts : PartKind Machine_data
 machine_parts = record {
   word = codes "machine";
@@ -30,6 +31,7 @@ machine_parts = record {
   Fails = λ old bytes at k offset. of_machines.FirstFault old bytes at k offset;
 }
 
+-- derivations, as a kind of part
 abbrev pub derivation_parts : PartKind Derivation_data
 derivation_parts = record {
   word = codes "derivation";

@@ -30,6 +30,7 @@ abbrev pub place_named : Option (List ℕ) → List (List ℕ) → Option ℕ
 place_named None roles = None
 place_named (Some name) roles = place_of name roles
 
+-- .. among these names
 abbrev pub role_at : Names_data → Lexeme → Option ℕ
 role_at names l = place_named (plain_text l.sign) names.roles
 
@@ -54,9 +55,11 @@ StandInPlace {A} role_of parts = (k : ℕ) (part : A) → slice_get parts k ≡ 
 abbrev pub IsShort : Machine_data → Type 0
 IsShort machine = length machine.states ≤ MOST_ACTS + 1
 
+-- .. of all machines that are there
 abbrev pub AreShort : List (Option Machine_data) → Type 0
 AreShort machines = AllHave IsShort machines
 
+-- each machine stands in its role's place
 abbrev pub AreInPlace : List (Option Machine_data) → Type 0
 AreInPlace machines = StandInPlace (λ (machine : Machine_data). machine.role) machines
 
@@ -78,9 +81,11 @@ pub record AreHeld {A : Type 0} (role_of : A → Role) (P : A → Type 0) (roles
   pub in_place : StandInPlace role_of parts
   pub all : AllHave P parts
 
+-- .. machines, none of them too long
 abbrev pub MachinesAreHeld : List (List ℕ) → List (Option Machine_data) → Type 0
 MachinesAreHeld roles machines = AreHeld (λ (machine : Machine_data). machine.role) IsShort roles machines
 
+-- .. derivations, each within the limits of a text
 abbrev pub DerivationsAreHeld : List (List ℕ) → List (Option Derivation_data) → Type 0
 DerivationsAreHeld roles derivations = AreHeld (λ (derivation : Derivation_data). derivation.role) IsBounded roles derivations
 

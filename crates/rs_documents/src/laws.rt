@@ -1,6 +1,8 @@
 //! Laws about the definitions: each function does nothing, and its contract is the law.
 
 ghost use Rattle.std.specs.Prelude.{◌≡◌, ◌⊎◌, ℕ, List, Option};
+ghost use Rattle.rs_documents.specs.Again.{CanBeReadAgain, HasAllLabels, labels_of_text, renumbered};
+ghost use Rattle.rs_documents.specs.Canonical.{CanBeShown, IsCanonicalDocument};
 ghost use Rattle.rs_documents.specs.Data.{Document_data};
 ghost use Rattle.rs_documents.specs.Documents.{FirstFault, SpellsDocument};
 ghost use Rattle.rs_documents.specs.Spells.{SpellsMachines};
@@ -35,4 +37,44 @@ pub fn document_has_the_machines_of_its_text()
 /// .. and it spells one protocol and one list of machines at most.
 pub fn text_spells_one_list_of_machines()
     ensures { (bytes : List ℕ) (protocol other : Protocol_data) (machines others : List (Option Machine_data)) → SpellsMachines bytes protocol machines → SpellsMachines bytes other others → (protocol ≡ other) × (machines ≡ others) }
+{}
+
+/// What can be shown has a canonical text ..
+pub fn canonical_text_is_there()
+    ensures { (d : Document_data) → CanBeShown d → (text : List ℕ) × IsCanonicalDocument d text }
+{}
+
+/// .. and one only.
+pub fn canonical_text_is_one()
+    ensures { (d : Document_data) (text other : List ℕ) → CanBeShown d → IsCanonicalDocument d text → IsCanonicalDocument d other → text ≡ other }
+{}
+
+/// A document that a text spells can be read again from its canonical text ..
+pub fn spelt_documents_can_be_read_again()
+    ensures { (bytes : List ℕ) (d : Document_data) → SpellsDocument bytes d → CanBeReadAgain d }
+{}
+
+/// .. for of what can be read again, that text spells the document, with its labels in the order of their first places ..
+pub fn canonical_text_is_read_again()
+    ensures { (d : Document_data) (text : List ℕ) → CanBeReadAgain d → (canonical : IsCanonicalDocument d text) → SpellsDocument text (renumbered d (labels_of_text d text canonical)) }
+{}
+
+/// .. and what it spells has this same canonical text.
+pub fn canonical_text_is_printed_as_itself()
+    ensures { (d e : Document_data) (text : List ℕ) → CanBeReadAgain d → IsCanonicalDocument d text → SpellsDocument text e → IsCanonicalDocument e text }
+{}
+
+/// Where the labels of the document stand in that order already, its canonical text spells just this document ..
+pub fn labels_in_order_keep_their_numbers()
+    ensures { (d : Document_data) (text : List ℕ) → CanBeReadAgain d → (canonical : IsCanonicalDocument d text) → d.names.labels ≡ labels_of_text d text canonical → SpellsDocument text d }
+{}
+
+/// .. as where machines and derivations have no labels but the protocol's.
+pub fn labels_of_the_protocol_keep_their_numbers()
+    ensures { (d : Document_data) (text : List ℕ) → CanBeReadAgain d → HasAllLabels d.names d.protocol → IsCanonicalDocument d text → SpellsDocument text d }
+{}
+
+/// A document has its own labels: with these nothing is renumbered.
+pub fn own_labels_renumber_nothing()
+    ensures { (d : Document_data) → CanBeReadAgain d → renumbered d d.names.labels ≡ d }
 {}

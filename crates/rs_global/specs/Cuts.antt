@@ -38,6 +38,7 @@ pub data ProtocolCut : Type 0 where
   behind_further : (first second : List ℕ) → (further : List (List ℕ)) → ProtocolCut
   in_body : (first second : List ℕ) → (further : List (List ℕ)) → (body : Cut) → ProtocolCut
 
+-- the tokens before the place
 abbrev mutual
   pub cut_signs : Cut → List Sign
   cut_signs at_body = []
@@ -62,6 +63,7 @@ abbrev mutual
 abbrev pub line_signs : List ℕ → List (List ℕ) → List Sign
 line_signs first further = plain (codes "roles") ∷ plain first ∷ flat_map further_signs further
 
+-- the tokens of a protocol before the place
 abbrev pub protocol_cut_signs : ProtocolCut → List Sign
 protocol_cut_signs at_begin = []
 protocol_cut_signs at_first = plain (codes "roles") ∷ []
@@ -91,6 +93,7 @@ abbrev mutual
   wanted_in (in_branch l sort b) = wanted_at b wanted.CommaOrCloseBrace
   wanted_in (later l sort b arms) = wanted_in arms
 
+-- what is wanted at the place of a protocol
 abbrev pub wanted_of : ProtocolCut → Wanted
 wanted_of at_begin = wanted.Roles
 wanted_of at_first = wanted.Role

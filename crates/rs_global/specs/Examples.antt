@@ -3,9 +3,11 @@ use Rattle.std.specs.Prelude.{ℕ, List, [], codes, Some, None}
 use Rattle.rs_model.specs.declared.values.Sort.TheVariants as sort
 use Rattle.rs_global.specs.Trees.{ProtocolTree, binds, offers, more, one, again, ends}
 
+-- a text in which a talk is gone back to
 abbrev pub text : List ℕ
 text = codes "roles A,B protocol rec X. A->B{x(). X, y(nat). end}"
 
+-- its tree
 abbrev pub tree : ProtocolTree
 tree = record {
   first = codes "A";

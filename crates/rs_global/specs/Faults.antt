@@ -29,6 +29,7 @@ EndsByName behind_end = ⊥
 EndsByName (behind_brace s r arms) = ⊥
 EndsByName _ = Unit {0}
 
+-- at that place the protocol is still read
 abbrev pub IsInReach : ProtocolCut → Type 0
 IsInReach (in_body x y xs body) = EndsByName body
 IsInReach _ = Unit {0}

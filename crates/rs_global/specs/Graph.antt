@@ -68,19 +68,24 @@ pub record Numbering : Type 0 where
   pub names : Names_data
   pub last : ℕ
 
+-- the role with that name
 abbrev pub role_of : Numbering → List ℕ → Role
 role_of n name = record { 0 = number_or (place_of name n.names.roles) }
 
+-- the label with that name
 abbrev pub label_of : Numbering → List ℕ → Label
 label_of n name = record { 0 = number_or (place_of name n.names.labels) }
 
+-- the arm with that label and sort, to that node
 abbrev pub arm_of : Numbering → List ℕ → Option Sort → ℕ → Arm
 arm_of n l sort next = record { label = label_of n l; sort = sort_or_unit sort; next = next }
 
+-- the arms in braces, with `count` talks before the first one's body
 abbrev pub arms_of : Numbering → Branches → Bound → ℕ → List Arm
 arms_of n (one l sort body) bound count = arm_of n l sort (first_node body bound count n.last) ∷ []
 arms_of n (more l sort body arms) bound count = arm_of n l sort (first_node body bound count n.last) ∷ arms_of n arms bound (count + talks_in body)
 
+-- the talk from s to r with these arms
 abbrev pub talk_of : Numbering → List ℕ → List ℕ → List Arm → Node
 talk_of n s r arms = node.Talk (role_of n s) (role_of n r) arms
 
@@ -97,6 +102,7 @@ abbrev mutual
   nodes_of_arms n (one l sort body) bound count = nodes_of n body bound count
   nodes_of_arms n (more l sort body arms) bound count = nodes_of n body bound count ++ nodes_of_arms n arms bound (count + talks_in body)
 
+-- the names of a tree, and the number of its end
 abbrev pub numbering : ProtocolTree → Numbering
 numbering t = record { names = names_of t; last = talks_in t.body }
 

@@ -28,6 +28,7 @@ abbrev pub fault_of_name : Option ℕ → ℕ → Option TextKind
 fault_of_name None count = Some kind.UnboundName
 fault_of_name (Some k) count = if nat_lt k count then None else Some kind.Unguarded
 
+-- a sender that isn't among the roles, or whose talk is the 1,025th
 abbrev pub fault_of_sender : List ℕ → Scene → Option TextKind
 fault_of_sender word s = if is_among word s.roles then (if nat_le 1024 s.talks then Some kind.TooManyNodes else None) else Some kind.UnknownRole
 
@@ -41,6 +42,7 @@ fault_of_word word _ s = fault_of_name (bound_to word s.bound) s.talks
 abbrev pub fault_of_depth : Scene → Option TextKind
 fault_of_depth s = if nat_le 200 s.depth then Some kind.TooDeep else None
 
+-- a receiver that isn't among the roles
 abbrev pub fault_of_receiver : List ℕ → Scene → Option TextKind
 fault_of_receiver word s = if is_among word s.roles then None else Some kind.UnknownRole
 
@@ -48,6 +50,7 @@ fault_of_receiver word s = if is_among word s.roles then None else Some kind.Unk
 abbrev pub fault_of_label : List ℕ → Scene → Option TextKind
 fault_of_label l s = if is_among l s.labels then None else if nat_le 256 (length s.labels) then Some kind.TooManyLabels else None
 
+-- a role whose name stands on the roles line already, or that is the 17th
 abbrev pub fault_of_new_role : List ℕ → List (List ℕ) → Option TextKind
 fault_of_new_role word roles = if is_among word roles then Some kind.NameTwice else if nat_le 16 (length roles) then Some kind.TooManyRoles else None
 
@@ -67,6 +70,7 @@ abbrev pub fault_in_line : Sign → List (List ℕ) → Option TextKind
 fault_in_line (plain word) roles = fault_of_new_role word roles
 fault_in_line _ roles = None
 
+-- the fault of names or limits that a token has at the place of a protocol
 abbrev pub fault_of : ProtocolCut → Sign → Sign → Option TextKind
 fault_of at_first t next = fault_in_line t []
 fault_of (at_further x xs) t next = fault_in_line t (x ∷ xs)

@@ -18,6 +18,7 @@ abbrev pub marked : ℕ → List Arm → List Bool → List Bool
 marked node [] flags = flags
 marked node (a ∷ more) flags = marked node more (if nat_le a.next node && nat_lt a.next (length flags) then slice_set flags a.next true else flags)
 
+-- .. of the node with the number n
 abbrev pub marked_node : ℕ → Node → List Bool → List Bool
 marked_node n Finished flags = flags
 marked_node n (Talk sender receiver arms) flags = marked n arms flags
@@ -63,12 +64,15 @@ pub record Step : Type 0 where
   pub opened : List Brace_data
   pub next : Option Target
 
+-- the step that writes this, opens these braces and goes on there
 abbrev pub step : List ℕ → List Brace_data → Option Target → Step
 step written opened next = record { written = written; opened = opened; next = next }
 
+-- braces in which these arms are still to be written
 abbrev pub opened : ℕ → List Arm → List Brace_data
 opened from arms = record { from = from; arms = arms } ∷ []
 
+-- that node is to be written next
 abbrev pub target : ℕ → ℕ → Option Target
 target from node = Some (record { from = from; node = node })
 
@@ -96,6 +100,7 @@ abbrev further_step : Names_data → ℕ → List Arm → Step
 further_step names from [] = step (codes "}") [] None
 further_step names from (a ∷ more) = step (codes ", " ++ head_text names a) (opened from more) (target from a.next)
 
+-- .. in these braces
 abbrev pub brace_step : Names_data → Brace_data → Step
 brace_step names brace = further_step names brace.from brace.arms
 
@@ -109,6 +114,7 @@ pub record Printer_data : Type 0 where
   pub next : Option Target
   pub braces : List Brace_data
 
+-- the printer behind that step
 abbrev pub printed : Step → Printer_data → Printer_data
 printed s p = record p { text = p.text ++ s.written; next = s.next; braces = s.opened ++ p.braces }
 
@@ -118,6 +124,7 @@ turned_by (Some t) braces p = printed (node_step p.names p.protocol.nodes p.flag
 turned_by None (brace ∷ outer) p = printed (brace_step p.names brace) (record p { braces = outer })
 turned_by None [] p = p
 
+-- .. from where the printer stands
 abbrev pub turned : Printer_data → Printer_data
 turned p = turned_by p.next p.braces p
 
@@ -125,5 +132,6 @@ turned p = turned_by p.next p.braces p
 abbrev pub is_left : Printer_data → Bool
 is_left p = is_some p.next || nat_lt 0 (length p.braces)
 
+-- the printer before the first step, behind that text
 abbrev pub begins_with : Names_data → Protocol_data → List Bool → List ℕ → Printer_data
 begins_with names protocol flags text = record { names = names; protocol = protocol; flags = flags; text = text; next = target 0 protocol.root; braces = [] }

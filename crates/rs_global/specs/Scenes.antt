@@ -12,15 +12,19 @@ pub record Scene : Type 0 where
   pub talks : ℕ
   pub labels : List (List ℕ)
 
+-- behind a label
 abbrev pub with_label : List ℕ → Scene → Scene
 with_label l s = record s { labels = grown s.labels (l ∷ []) }
 
+-- within a talk
 abbrev pub in_talk : Scene → Scene
 in_talk s = record s { talks = suc s.talks }
 
+-- within the braces of a talk
 abbrev pub in_braces : Scene → Scene
 in_braces s = record s { talks = suc s.talks; depth = suc s.depth }
 
+-- within the body of a rec that binds the name
 abbrev pub in_rec : List ℕ → Scene → Scene
 in_rec name s = record s { bound = (name, s.talks) ∷ s.bound; depth = suc s.depth }
 

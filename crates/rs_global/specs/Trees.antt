@@ -38,6 +38,7 @@ abbrev mutual
   branch_signs (one label sort body) = arm_signs label sort ++ body_signs body
   branch_signs (more label sort body arms) = arm_signs label sort ++ (body_signs body ++ comma ∷ branch_signs arms)
 
+-- the tokens of a further role on the roles line
 abbrev pub further_signs : List ℕ → List Sign
 further_signs name = comma ∷ plain name ∷ []
 
@@ -45,6 +46,7 @@ further_signs name = comma ∷ plain name ∷ []
 abbrev pub protocol_signs : ProtocolTree → List Sign
 protocol_signs t = plain (codes "roles") ∷ plain t.first ∷ comma ∷ plain t.second ∷ (flat_map further_signs t.further ++ plain (codes "protocol") ∷ body_signs t.body)
 
+-- the names of the roles, in order of the roles line
 abbrev pub roles_of : ProtocolTree → List (List ℕ)
 roles_of t = t.first ∷ t.second ∷ t.further
 

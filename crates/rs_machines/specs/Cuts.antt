@@ -53,6 +53,7 @@ abbrev mutual
   branch_cut_signs (in_branch l sort b) = arm_signs l sort ++ cut_signs b
   branch_cut_signs (later l sort b arms) = arm_signs l sort ++ (body_signs b ++ comma ∷ branch_cut_signs arms)
 
+-- the tokens of a machine before the place
 abbrev pub machine_cut_signs : MachineCut → List Sign
 machine_cut_signs at_begin = []
 machine_cut_signs at_role = plain (codes "machine") ∷ []

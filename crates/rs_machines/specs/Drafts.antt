@@ -12,9 +12,11 @@ abbrev pub settled_target : ℕ → Option ℕ → ℕ
 settled_target last None = last
 settled_target last (Some n) = n
 
+-- an arm that was read, with the number to which it leads
 abbrev pub settled_arm : ℕ → DraftArm → Arm
 settled_arm last a = record { label = a.label; sort = a.sort; next = settled_target last a.next }
 
+-- an act that was read, as a state
 abbrev pub settled : ℕ → Draft_data → State
 settled last d = state_of d.mark d.peer (map (settled_arm last) d.arms)
 
@@ -23,6 +25,7 @@ abbrev pub with_arm : DraftArm → Option Draft_data → List Draft_data → ℕ
 with_arm arm None drafts k = drafts
 with_arm arm (Some d) drafts k = slice_set drafts k (record { peer = d.peer; mark = d.mark; arms = d.arms ++ arm ∷ [] })
 
+-- the machine of the acts that were read
 abbrev pub machine_read : Reader_data → Machine_data
 machine_read r = record {
   role = r.role;
@@ -30,5 +33,6 @@ machine_read r = record {
   start = settled_target (length r.drafts) r.start;
 }
 
+-- the names that were read
 abbrev pub names_read : Reader_data → Names_data
 names_read r = record { roles = r.roles; labels = r.labels }

@@ -5,6 +5,7 @@ use Rattle.rs_model.specs.declared.values.Sort.TheVariants as sort
 use Rattle.rs_machines.specs.declared.marks.Mark.TheVariants as mark
 use Rattle.rs_machines.specs.Trees.{MachineTree, binds, offers, more, one, again, ends}
 
+-- a text in which an act is gone back to
 abbrev pub text : List ℕ
 text = codes "machine A: rec X. B!{x(). X, y(nat). end}"
 
@@ -12,6 +13,7 @@ text = codes "machine A: rec X. B!{x(). X, y(nat). end}"
 abbrev pub old : Names_data
 old = record { roles = codes "A" ∷ codes "B" ∷ []; labels = codes "y" ∷ [] }
 
+-- its tree
 abbrev pub tree : MachineTree
 tree = record {
   role = codes "A";

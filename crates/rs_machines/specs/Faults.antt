@@ -32,6 +32,7 @@ EndsByName behind_end = ⊥
 EndsByName (behind_brace p m arms) = ⊥
 EndsByName _ = Unit {0}
 
+-- at that place the machine is still read
 abbrev pub IsInReach : MachineCut → Type 0
 IsInReach (in_body x body) = EndsByName body
 IsInReach _ = Unit {0}

@@ -27,12 +27,15 @@ use Rattle.rs_machines.specs.Data.{Reader_data, Draft_data}
 use Rattle.rs_machines.specs.Drafts.{with_arm, machine_read, names_read}
 use Rattle.rs_text.specs.Readings.{Automaton, Reading, fault, expected, read_all, ReadsBy, last_of}
 
+-- the reader behind a token, or the fault of the token
 abbrev pub Fed : Type 0
 Fed = Result Reader_data TextFault
 
+-- the reader before the first token, with the names that are there
 abbrev pub begin : Names_data → Reader_data
 begin old = record { roles = old.roles; labels = old.labels; role = record { 0 = 0 }; drafts = []; start = None; ended = false; bound = []; depth = 0; frames = []; mode = mode.Machine }
 
+-- the reader goes on in that mode
 abbrev pub in_mode : Mode → Reader_data → Fed
 in_mode m r = Ok (record r { mode = m })
 
@@ -41,10 +44,12 @@ abbrev pub linked_start : Link → Option ℕ → Option ℕ → Option ℕ
 linked_start link.Start target start = target
 linked_start (link.OfArm act label sort) target start = start
 
+-- .. where it is the body of an arm
 abbrev pub linked_drafts : Link → Option ℕ → List Draft_data → List Draft_data
 linked_drafts link.Start target drafts = drafts
 linked_drafts (link.OfArm act label sort) target drafts = with_arm (record { label = label; sort = sort; next = target }) (slice_get drafts act) drafts act
 
+-- .. be it that of an arm or of the whole machine
 abbrev pub linked : Link → Option ℕ → Reader_data → Reader_data
 linked from target r = record r { start = linked_start from target r.start; drafts = linked_drafts from target r.drafts }
 
@@ -52,14 +57,17 @@ linked from target r = record r { start = linked_start from target r.start; draf
 abbrev pub feed_machine : Sign → ℕ → Reader_data → Fed
 feed_machine t at r = if is_text (codes "machine") (plain_text t) then in_mode mode.AtRole r else expected wanted.PartOrEnd at
 
+-- .. where there is such a role
 abbrev pub role_by : Option ℕ → ℕ → Reader_data → Fed
 role_by None at r = fault kind.UnknownRole at
 role_by (Some k) at r = Ok (record r { role = record { 0 = k }; mode = mode.AtColon })
 
+-- .. by its name
 abbrev pub feed_role : Option (List ℕ) → ℕ → Reader_data → Fed
 feed_role None at r = expected wanted.Role at
 feed_role (Some word) at r = role_by (place_of word r.roles) at r
 
+-- the colon behind the role
 abbrev pub feed_colon : Sign → ℕ → Reader_data → Fed
 feed_colon colon at r = in_mode (mode.Body link.Start) r
 feed_colon _ at r = expected wanted.Colon at
@@ -69,6 +77,7 @@ abbrev pub met_by : Option ℕ → Link → ℕ → Reader_data → Fed
 met_by None from at r = fault kind.UnknownRole at
 met_by (Some k) from at r = if nat_le 256 (length r.drafts) then fault kind.TooManyNodes at else in_mode (mode.AtMark from (record { 0 = k })) r
 
+-- a recursion name that is bound to act k, or to none
 abbrev pub named : Option ℕ → Link → ℕ → Reader_data → Fed
 named None from at r = fault kind.UnboundName at
 named (Some k) from at r = if nat_lt k (length r.drafts) then in_mode mode.Next (linked from (Some k) r) else fault kind.Unguarded at
@@ -80,19 +89,23 @@ feed_word from word question at next r = met_by (place_of word r.roles) from at 
 feed_word from word (broken k) at next r = fault (kind_of k) next
 feed_word from word _ at next r = named (bound_to word r.bound) from at r
 
+-- the word rec
 abbrev pub feed_rec : Link → ℕ → Reader_data → Fed
 feed_rec from at r = if nat_le 200 r.depth then fault kind.TooDeep at else Ok (record r { depth = suc r.depth; mode = mode.RecName from })
 
+-- the first token of a body
 abbrev pub feed_body : Link → Sign → ℕ → Lexeme → Reader_data → Fed
 feed_body from rec_word at next r = feed_rec from at r
 feed_body from end_word at next r = Ok (record (linked from None r) { ended = true; mode = mode.Next })
 feed_body from (plain word) at next r = feed_word from word next.sign at next.from r
 feed_body from _ at next r = expected wanted.Body at
 
+-- the name behind a rec
 abbrev pub feed_rec_name : Link → Option (List ℕ) → ℕ → Reader_data → Fed
 feed_rec_name from None at r = expected wanted.Name at
 feed_rec_name from (Some word) at r = Ok (record r { bound = (word, length r.drafts) ∷ r.bound; mode = mode.RecDot from })
 
+-- the dot behind this name
 abbrev pub feed_rec_dot : Link → Sign → ℕ → Reader_data → Fed
 feed_rec_dot from dot at r = in_mode (mode.Body from) r
 feed_rec_dot from _ at r = expected wanted.Dot at
@@ -103,6 +116,7 @@ placed from p m r =
     let l : Reader_data = linked from (Some (length r.drafts)) r in
     record l { drafts = l.drafts ++ record { peer = p; mark = m; arms = [] } ∷ []; mode = mode.AtLabel (length r.drafts) true }
 
+-- .. where there is room for one more
 abbrev pub marked : Link → Role → Mark → ℕ → Reader_data → Fed
 marked from p m at r = if nat_le 256 (length r.drafts) then fault kind.TooManyNodes at else Ok (placed from p m r)
 
@@ -112,12 +126,15 @@ feed_mark from p bang at r = marked from p mark.Puts at r
 feed_mark from p question at r = marked from p mark.Takes at r
 feed_mark from p _ at r = expected wanted.Mark at
 
+-- behind the open brace of an act
 abbrev pub opened : ℕ → Reader_data → Reader_data
 opened act r = record r { depth = suc r.depth; frames = record { act = act; bound = length r.bound; depth = suc r.depth } ∷ r.frames; mode = mode.AtLabel act false }
 
+-- an open brace
 abbrev pub feed_brace : ℕ → ℕ → Reader_data → Fed
 feed_brace act at r = if nat_le 200 r.depth then fault kind.TooDeep at else Ok (opened act r)
 
+-- the label with that number
 abbrev pub label_of_number : ℕ → Label
 label_of_number k = record { 0 = k }
 
@@ -131,34 +148,42 @@ abbrev pub label_wanted : Bool → Wanted
 label_wanted true = wanted.LabelOrBrace
 label_wanted false = wanted.Label
 
+-- the label of an arm
 abbrev pub feed_label : ℕ → Wanted → Option (List ℕ) → ℕ → Reader_data → Fed
 feed_label act w None at r = expected w at
 feed_label act w (Some word) at r = labelled_by (place_of word r.labels) act word at r
 
+-- the label of an arm, or an open brace where one may stand
 abbrev pub feed_head : ℕ → Sign → Bool → ℕ → Reader_data → Fed
 feed_head act open_brace true at r = feed_brace act at r
 feed_head act t brace at r = feed_label act (label_wanted brace) (word_text t) at r
 
+-- the open parenthesis behind a label
 abbrev pub feed_paren : ℕ → Label → Sign → ℕ → Reader_data → Fed
 feed_paren act label open_paren at r = in_mode (mode.AtSort act label) r
 feed_paren act label _ at r = expected wanted.OpenParen at
 
+-- the sort that a word names, where it names one
 abbrev pub sorted_by : Option Sort → ℕ → Label → ℕ → Reader_data → Fed
 sorted_by None act label at r = expected wanted.SortOrCloseParen at
 sorted_by (Some s) act label at r = in_mode (mode.CloseParen act label s) r
 
+-- a word where a sort may stand
 abbrev pub sort_word : ℕ → Label → Option (List ℕ) → ℕ → Reader_data → Fed
 sort_word act label None at r = expected wanted.SortOrCloseParen at
 sort_word act label (Some word) at r = sorted_by (sort_named word) act label at r
 
+-- the sort of an arm, or the close parenthesis where there is none
 abbrev pub feed_sort : ℕ → Label → Sign → ℕ → Reader_data → Fed
 feed_sort act label close_paren at r = in_mode (mode.ArmDot act label sort.Unit) r
 feed_sort act label t at r = sort_word act label (plain_text t) at r
 
+-- the close parenthesis behind a sort
 abbrev pub feed_close_paren : ℕ → Label → Sort → Sign → ℕ → Reader_data → Fed
 feed_close_paren act label s close_paren at r = in_mode (mode.ArmDot act label s) r
 feed_close_paren act label s _ at r = expected wanted.CloseParen at
 
+-- the dot behind the head of an arm
 abbrev pub feed_arm_dot : ℕ → Label → Sort → Sign → ℕ → Reader_data → Fed
 feed_arm_dot act label s dot at r = in_mode (mode.Body (link.OfArm act label s)) r
 feed_arm_dot act label s _ at r = expected wanted.Dot at
@@ -167,12 +192,14 @@ feed_arm_dot act label s _ at r = expected wanted.Dot at
 abbrev pub restored : Frame → Reader_data → Reader_data
 restored f r = record r { bound = drop (length r.bound - f.bound) r.bound; depth = f.depth }
 
+-- a token behind a body, where these braces are open
 abbrev pub feed_next : List Frame → Sign → ℕ → Reader_data → Fed
 feed_next [] t at r = expected wanted.PartOrEnd at
 feed_next (f ∷ fs) comma at r = Ok (record (restored f r) { mode = mode.AtLabel f.act false })
 feed_next (f ∷ fs) close_brace at r = Ok (record (restored f r) { mode = mode.Next; frames = fs })
 feed_next (f ∷ fs) _ at r = expected wanted.CommaOrCloseBrace at
 
+-- .. where those of the reader are open
 abbrev pub feed_behind : Sign → ℕ → Reader_data → Fed
 feed_behind t at r = feed_next r.frames t at r
 
@@ -192,13 +219,16 @@ feed_at (mode.CloseParen act label s) t at next r = feed_close_paren act label s
 feed_at (mode.ArmDot act label s) t at next r = feed_arm_dot act label s t at r
 feed_at mode.Next t at next r = feed_behind t at r
 
+-- .. in the mode of the reader
 abbrev pub feed_of : Sign → ℕ → Lexeme → Reader_data → Fed
 feed_of t at next r = feed_at r.mode t at next r
 
+-- the mode behind a body
 abbrev pub behind_body : Mode → Bool
 behind_body mode.Next = true
 behind_body _ = false
 
+-- no braces are open
 abbrev pub no_frames : List Frame → Bool
 no_frames [] = true
 no_frames (f ∷ fs) = false
@@ -217,6 +247,7 @@ pub record Answer : Type 0 where
   pub machine : Machine_data
   pub until : ℕ
 
+-- the answer of a reading, or its fault
 abbrev pub answered : Result (Reading Reader_data) TextFault → Result Answer TextFault
 answered (Err e) = Err e
 answered (Ok x) = Ok (record { names = names_read x.reader; machine = machine_read x.reader; until = x.until })

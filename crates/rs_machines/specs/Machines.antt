@@ -70,15 +70,19 @@ pub record Numbering : Type 0 where
   pub names : Names_data
   pub last : ℕ
 
+-- the role with that name
 abbrev pub role_of : Numbering → List ℕ → Role
 role_of n name = record { 0 = number_or (place_of name n.names.roles) }
 
+-- the label with that name
 abbrev pub label_of : Numbering → List ℕ → Label
 label_of n name = record { 0 = number_or (place_of name n.names.labels) }
 
+-- the arm with that label and sort, to that state
 abbrev pub arm_of : Numbering → List ℕ → Option Sort → ℕ → Arm
 arm_of n l sort next = record { label = label_of n l; sort = sort_or_unit sort; next = next }
 
+-- the arms in braces, with `count` acts before the first one's body
 abbrev pub arms_of : Numbering → Branches → Bound → ℕ → List Arm
 arms_of n (one l sort body) bound count = arm_of n l sort (first_state body bound count n.last) ∷ []
 arms_of n (more l sort body arms) bound count = arm_of n l sort (first_state body bound count n.last) ∷ arms_of n arms bound (count + acts_in body)
@@ -88,6 +92,7 @@ abbrev pub state_of : Mark → Role → List Arm → State
 state_of mark.Puts peer arms = state.Puts peer arms
 state_of mark.Takes peer arms = state.Takes peer arms
 
+-- the state that does the act with the peer p by these arms
 abbrev pub act_of : Numbering → List ℕ → Mark → List Arm → State
 act_of n p m arms = state_of m (role_of n p) arms
 
@@ -104,6 +109,7 @@ abbrev mutual
   states_of_arms n (one l sort body) bound count = states_of n body bound count
   states_of_arms n (more l sort body arms) bound count = states_of n body bound count ++ states_of_arms n arms bound (count + acts_in body)
 
+-- the names that are there behind a tree, and the number of its end
 abbrev pub numbering : Names_data → MachineTree → Numbering
 numbering old t = record { names = names_of old t; last = acts_in t.body }
 

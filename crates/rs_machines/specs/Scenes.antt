@@ -13,15 +13,19 @@ pub record Scene : Type 0 where
   pub acts : ℕ
   pub labels : List (List ℕ)
 
+-- behind a label
 abbrev pub with_label : List ℕ → Scene → Scene
 with_label l s = record s { labels = grown s.labels (l ∷ []) }
 
+-- within an act
 abbrev pub in_act : Scene → Scene
 in_act s = record s { acts = suc s.acts }
 
+-- within the braces of an act
 abbrev pub in_braces : Scene → Scene
 in_braces s = record s { acts = suc s.acts; depth = suc s.depth }
 
+-- within the body of a rec that binds the name
 abbrev pub in_rec : List ℕ → Scene → Scene
 in_rec name s = record s { bound = (name, s.acts) ∷ s.bound; depth = suc s.depth }
 

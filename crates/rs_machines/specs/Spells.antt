@@ -12,6 +12,7 @@ abbrev pub is_guarded : Option ℕ → ℕ → Bool
 is_guarded None count = false
 is_guarded (Some k) count = nat_lt k count
 
+-- the label is known, or there are fewer than the limit
 abbrev pub has_room_for : List ℕ → Scene → Bool
 has_room_for label s = is_among label s.labels || nat_lt (length s.labels) 256
 

@@ -25,6 +25,7 @@ sort_in_table sort.Numbers = sort_text sort.Numbers
 abbrev pub arm_in_table : Names_data → Arm → List ℕ
 arm_in_table names a = name_at names.labels a.label.0 ++ codes "(" ++ sort_in_table a.sort ++ codes ") " ++ decimal a.next
 
+-- .. behind another arm
 abbrev pub later_arm_in_table : Names_data → Arm → List ℕ
 later_arm_in_table names a = codes ", " ++ arm_in_table names a
 
@@ -33,6 +34,7 @@ abbrev pub arms_in_table : Names_data → List Arm → List ℕ
 arms_in_table names [] = []
 arms_in_table names (a ∷ later) = arm_in_table names a ++ flat_map (later_arm_in_table names) later
 
+-- PEER ( "!" | "?" ) "{" arms "}"
 abbrev pub choice_in_table : Names_data → Role → List ℕ → List Arm → List ℕ
 choice_in_table names peer mark arms = name_at names.roles peer.0 ++ mark ++ codes "{" ++ arms_in_table names arms ++ codes "}"
 
@@ -51,5 +53,6 @@ abbrev pub rows_from : Names_data → ℕ → List State → List ℕ
 rows_from names n [] = []
 rows_from names n (s ∷ later) = row names n s ++ rows_from names (suc n) later
 
+-- "table" ROLE "{", the lines of all states, and "}"
 abbrev pub table_of : Names_data → Machine_data → List ℕ
 table_of names m = codes "table " ++ name_at names.roles m.role.0 ++ codes " {" ++ 10 ∷ (rows_from names 0 m.states ++ codes "}" ++ 10 ∷ [])
