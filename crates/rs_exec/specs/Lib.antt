@@ -1,1 +1,5 @@
 pub mod Inline
+pub mod Data
+pub mod Tasks
+pub mod Players
+pub mod Polling

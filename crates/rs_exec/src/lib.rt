@@ -3,7 +3,11 @@
 
 mod inline;
 pub mod laws;
+mod polling;
+mod tasks;
 #[cfg(test)]
 mod tests;
 
 pub use inline::{ExecFault, run_inline};
+pub use polling::RoleFuture;
+pub use tasks::{RoleTask, Turn, Why};

@@ -1,0 +1,96 @@
+-- The passes of first stages.
+use Rattle.std.proofs.Common.{◌≡◌, ◌≢◌, inl, inr, ℕ, zero, suc, ◌+◌, ◌<◌, Bool, true, false, if◌then◌else◌, List, [], ◌∷◌, length, Option, Some, None, IsSome, slice_get, refl, sym, ap, ◌∙◌, ◌++◌, subst, arith, rules, eq-eqb, length-append}
+use Rattle.std.proofs.lemmas.Bool.Decides.{eqb_tells}
+use Rattle.std.proofs.lemmas.Option.{slice_get_within}
+use Rattle.rs_model.specs.Data.{Machine_data}
+use Rattle.rs_core.specs.Choices.{AreWellFormed}
+use Rattle.rs_core.specs.Configurations.{state_of}
+use Rattle.rs_rings.specs.Views.{speaks, the_part, part_of, start_of, starting, left_by, alone}
+use Rattle.rs_rings.specs.declared.views.Part.{Part}
+use Rattle.rs_rings.specs.declared.views.View.{View}
+use Rattle.rs_rings.proofs.Parts.{the_role}
+use Rattle.rs_rings.proofs.Seats.{speaks_one, speaks_without, speaks_gone, the_without, first_speaks, first_part_is, first_below}
+use Rattle.rs_rings.specs.Passes.{Rings_data}
+use Rattle.rs_session.specs.Stages.{AreFirst, IsOf, first_stage, shown}
+use Rattle.rs_session.specs.Standing.{AreFirstFrom, IsFirst}
+use Rattle.rs_session.specs.declared.stages.Stage.{Stage}
+use Rattle.rs_session.proofs.HandedIn.{at_end, in_front}
+
+pub all_first : (machines : List Machine_data) (view : View) → view ≡ starting machines → AreFirstFrom machines 0 view
+all_first machines view is = subst (AreFirstFrom machines 0) (sym is) record {
+  speaks = λ r from below. first_speaks machines (length machines) r below;
+  first = λ r from below. first_part_is machines (length machines) r below;
+  only = λ r says. (let b : r < length machines = first_below machines (length machines) r says in (omega arith, b));
+}
+
+pub rest_first : (machines : List Machine_data) (k : ℕ) (v w : View) → AreFirstFrom machines k v → w ≡ left_by k v → AreFirstFrom machines (k + 1) w
+rest_first machines k v w all is = subst (AreFirstFrom machines (k + 1)) (sym is) record {
+  speaks = λ r from below. (let ne : r ≢ k = omega arith in speaks_without r k v.parts ne ∙ all.speaks r (omega arith) below);
+  first = λ r from below. (let ne : r ≢ k = omega arith in the_without r k v.parts ne ∙ all.first r (omega arith) below);
+  only = λ r says. elim (eqb_tells r k) [
+    | inl t ↦ (let gone : speaks r (left_by k v).parts ≡ false = ap (λ (z : ℕ). speaks z (left_by k v).parts) t.1 ∙ speaks_gone k v.parts in absurd (cc (gone, says)))
+    | inr t ↦ (let at = all.only r (sym (speaks_without r k v.parts t.1) ∙ says) in let ne = t.1 in (omega arith, at.1))
+  ];
+}
+
+pub own_first : (machines : List Machine_data) (k : ℕ) (v w : View) → AreFirstFrom machines k v → k < length machines → w ≡ alone k v → IsFirst machines k w
+own_first machines k v w all below is =
+    let says : speaks k v.parts ≡ true = all.speaks k (omega arith) below in
+    let role : (the_part k v.parts).role ≡ k = the_role k v.parts says in
+    let same = eq-eqb k (the_part k v.parts).role (sym role) in
+    subst (IsFirst machines k) (sym is) record {
+      below = below;
+      speaks = subst (λ (b : Bool). (if b then true else false) ≡ true) (sym same) refl;
+      only = λ y at. speaks_one y (the_part k v.parts) at ∙ role;
+      first = subst (λ (b : Bool). (if b then the_part k v.parts else the_part k []) ≡ the_part k v.parts) (sym same) refl ∙ all.first k (omega arith) below;
+    }
+
+pub last_first : (machines : List Machine_data) (k : ℕ) (v : View) → AreFirstFrom machines k v → k + 1 ≡ length machines → IsFirst machines k v
+last_first machines k v all last = record {
+  below = omega arith;
+  speaks = all.speaks k (omega arith) (omega arith);
+  only = λ y says. (let at = all.only y says in omega arith);
+  first = all.first k (omega arith) (omega arith);
+}
+
+-- the role of a machine's state is below their number, and the state's number below that of its states
+pub role_below : (machines : List Machine_data) (r s : ℕ) → IsSome (state_of (slice_get machines r) s) → r < length machines
+role_below machines r s is = by (slice_get machines r) refl is
+  where
+    by : (o : Option Machine_data) → slice_get machines r ≡ o → IsSome (state_of o s) → r < length machines
+    by None e none = absurd (search rules)
+    by (Some m) e some' = slice_get_within machines r m e
+
+pub is_some : {A : Type 0} (o : Option A) (x : A) → o ≡ Some x → IsSome o
+is_some o x e = subst IsSome (sym e) (search rules)
+
+get_there : {A : Type 0} (xs : List A) (k : ℕ) → k < length xs → (x : A) × (slice_get xs k ≡ Some x)
+get_there [] k below = absurd (omega arith)
+get_there (x ∷ xs) zero below = (x, refl)
+get_there (x ∷ xs) (suc k) below = get_there xs k (omega arith)
+
+-- a state of that number is there in a machine that has so many
+pub state_there : (machines : List Machine_data) (r s : ℕ) (m : Machine_data) → slice_get machines r ≡ Some m → s < length m.states → IsSome (state_of (slice_get machines r) s)
+state_there machines r s m is below = let at = get_there m.states s below in is_some (state_of (slice_get machines r) s) at.0 (ap (λ (o : Option Machine_data). state_of o s) is ∙ at.1)
+
+pub first_there : (machines : List Machine_data) (r : ℕ) (m : Machine_data) (view : View) → AreWellFormed machines → slice_get machines r ≡ Some m → IsFirst machines r view → IsSome (state_of (slice_get machines r) (part_of view r).state)
+first_there machines r m view well_formed is first =
+    let at : (part_of view r).state ≡ m.start = ap (λ (z : Part). z.state) first.first ∙ ap start_of is in
+    subst (λ (s : ℕ). IsSome (state_of (slice_get machines r) s)) (sym at) (state_there machines r m.start m is (well_formed.fits r m is).start)
+
+-- the first so many stages
+pub record AreBegun (session : Rings_data) (n : ℕ) (stages : List Stage) : Type 0 where
+  pub count : length stages ≡ n
+  pub each : (r : ℕ) → r < n → (stage : Stage) × (slice_get stages r ≡ Some stage) × IsOf session stage × (shown stage ≡ first_stage session r)
+
+pub begun_more : (session : Rings_data) (n : ℕ) (stages stages' : List Stage) (stage : Stage) → AreBegun session n stages → IsOf session stage → shown stage ≡ first_stage session n → stages' ≡ stages ++ stage ∷ [] → AreBegun session (n + 1) stages'
+begun_more session n stages stages' stage begun of first is = subst (AreBegun session (n + 1)) (sym is) record {
+  count = length-append stages (stage ∷ []) ∙ ap (λ (k : ℕ). k + 1) begun.count;
+  each = λ r below. elim (eqb_tells r n) [
+    | inl t ↦ (stage, ap (slice_get (stages ++ stage ∷ [])) (t.1 ∙ sym begun.count) ∙ at_end stages stage, of, first ∙ ap (first_stage session) (sym t.1))
+    | inr t ↦ (let ne = t.1 in let at = begun.each r (omega arith) in (at.0, in_front stages stage at.0 r at.1, at.2, at.3))
+  ];
+}
+
+pub all_begun : (session : Rings_data) (n : ℕ) (stages : List Stage) → AreBegun session n stages → n ≡ length session.machines → AreFirst session stages
+all_begun session n stages begun is = record { count = begun.count ∙ is; each = λ r below. begun.each r (omega arith) }

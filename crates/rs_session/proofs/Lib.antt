@@ -1,0 +1,5 @@
+pub mod OneRole
+pub mod HandedIn
+pub mod Beginning
+pub mod Telling
+pub mod OneKind

@@ -1,0 +1,33 @@
+use Rattle.std.proofs.Common.{◌≡◌, ◌+◌, ◌-◌, length, ap, ◌∙◌, arith}
+use Rattle.rs_session.specs.Stages.{first_stage, shown}
+use Rattle.rs_session.proofs.Beginning.{all_begun, all_first, begun_more, rest_first}
+use Rattle.rs_session.proofs.sessions.Session.first_stages.Goals as goal
+
+pub loop-number-init : goal.loop-number-init
+loop-number-init c = record {
+  count = ap length c.requires.none;
+  each = λ r below. absurd (omega arith);
+  room = c.requires.room;
+  same = c.requires.table;
+  pass = all_first c.args.self.now.machines c.args.pass.view c.requires.pass;
+}
+
+pub loop-number-preserved : goal.loop-number-preserved
+loop-number-preserved c =
+    let i = c.loop-number.invariant in
+    let more = begun_more c.args.self.now c.loop-number.number c.loop-number.stages.items c.push_stage.new.stages.items c.first.result record { count = i.count; each = i.each } c.first.ensures.of c.first.ensures.first c.push_stage.ensures.items in
+    record {
+      count = more.count;
+      each = more.each;
+      room = omega (arith, i.room, c.push_stage.ensures.capacity);
+      same = c.split-own.ensures.table.0 ∙ i.same;
+      pass = rest_first c.args.self.now.machines c.loop-number.number c.loop-number.pass.view c.split-own.new.pass.view i.pass c.split-own.ensures.old;
+    }
+
+pub returns : goal.returns
+returns c =
+    let i = c.loop-number.invariant in
+    let last : c.args.count - 1 ≡ c.loop-number.number = omega (arith, c.loop-number-test.false, c.loop-number.auto.number-end) in
+    let first : shown c.first-2.result ≡ first_stage c.args.self.now c.loop-number.number = c.first-2.ensures.first ∙ ap (first_stage c.args.self.now) last in
+    let more = begun_more c.args.self.now c.loop-number.number c.loop-number.stages.items c.push_stage-2.new.stages.items c.first-2.result record { count = i.count; each = i.each } c.first-2.ensures.of first c.push_stage-2.ensures.items in
+    all_begun c.args.self.now (c.loop-number.number + 1) c.push_stage-2.new.stages.items more (omega (arith, last, c.requires.count, c.requires.some))

@@ -1,0 +1,6 @@
+pub mod Data
+pub mod Stages
+pub mod Acts
+pub mod Ends
+pub mod Standing
+pub mod Leaving

@@ -1,0 +1,189 @@
+ghost use Rattle.std.specs.Prelude.{◌≡◌, ◌≤◌, ◌<◌, ◌++◌, ◌∷◌, ℕ, [], IfOk, IsSome, Some, length, slice_get, vec_len, vec_capacity};
+ghost use Rattle.rs_core.specs.Choices.{AreWellFormed};
+ghost use Rattle.rs_core.specs.Configurations.{state_of};
+ghost use Rattle.rs_model.specs.declared.machines.State.TheVariants.{Takes};
+ghost use Rattle.rs_model.specs.declared.values.Value.{Value};
+ghost use Rattle.rs_rings.specs.Views.{starting};
+ghost use Rattle.rs_session.specs.Acts.{SendsBy};
+ghost use Rattle.rs_session.specs.Stages.{AreFirst, IsOf, IsReceiving, first_stage, shown, state_at};
+ghost use Rattle.rs_session.specs.Standing.{IsFirst, IsWhole, SendsTo};
+
+use crate::stages::{Ended, Receiving, Sending, Stage};
+use crate::standing::Standing;
+use rs_model::{Arm, Machine, NoMemory, Role, State};
+use rs_rings::{Pass, Rings};
+use rs_safety::Accepted;
+use std::alloc::Global;
+use std::marker::Model;
+
+/// A session of accepted machines over bounded rings, one for each ordered pair of roles. Threads share it by `&Session`, and
+/// each acts by the stages that it holds.
+#[derive(Drop)]
+pub struct Session {
+    rings: Rings,
+}
+
+impl Model for Session {
+    ghost use Rattle.rs_rings.specs.Passes.{Rings_data};
+    ghost use Rattle.rs_session.specs.Standing.{IsWhole};
+
+    ghost Value = { Rings_data };
+
+    ghost view = { λ s. s.rings };
+
+    ghost invariant = { λ s. IsWhole s.rings };
+}
+
+impl Session {
+    /// Begins a session of the accepted machines over rings that hold `capacity` values each: a stage for each role, in role
+    /// order, at its machine's start. It takes all the memory that sends and receives ever use.
+    pub fn begin(
+        alloc: Global,
+        accepted: &Accepted,
+        capacity: u16,
+    ) -> Result<(Session, Vec<Stage>), NoMemory>
+        requires capacity { (1 ≤ capacity) × (capacity ≤ 1024) }
+        ensures machines { IfOk result (λ t. t.0.machines ≡ accepted.now.machines) }
+        ensures capacity { IfOk result (λ t. t.0.capacity ≡ capacity) }
+        ensures stages { IfOk result (λ t. AreFirst t.0 t.1.items) }
+    {
+        let machines = accepted.machines();
+        let count = machines.len();
+        let stages = Vec::with_capacity(alloc, count)?;
+        match Rings::begin(alloc, machines, capacity) {
+            Ok((rings, pass)) => {
+                let session = Session { rings };
+                let stages = session.first_stages(count as u8, pass, stages);
+                Ok((session, stages))
+            }
+            Err(refused) => {
+                stages.destroy_empty();
+                Err(refused)
+            }
+        }
+    }
+
+    /// The machine of the role.
+    pub fn machine(&self, role: Role) -> &Machine
+        requires { role.0 < length self.now.machines }
+        ensures machine { slice_get self.now.machines role.0 ≡ Some result.now }
+        ensures well_formed { AreWellFormed self.now.machines }
+    {
+        &self.rings.machines()[role.0 as usize]
+    }
+
+    /// How many roles there are.
+    pub(crate) fn count(&self) -> usize
+        ensures count { result ≡ length self.now.machines }
+        ensures whole { IsWhole self.now }
+    {
+        self.rings.machines().len()
+    }
+
+    pub(crate) fn rings(&self) -> &Rings
+        ensures rings { result.now ≡ self.now }
+        ensures whole { IsWhole self.now }
+    {
+        &self.rings
+    }
+
+    pub(crate) fn into_rings(self) -> Rings
+        ensures rings { result ≡ self }
+        ensures whole { IsWhole self }
+    {
+        let Session { rings } = self;
+        rings
+    }
+
+    /// The state at which a role stands.
+    fn state(&self, standing: &Standing) -> &State
+        requires { IsSome (state_at self.now standing.now) }
+        ensures { state_at self.now standing.now ≡ Some result.now }
+    {
+        let machine = self.machine(standing.role());
+        &machine.states[standing.state() as usize]
+    }
+
+    /// The stage of a role that stands at a state of its machine.
+    pub(crate) fn stage(&self, standing: Standing) -> Stage
+        requires table { standing.table ≡ self.now.table }
+        requires there { IsSome (state_at self.now standing) }
+        ensures of { IsOf self.now result }
+        ensures same { shown result ≡ standing }
+    {
+        match self.state(&standing) {
+            State::Done => Stage::Ended(Ended { standing }),
+            State::Puts { .. } => Stage::Sending(Sending { standing }),
+            State::Takes { .. } => Stage::Receiving(Receiving { standing }),
+        }
+    }
+
+    /// The peer and the arm at that place, of a role that sends.
+    pub(crate) fn sending_arm(&self, standing: &Standing, place: u16) -> (Role, Arm)
+        requires { (value : Value) × SendsBy self.now standing.now place value }
+        ensures { SendsTo self.now standing.now place result.0 result.1 }
+    {
+        match self.state(standing) {
+            State::Puts { peer, arms } => (*peer, arms.as_slice()[place as usize]),
+            _ => unreachable!(),
+        }
+    }
+
+    /// The peer and the arms of a role that receives.
+    pub(crate) fn receiving_arms(&self, standing: &Standing) -> (Role, &[Arm])
+        requires { IsReceiving self.now standing.now }
+        ensures { state_at self.now standing.now ≡ Some (Takes result.0 result.1.now) }
+    {
+        match self.state(standing) {
+            State::Takes { peer, arms } => (*peer, arms.as_slice()),
+            _ => unreachable!(),
+        }
+    }
+
+    /// The stage of a role that has done nothing.
+    fn first(&self, pass: Pass, role: Role) -> Stage
+        requires table { pass.table ≡ self.now.table }
+        requires well_formed { AreWellFormed self.now.machines }
+        requires first { IsFirst self.now.machines role.0 pass.view }
+        ensures of { IsOf self.now result }
+        ensures first { shown result ≡ first_stage self.now role.0 }
+    {
+        let start = self.machine(role).start;
+        self.stage(Standing::first(pass, role, start))
+    }
+
+    /// The first stage of each role, in role order, into `stages`.
+    fn first_stages(&self, count: u8, pass: Pass, stages: Vec<Stage>) -> Vec<Stage>
+        requires count { count ≡ length self.now.machines }
+        requires some { 2 ≤ count }
+        requires well_formed { AreWellFormed self.now.machines }
+        requires table { pass.table ≡ self.now.table }
+        requires pass { pass.view ≡ starting self.now.machines }
+        requires none { stages.items ≡ [] }
+        requires room { length self.now.machines ≤ vec_capacity stages }
+        ensures { AreFirst self.now result.items }
+    {
+        let mut pass = pass;
+        let mut stages = stages;
+        let last = count - 1;
+        for number in 0..last {
+            let role = Role(number);
+            let own = self.rings.split(&mut pass, role);
+            push_stage(&mut stages, self.first(own, role));
+        }
+        push_stage(&mut stages, self.first(pass, Role(last)));
+        stages
+    }
+}
+
+/// Appends a stage, for which there is room.
+fn push_stage(stages: &mut Vec<Stage>, stage: Stage)
+    requires room { vec_len stages.old < vec_capacity stages.old }
+    ensures items { stages.new.items ≡ stages.old.items ++ stage ∷ [] }
+    ensures capacity { vec_capacity stages.old ≤ vec_capacity stages.new }
+{
+    match stages.push(stage) {
+        Ok(()) => {}
+        Err(_) => unreachable!(),
+    }
+}

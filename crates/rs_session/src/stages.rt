@@ -1,0 +1,274 @@
+ghost use Rattle.std.specs.Prelude.{◌≡◌, ◌<◌, ◌^◌, length};
+ghost use Rattle.rs_session.specs.Acts.{SendsBy, SendTells, ReceiveTells};
+ghost use Rattle.rs_session.specs.Stages.{IsReceiving, shown};
+
+use crate::sessions::Session;
+use crate::standing::{Found, Standing};
+use rs_model::{Role, Value};
+use rs_rings::Put;
+use rs_slots::Parcel;
+use std::marker::Model;
+
+/// A role of a session that stands at a state which sends. It must be spent.
+pub struct Sending {
+    pub(crate) standing: Standing,
+}
+
+impl Model for Sending {
+    ghost use Rattle.rs_session.specs.Data.{Stage_data};
+
+    ghost Value = { Stage_data };
+
+    ghost view = { λ s. s.standing };
+}
+
+/// A role of a session that stands at a state which receives. It must be spent.
+pub struct Receiving {
+    pub(crate) standing: Standing,
+}
+
+impl Model for Receiving {
+    ghost use Rattle.rs_session.specs.Data.{Stage_data};
+
+    ghost Value = { Stage_data };
+
+    ghost view = { λ s. s.standing };
+}
+
+/// A role of a session that stands at the end of its machine. It must be spent.
+pub struct Ended {
+    pub(crate) standing: Standing,
+}
+
+impl Model for Ended {
+    ghost use Rattle.rs_session.specs.Data.{Stage_data};
+
+    ghost Value = { Stage_data };
+
+    ghost view = { λ s. s.standing };
+}
+
+/// A role of a session, which only who holds its stage can act for.
+pub enum Stage {
+    Sending(Sending),
+    Receiving(Receiving),
+    Ended(Ended),
+}
+
+/// What a send did.
+pub enum Sent {
+    /// The value was sent, and the role stands at the next stage.
+    Went(Stage),
+    /// The ring was full: the role has sent `sent` values to this receiver, of which the receiver had taken `taken` when this
+    /// call looked, the capacity less. The stage and the value come back.
+    Full {
+        stage: Sending,
+        value: Value,
+        sent: u64,
+        taken: u64,
+    },
+}
+
+/// What a receive did.
+pub enum Taken {
+    /// The value was got by the arm at that place, and the role stands at the next stage.
+    Got {
+        arm: u16,
+        value: Value,
+        stage: Stage,
+    },
+    /// The ring was empty: the sender had sent `seen` values when this call looked, and the role has got them all. The stage
+    /// comes back.
+    Empty {
+        stage: Receiving,
+        seen: u64,
+    },
+}
+
+/// A role of a session that was given up where it stood. It must be spent.
+pub struct Left {
+    pub(crate) standing: Standing,
+}
+
+impl Model for Left {
+    ghost use Rattle.rs_session.specs.Data.{Stage_data};
+
+    ghost Value = { Stage_data };
+
+    ghost view = { λ s. s.standing };
+}
+
+impl Sending {
+    /// The role that it stands for.
+    pub fn role(&self) -> Role
+        ensures { result ≡ self.now.role }
+    {
+        self.standing.role()
+    }
+
+    /// The number of the state at which the role stands.
+    pub fn state(&self) -> u32
+        ensures { result ≡ self.now.part.state }
+    {
+        self.standing.state()
+    }
+
+    /// How many acts the role has made.
+    pub fn acts(&self) -> u64
+        ensures { result ≡ length self.now.part.history }
+    {
+        self.standing.acts()
+    }
+
+    /// Sends the value by the arm at that place of the state. It looks once at the ring to the state's peer, and takes no memory.
+    ///
+    /// Where the ring has room the role goes on to the arm's next state. Else the stage and the value come back, and nothing
+    /// has changed but what is known of the ring.
+    pub fn send(self, session: &Session, arm: u16, value: Value) -> Sent
+        requires table { self.table ≡ session.now.table }
+        requires arm { SendsBy session.now self arm value }
+        requires acts { length self.part.history < 2 ^ 63 }
+        ensures told { SendTells session.now self arm value result }
+    {
+        let Sending { standing } = self;
+        let mut standing = standing;
+        let (peer, arm) = session.sending_arm(&standing, arm);
+        let parcel = Parcel {
+            label: arm.label,
+            value,
+        };
+        match standing.put(session.rings(), peer, parcel, arm.next) {
+            Put::Done => Sent::Went(session.stage(standing)),
+            Put::Full {
+                sent,
+                taken,
+                parcel,
+            } => Sent::Full {
+                stage: Sending { standing },
+                value: parcel.value,
+                sent,
+                taken,
+            },
+        }
+    }
+}
+
+impl Receiving {
+    /// The role that it stands for.
+    pub fn role(&self) -> Role
+        ensures { result ≡ self.now.role }
+    {
+        self.standing.role()
+    }
+
+    /// The number of the state at which the role stands.
+    pub fn state(&self) -> u32
+        ensures { result ≡ self.now.part.state }
+    {
+        self.standing.state()
+    }
+
+    /// How many acts the role has made.
+    pub fn acts(&self) -> u64
+        ensures { result ≡ length self.now.part.history }
+    {
+        self.standing.acts()
+    }
+
+    /// Receives the oldest value that is under way from the state's peer. It looks once at the ring, and takes no memory.
+    ///
+    /// Where a value is there the role goes on by the arm with its label. Else the stage comes back, and nothing has changed
+    /// but what is known of the ring.
+    pub fn receive(self, session: &Session) -> Taken
+        requires of { IsReceiving session.now self }
+        requires acts { length self.part.history < 2 ^ 63 }
+        ensures told { ReceiveTells session.now self result }
+    {
+        let Receiving { standing } = self;
+        let mut standing = standing;
+        let (peer, arms) = session.receiving_arms(&standing);
+        match standing.look_take(session.rings(), peer, arms) {
+            Found::One { arm, value } => Taken::Got {
+                arm,
+                value,
+                stage: session.stage(standing),
+            },
+            Found::Nothing { seen } => Taken::Empty {
+                stage: Receiving { standing },
+                seen,
+            },
+        }
+    }
+}
+
+impl Ended {
+    /// The role that it stands for.
+    pub fn role(&self) -> Role
+        ensures { result ≡ self.now.role }
+    {
+        self.standing.role()
+    }
+
+    /// The number of the state at which the role stands.
+    pub fn state(&self) -> u32
+        ensures { result ≡ self.now.part.state }
+    {
+        self.standing.state()
+    }
+
+    /// How many acts the role has made.
+    pub fn acts(&self) -> u64
+        ensures { result ≡ length self.now.part.history }
+    {
+        self.standing.acts()
+    }
+}
+
+impl Stage {
+    /// The role that it stands for.
+    pub fn role(&self) -> Role
+        ensures { result ≡ (shown self.now).role }
+    {
+        match self {
+            Stage::Sending(stage) => stage.role(),
+            Stage::Receiving(stage) => stage.role(),
+            Stage::Ended(stage) => stage.role(),
+        }
+    }
+
+    /// Gives the role up where it stands. Takes no memory.
+    pub fn leave(self) -> Left
+        ensures { result ≡ shown self }
+    {
+        match self {
+            Stage::Sending(stage) => {
+                let Sending { standing } = stage;
+                Left { standing }
+            }
+            Stage::Receiving(stage) => {
+                let Receiving { standing } = stage;
+                Left { standing }
+            }
+            Stage::Ended(stage) => {
+                let Ended { standing } = stage;
+                Left { standing }
+            }
+        }
+    }
+}
+
+impl Left {
+    /// The role that it stands for.
+    pub fn role(&self) -> Role
+        ensures { result ≡ self.now.role }
+    {
+        self.standing.role()
+    }
+
+    /// The number of the state at which the role stands.
+    pub fn state(&self) -> u32
+        ensures { result ≡ self.now.part.state }
+    {
+        self.standing.state()
+    }
+}

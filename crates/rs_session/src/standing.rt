@@ -1,0 +1,139 @@
+// What is behind a stage of any kind.
+ghost use Rattle.std.specs.Prelude.{◌≡◌, ◌<◌, ◌^◌, ℕ, [], Some, length, slice_get};
+ghost use Rattle.rs_core.specs.Choices.{AreWellFormed};
+ghost use Rattle.rs_core.specs.Configurations.{state_of};
+ghost use Rattle.rs_model.specs.declared.machines.State.TheVariants.{Takes};
+ghost use Rattle.rs_rings.specs.Acts.{MayPut};
+ghost use Rattle.rs_rings.specs.Views.{SpeaksFor, part_of, state_in, history_in};
+ghost use Rattle.rs_session.specs.Standing.{FoundTells, PutTells, seen_by};
+
+use crate::places::place_of;
+use rs_model::{Arm, Role, Value};
+use rs_rings::{Got, Pass, Put, Rings};
+use rs_slots::Parcel;
+use std::marker::Model;
+
+/// The pass of one role, the state in which the role stands, and how many acts it has made.
+pub(crate) struct Standing {
+    pass: Pass,
+    role: Role,
+    state: u32,
+    acts: u64,
+}
+
+impl Model for Standing {
+    ghost use Rattle.rs_session.specs.Data.{Stage_data};
+    ghost use Rattle.rs_session.specs.Standing.{IsOne, seen_by};
+
+    ghost Value = { Stage_data };
+
+    ghost view = { λ s. seen_by s.pass s.role };
+
+    ghost invariant = { λ s. IsOne s.pass.view s.role s.state s.acts };
+}
+
+/// What a look for a parcel found: the arm by which it came, or nothing.
+#[derive(Drop)]
+pub(crate) enum Found {
+    One { arm: u16, value: Value },
+    Nothing { seen: u64 },
+}
+
+impl Standing {
+    /// A role that has done nothing.
+    pub(crate) fn first(pass: Pass, role: Role, state: u32) -> Standing
+        requires speaks { SpeaksFor pass.view role.0 }
+        requires only { (r : ℕ) → SpeaksFor pass.view r → r ≡ role.0 }
+        requires state { state ≡ state_in pass.view role.0 }
+        requires nothing { history_in pass.view role.0 ≡ [] }
+        ensures { result ≡ seen_by pass role }
+    {
+        Standing {
+            pass,
+            role,
+            state,
+            acts: 0,
+        }
+    }
+
+    pub(crate) fn role(&self) -> Role
+        ensures { result ≡ self.now.role }
+    {
+        self.role
+    }
+
+    pub(crate) fn state(&self) -> u32
+        ensures { result ≡ self.now.part.state }
+    {
+        self.state
+    }
+
+    pub(crate) fn acts(&self) -> u64
+        ensures { result ≡ length self.now.part.history }
+    {
+        self.acts
+    }
+
+    pub(crate) fn into_pass(self) -> Pass
+        ensures table { result.table ≡ self.table }
+        ensures speaks { SpeaksFor result.view self.role.0 }
+        ensures only { (r : ℕ) → SpeaksFor result.view r → r ≡ self.role.0 }
+        ensures part { part_of result.view self.role.0 ≡ self.part }
+    {
+        let Standing {
+            pass,
+            role: _,
+            state: _,
+            acts: _,
+        } = self;
+        pass
+    }
+
+    /// Puts the parcel into the ring to the peer; the role then stands in the state `next`.
+    pub(crate) fn put(&mut self, rings: &Rings, peer: Role, parcel: Parcel, next: u32) -> Put
+        requires table { self.old.table ≡ rings.now.table }
+        requires well_formed { AreWellFormed rings.now.machines }
+        requires may { MayPut rings.now.machines self.old.role.0 peer.0 self.old.part.state parcel next }
+        requires acts { length self.old.part.history < 2 ^ 63 }
+        ensures told { PutTells rings.now peer.0 parcel next self.old self.new result }
+    {
+        match rings.put(&mut self.pass, self.role, peer, parcel) {
+            Put::Done => {
+                self.state = next;
+                self.acts += 1;
+                Put::Done
+            }
+            Put::Full {
+                sent,
+                taken,
+                parcel,
+            } => Put::Full {
+                sent,
+                taken,
+                parcel,
+            },
+        }
+    }
+
+    /// Takes the oldest parcel out of the ring from the peer; the role goes on by the arm with its label.
+    pub(crate) fn look_take(&mut self, rings: &Rings, peer: Role, arms: &[Arm]) -> Found
+        requires table { self.old.table ≡ rings.now.table }
+        requires well_formed { AreWellFormed rings.now.machines }
+        requires stands { state_of (slice_get rings.now.machines self.old.role.0) self.old.part.state ≡ Some (Takes peer arms.now) }
+        requires acts { length self.old.part.history < 2 ^ 63 }
+        ensures told { FoundTells rings.now peer.0 arms.now self.old self.new result }
+    {
+        match rings.look_take(&mut self.pass, self.role, peer) {
+            Got::One(parcel) => {
+                let arm = place_of(arms, parcel.label);
+                self.state = arms[arm as usize].next;
+                self.acts += 1;
+                Found::One {
+                    arm,
+                    value: parcel.value,
+                }
+            }
+            Got::Empty { seen } => Found::Nothing { seen },
+        }
+    }
+}
