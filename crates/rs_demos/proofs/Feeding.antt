@@ -46,7 +46,7 @@ pub record Fed (bytes : List ℕ) (messages : List Message) : Type 0 where
 abbrev pub Plays : Machine_data → ℕ → DemoActor → History → ℕ → DemoActor → Type 0
 Plays m s x h t y = PlaysFrom by_demo m s x h t y
 
-moved : (m : Machine_data) (s s' : ℕ) (x x' : DemoActor) (h : History) (t : ℕ) (y : DemoActor) → s ≡ s' → x ≡ x' → Plays m s' x' h t y → Plays m s x h t y
+pub moved : (m : Machine_data) (s s' : ℕ) (x x' : DemoActor) (h : History) (t : ℕ) (y : DemoActor) → s ≡ s' → x ≡ x' → Plays m s' x' h t y → Plays m s x h t y
 moved m s s' x x' h t y e f p = let P : ℕ → DemoActor → Type 0 = λ i z. Plays m i z h t y in subst₂ P (sym e) (sym f) p
 
 abbrev pub IsOver : Machine_data → ℕ → Type 0
@@ -58,7 +58,7 @@ goes-on m s t st here e d =
     let h : Some st ≡ Some Done = sym here ∙ subst P (sym e) d in
     cc (h)
 
-zero-of : (q r : Role) → q ≡ r → r.0 ≡ q.0
+pub zero-of : (q r : Role) → q ≡ r → r.0 ≡ q.0
 zero-of q r e = ap (λ (z : Role). z.0) (sym e)
 
 whole : (b : ℕ) (bs : List ℕ) (ps : List (List ℕ)) → concat ps ≡ behind_piece (b ∷ bs) → piece_of (b ∷ bs) ++ concat ps ≡ b ∷ bs
@@ -66,7 +66,7 @@ whole b bs ps e = ap (λ (z : List ℕ). piece_of (b ∷ bs) ++ z) e ∙ take-ap
 
 -- the source of double buffering
 
-abbrev double_arms : List Arm
+abbrev pub double_arms : List Arm
 double_arms = arm 1 sort.Octets 0 ∷ arm 2 sort.Unit 2 ∷ []
 
 abbrev SourceSays : ℕ → List ℕ → List Message → Type 0
@@ -123,7 +123,7 @@ front-unit (x ∷ xs) ys h = (h.0, front-unit xs ys h.1)
 
 -- the kernel of double buffering
 
-abbrev kernel_arms : List Arm
+abbrev pub kernel_arms : List Arm
 kernel_arms = arm 1 sort.Octets 4 ∷ arm 2 sort.Unit 5 ∷ []
 
 -- what the kernel holds at a state
@@ -146,10 +146,10 @@ KernelSends (suc (suc (suc (suc (suc zero))))) piece ps = stop_message ∷ []
 KernelSends (suc (suc (suc (suc (suc (suc s)))))) piece ps = []
 KernelSends s piece ps = feed (map inverted ps)
 
-not-two : (r : Role) → role 1 ≡ r → r.0 ≡ 2 → ⊥
+pub not-two : (r : Role) → role 1 ≡ r → r.0 ≡ 2 → ⊥
 not-two r e f = let g : 1 ≡ 2 = ap (λ (z : Role). z.0) e ∙ f in cc (g)
 
-not-one : (r : Role) → role 2 ≡ r → r.0 ≡ 1 → ⊥
+pub not-one : (r : Role) → role 2 ≡ r → r.0 ≡ 1 → ⊥
 not-one r e f = let g : 2 ≡ 1 = ap (λ (z : Role). z.0) e ∙ f in cc (g)
 
 unit-told : (v : Value) → v ≡ value.Unit → told_of (kernel_with None) v ≡ kernel_with None
@@ -246,7 +246,7 @@ kernel (a ∷ h) (suc (suc (suc (suc (suc (suc (suc s))))))) piece ps later t y 
 
 -- the sink of both
 
-abbrev sink_arms : List Arm
+abbrev pub sink_arms : List Arm
 sink_arms = arm 1 sort.Octets 0 ∷ arm 2 sort.Unit 2 ∷ []
 
 -- role p as a sink
@@ -335,7 +335,7 @@ sink (a ∷ h) p (suc (suc (suc s))) bytes ps later t y pl d g = absurd (nowhere
 
 -- the source of the stream
 
-abbrev stream_arms : List Arm
+abbrev pub stream_arms : List Arm
 stream_arms = arm 1 sort.Octets 1 ∷ arm 2 sort.Unit 3 ∷ []
 
 abbrev StreamSays : ℕ → List ℕ → List Message → Type 0

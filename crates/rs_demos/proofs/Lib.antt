@@ -4,6 +4,7 @@ pub mod Spelt
 pub mod Printed
 pub mod Playing
 pub mod Feeding
+pub mod FewActs
 pub mod Ran
 pub mod Ranges
 pub mod Canonical
@@ -13,5 +14,8 @@ pub mod Butterflies
 pub mod Straight
 pub mod Rings
 pub mod Computing
+pub mod Numbered
 pub mod Projected
 pub mod Printable
+pub mod Deciding
+pub mod SpeltDocuments

@@ -5,16 +5,16 @@ use Rattle.std.proofs.lemmas.Bool.{and_parts, false≢true, leb-true}
 use Rattle.std.proofs.lemmas.Bool.Decides.{eqb_tells, leb_tells}
 use Rattle.rs_model.specs.Data.{Machine_data}
 use Rattle.rs_project.specs.Data.{Projection_data}
-use Rattle.rs_project.specs.Projection.{IsProjection}
-use Rattle.rs_safety.proofs.Computed.{is_projection, projection-is}
+use Rattle.rs_project.specs.Numbered.{IsNumberedProjection}
 use Rattle.rs_demos.specs.Sessions.{role, demo_protocol, demo_machines, has_line, has_session, double_protocol, double_source, double_sink, stream_protocol, stream_sink, ring_machine, butterfly_machine}
 use Rattle.rs_demos.specs.declared.kinds.Demo.{Demo}
 use Rattle.rs_demos.specs.declared.kinds.Demo.TheVariants as demo
 use Rattle.rs_demos.proofs.Exchanged.{in-range}
+use Rattle.rs_demos.proofs.Numbered.{is_numbered_projection, numbered-is}
 
 -- the machine is the projection onto role p
 abbrev IsTheirs : Demo → ℕ → ℕ → Machine_data → Type 0
-IsTheirs kind n p m = (sets : List (List ℕ)) × IsProjection (demo_protocol kind n) (role p) (record { machine = m; sets = sets })
+IsTheirs kind n p m = (sets : List (List ℕ)) × IsNumberedProjection (demo_protocol kind n) (role p) (record { machine = m; sets = sets })
 
 -- the talks of role R0 in the ring: the first and the last of each round
 abbrev ring_sets : ℕ → List (List ℕ)
@@ -32,7 +32,7 @@ butterfly_projection n rounds = record { machine = butterfly_machine n 0; sets =
 
 -- every walk comes within a round to a talk of R0, or to the end
 abbrev ring_test : ℕ → Bool
-ring_test n = is_projection (demo_protocol demo.Ring n) (n + 2) (role 0) (ring_projection n)
+ring_test n = is_numbered_projection (demo_protocol demo.Ring n) (n + 2) (role 0) (ring_projection n)
 
 small-rings : list_all ring_test (range_with_len 2 7) ≡ true
 small-rings = refl
@@ -77,36 +77,36 @@ first-butterfly zero m low e = absurd (omega arith)
 first-butterfly (suc n) m low e = cc (e)
 
 -- R0 in a butterfly of so many roles
-butterfly-at : (n rounds : ℕ) (m : Machine_data) (k : ℕ) → is_projection (demo_protocol demo.Butterfly n) (n + 2) (role 0) (butterfly_projection n rounds) ≡ true → k ≡ n → 2 ≤ n
+butterfly-at : (n rounds : ℕ) (m : Machine_data) (k : ℕ) → is_numbered_projection (demo_protocol demo.Butterfly n) (n + 2) (role 0) (butterfly_projection n rounds) ≡ true → k ≡ n → 2 ≤ n
     → slice_get (demo_machines demo.Butterfly k) 0 ≡ Some m → IsTheirs demo.Butterfly k 0 m
 butterfly-at n rounds m k t e low s =
     let P : ℕ → Type 0 = λ z. slice_get (demo_machines demo.Butterfly z) 0 ≡ Some m → IsTheirs demo.Butterfly z 0 m in
     let Q : Machine_data → Type 0 = λ z. IsTheirs demo.Butterfly n 0 z in
-    subst P (sym e) (λ h. subst Q (first-butterfly n m low h) (butterfly_sets n rounds, projection-is (demo_protocol demo.Butterfly n) (n + 2) (role 0) (butterfly_projection n rounds) t)) s
+    subst P (sym e) (λ h. subst Q (first-butterfly n m low h) (butterfly_sets n rounds, numbered-is (demo_protocol demo.Butterfly n) (n + 2) (role 0) (butterfly_projection n rounds) t)) s
 
 pub projected : (kind : Demo) (n p : ℕ) (m : Machine_data) → has_session kind n ≡ true → slice_get (demo_machines kind n) p ≡ Some m → has_line kind p ≡ false
-    → (sets : List (List ℕ)) × IsProjection (demo_protocol kind n) (role p) (record { machine = m; sets = sets })
+    → (sets : List (List ℕ)) × IsNumberedProjection (demo_protocol kind n) (role p) (record { machine = m; sets = sets })
 projected demo.Double n zero m s e l = absurd (cc (l))
 projected demo.Double n (suc zero) m s e l =
     let P : Machine_data → Type 0 = λ z. IsTheirs demo.Double n 1 z in
     let h : double_source ≡ m = cc (e) in
-    subst P h ((0 ∷ []) ∷ (2 ∷ []) ∷ (4 ∷ []) ∷ [] ∷ [], projection-is double_protocol 4 (role 1) (record { machine = double_source; sets = (0 ∷ []) ∷ (2 ∷ []) ∷ (4 ∷ []) ∷ [] ∷ [] }) refl)
+    subst P h ((0 ∷ []) ∷ (2 ∷ []) ∷ (4 ∷ []) ∷ [] ∷ [], numbered-is double_protocol 4 (role 1) (record { machine = double_source; sets = (0 ∷ []) ∷ (2 ∷ []) ∷ (4 ∷ []) ∷ [] ∷ [] }) refl)
 projected demo.Double n (suc (suc zero)) m s e l =
     let P : Machine_data → Type 0 = λ z. IsTheirs demo.Double n 2 z in
     let h : double_sink ≡ m = cc (e) in
-    subst P h ((1 ∷ []) ∷ (3 ∷ 5 ∷ []) ∷ [] ∷ [], projection-is double_protocol 4 (role 2) (record { machine = double_sink; sets = (1 ∷ []) ∷ (3 ∷ 5 ∷ []) ∷ [] ∷ [] }) refl)
+    subst P h ((1 ∷ []) ∷ (3 ∷ 5 ∷ []) ∷ [] ∷ [], numbered-is double_protocol 4 (role 2) (record { machine = double_sink; sets = (1 ∷ []) ∷ (3 ∷ 5 ∷ []) ∷ [] ∷ [] }) refl)
 projected demo.Double n (suc (suc (suc p))) m s e l = absurd (cc (e))
 projected demo.Stream n zero m s e l = absurd (cc (l))
 projected demo.Stream n (suc zero) m s e l =
     let P : Machine_data → Type 0 = λ z. IsTheirs demo.Stream n 1 z in
     let h : stream_sink ≡ m = cc (e) in
-    subst P h ((0 ∷ []) ∷ (1 ∷ []) ∷ [] ∷ [], projection-is stream_protocol 4 (role 1) (record { machine = stream_sink; sets = (0 ∷ []) ∷ (1 ∷ []) ∷ [] ∷ [] }) refl)
+    subst P h ((0 ∷ []) ∷ (1 ∷ []) ∷ [] ∷ [], numbered-is stream_protocol 4 (role 1) (record { machine = stream_sink; sets = (0 ∷ []) ∷ (1 ∷ []) ∷ [] ∷ [] }) refl)
 projected demo.Stream n (suc (suc p)) m s e l = absurd (cc (e))
 projected demo.Ring n zero m s e l =
     let c = and_parts (nat_le 2 n) (nat_le n 16) s in
     let low : 2 ≤ n = leb-true 2 n c.0 in
     let P : Machine_data → Type 0 = λ z. IsTheirs demo.Ring n 0 z in
-    subst P (first-ring n m low e) (ring_sets n, projection-is (demo_protocol demo.Ring n) (n + 2) (role 0) (ring_projection n) (ring-tests n low (leb-true n 16 c.1)))
+    subst P (first-ring n m low e) (ring_sets n, numbered-is (demo_protocol demo.Ring n) (n + 2) (role 0) (ring_projection n) (ring-tests n low (leb-true n 16 c.1)))
 projected demo.Ring n (suc p) m s e l = absurd (has-line-later p l)
 projected demo.Butterfly n zero m s e l = elim (either ((n == 2) || (n == 4)) ((n == 8) || (n == 16)) s) [
   | inl k ↦ elim (either (n == 2) (n == 4) k) [

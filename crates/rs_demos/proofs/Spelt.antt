@@ -109,7 +109,7 @@ starts-by (b ∷ bs) behind h some = go (is_blank b) refl (and_parts (no_blank b
     go true e k = absurd (false≢true k)
     go false e k = e
 
-number-length : (word : List ℕ) (z : ℤ) → IsNumber word z → 0 < length word
+pub number-length : (word : List ℕ) (z : ℤ) → IsNumber word z → 0 < length word
 number-length word z n = go n.minus n.digits n.spelt n.numeral.0
   where
     go : (minus : Bool) (ds : List ℕ) → word ≡ minus_text minus ++ ds → 0 < length ds → 0 < length word

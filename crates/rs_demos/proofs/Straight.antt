@@ -120,7 +120,7 @@ draws (x ∷ xs) n all from k le w at =
 
 -- a machine
 
-states-next : (xs : List Exchange) (s i : ℕ) (m : Mark) (peer : Role) (arms : List Arm) → slice_get (states_from s xs) i ≡ Some (state_of m peer arms)
+pub states-next : (xs : List Exchange) (s i : ℕ) (m : Mark) (peer : Role) (arms : List Arm) → slice_get (states_from s xs) i ≡ Some (state_of m peer arms)
     → arms ≡ arm 0 sort.Whole (suc (s + i)) ∷ []
 states-next [] s zero mark.Puts peer arms e = absurd (cc (e))
 states-next [] s zero mark.Takes peer arms e = absurd (cc (e))

@@ -64,6 +64,7 @@ empty_value sort.Whole = value.Whole (pos 0)
 empty_value sort.Octets = value.Octets []
 empty_value sort.Numbers = value.Numbers []
 
+-- .. of the first arm's sort
 abbrev pub empty_for : List Arm → Value
 empty_for [] = value.Unit
 empty_for (a ∷ arms) = empty_value a.sort
@@ -79,10 +80,12 @@ after_sending (actor.Source bytes) = actor.Source (behind_piece bytes)
 after_sending (actor.Kernel k) = actor.Kernel (record { piece = None })
 after_sending x = x
 
+-- .. where an arm was found for it; else it stays as it is
 abbrev pub asked_at : DemoActor → Option ℕ → DemoActor
 asked_at x (Some place) = after_sending x
 asked_at x None = x
 
+-- the place of the arm by which what it wants can go
 abbrev pub arm_for : DemoActor → List Arm → Option ℕ
 arm_for x arms = arm_place (sort_of (wanted x)) arms
 

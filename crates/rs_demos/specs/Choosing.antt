@@ -10,6 +10,7 @@ use Rattle.rs_demos.specs.Acting.{wanted, sort_of, arm_place, octets_or_unit, ne
 use Rattle.rs_demos.specs.declared.actors.DemoActor.{DemoActor}
 use Rattle.rs_demos.specs.declared.actors.DemoActor.TheVariants as actor
 
+-- the empty value of a sort has the sort
 empty-fits : (s : Sort) → HasSort (empty_value s) s
 empty-fits sort.Unit = refl
 empty-fits sort.Flag = refl
@@ -28,6 +29,7 @@ serves-is sort.Octets sort.Octets h = refl
 serves-is sort.Numbers sort.Numbers h = refl
 serves-is s t h = absurd (cc (h))
 
+-- the bytes or the unit have their sort
 octets-fit : (o : Option (List ℕ)) (s : Sort) → sort_of (octets_or_unit o) ≡ s → HasSort (octets_or_unit o) s
 octets-fit None s e = let P : Sort → Type 0 = λ z. HasSort value.Unit z in subst P e refl
 octets-fit (Some bytes) s e = let P : Sort → Type 0 = λ z. HasSort (value.Octets bytes) z in subst P e refl
@@ -59,10 +61,12 @@ place-right s (a ∷ b ∷ others) place e = go (serves s a.sort) (serves s b.so
     go false true h i k = (b, (let z : 1 ≡ place = cc (k) in let P : ℕ → Type 0 = λ i. slice_get (a ∷ b ∷ others) i ≡ Some b in subst P z refl), serves-is s b.sort i)
     go false false h i k = absurd (cc (k))
 
+-- the first arm is there, and its empty value has its sort
 first-there : (arms : List Arm) → arms ≢ [] → (arm : Arm) × (slice_get arms 0 ≡ Some arm) × HasSort (empty_for arms) arm.sort
 first-there [] some = absurd (some refl)
 first-there (a ∷ arms) some = (a, refl, empty-fits a.sort)
 
+-- the actors of the demos choose an arm that is there, and a value of its sort
 pub chooses-well : ChoosesWell by_demo
 chooses-well x arms some = go (arm_for x arms) refl
   where

@@ -10,13 +10,16 @@ use Rattle.rs_demos.specs.declared.kinds.Demo.TheVariants as demo
 abbrev pub is_blank : ℕ → Bool
 is_blank b = ((b == 32) || (b == 9)) || ((b == 13) || (b == 10))
 
+-- the bytes are blanks
 abbrev pub AreBlanks : List ℕ → Type 0
 AreBlanks bytes = list_all is_blank bytes ≡ true
 
+-- `-`, where there is a minus
 abbrev pub minus_text : Bool → List ℕ
 minus_text true = codes "-"
 minus_text false = []
 
+-- the number with its sign
 abbrev pub with_sign : Bool → ℕ → ℤ
 with_sign minus n = if minus then neg_ℤ (pos n) else pos n
 

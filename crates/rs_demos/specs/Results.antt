@@ -15,6 +15,7 @@ inverted bytes = map (λ (b : ℕ). 255 - b) bytes
 abbrev pub wrapped : ℤ → ℤ
 wrapped z = int_wrap w64 z
 
+-- the sum of the numbers
 abbrev pub total : List ℤ → ℤ
 total [] = pos 0
 total (z ∷ zs) = z +ℤ total zs

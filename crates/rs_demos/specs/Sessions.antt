@@ -23,12 +23,15 @@ has_session kind n = takes_numbers kind n
 
 -- parts of sessions
 
+-- the role with that number
 abbrev pub role : ℕ → Role
 role p = record { 0 = p }
 
+-- the arm with the label of that number
 abbrev pub arm : ℕ → Sort → ℕ → Arm
 arm label so next = record { label = record { 0 = label }; sort = so; next = next }
 
+-- the machine of role p that starts in its first state
 abbrev pub machine : ℕ → List State → Machine_data
 machine p states = record { role = role p; states = states; start = 0 }
 
@@ -113,6 +116,7 @@ stream_sink = machine 1
 
 -- the ring and the butterfly: the role Ri is role i, and each message is v(int)
 
+-- so many numbers, of which the first is this
 abbrev pub numbers_from : ℕ → ℕ → List ℕ
 numbers_from first many = range_with_len first many
 
@@ -125,6 +129,7 @@ abbrev pub nodes_from : ℕ → List Exchange → List Node
 nodes_from n [] = Finished ∷ []
 nodes_from n (x ∷ xs) = Talk (role x.0) (role x.1) (arm 0 sort.Whole (suc n) ∷ []) ∷ nodes_from (suc n) xs
 
+-- .. among n roles
 abbrev pub protocol_of : ℕ → List Exchange → Protocol_data
 protocol_of n xs = record { roles = n; nodes = nodes_from 0 xs; root = 0 }
 
@@ -139,12 +144,15 @@ states_from s (x ∷ xs) =
 
 -- the ring: in a round each role sends to the next one
 
+-- the role behind role i
 abbrev pub next_in_ring : ℕ → ℕ → ℕ
 next_in_ring n i = (i + 1) % n
 
+-- the role before role i
 abbrev pub previous_in_ring : ℕ → ℕ → ℕ
 previous_in_ring n i = (i + (n - 1)) % n
 
+-- a round: each role sends once
 abbrev pub ring_round : ℕ → List Exchange
 ring_round n = map (λ (i : ℕ). (i, next_in_ring n i)) (numbers_from 0 n)
 
@@ -156,18 +164,22 @@ ring_exchanges n = flat_map (λ (round : ℕ). ring_round n) (numbers_from 1 (n 
 abbrev pub ring_pairs : ℕ → ℕ → List Exchange
 ring_pairs n i = map (λ (round : ℕ). (next_in_ring n i, previous_in_ring n i)) (numbers_from 1 (n - 1))
 
+-- the machine of role i in a ring of n
 abbrev pub ring_machine : ℕ → ℕ → Machine_data
 ring_machine n i = machine i (states_from 0 (ring_pairs n i))
 
 -- the butterfly: a round for each of 1, 2, 4 and 8 that is below n, in which each role exchanges with the one whose
 -- number differs in that bit
 
+-- the bits of the rounds
 abbrev pub steps : List ℕ
 steps = 1 ∷ 2 ∷ 4 ∷ 8 ∷ []
 
+-- the bit is clear in the number of role i
 abbrev pub is_clear : ℕ → ℕ → Bool
 is_clear step i = (i / step) % 2 == 0
 
+-- the role whose number differs from i in that bit
 abbrev pub partner : ℕ → ℕ → ℕ
 partner step i = if is_clear step i then i + step else i - step
 
@@ -175,9 +187,11 @@ partner step i = if is_clear step i then i + step else i - step
 abbrev pub both_ways : ℕ → ℕ → List Exchange
 both_ways step i = if is_clear step i then (i, i + step) ∷ (i + step, i) ∷ [] else []
 
+-- the exchanges of a round, where its bit is below n
 abbrev pub butterfly_round : ℕ → ℕ → List Exchange
 butterfly_round n step = if nat_lt step n then flat_map (λ (i : ℕ). both_ways step i) (numbers_from 0 n) else []
 
+-- the exchanges of all rounds
 abbrev pub butterfly_exchanges : ℕ → List Exchange
 butterfly_exchanges n = flat_map (λ (step : ℕ). butterfly_round n step) steps
 
@@ -185,9 +199,11 @@ butterfly_exchanges n = flat_map (λ (step : ℕ). butterfly_round n step) steps
 abbrev pub butterfly_pair : ℕ → ℕ → ℕ → List Exchange
 butterfly_pair n i step = if nat_lt step n then (partner step i, partner step i) ∷ [] else []
 
+-- .. in all rounds
 abbrev pub butterfly_pairs : ℕ → ℕ → List Exchange
 butterfly_pairs n i = flat_map (λ (step : ℕ). butterfly_pair n i step) steps
 
+-- the machine of role i in a butterfly of n
 abbrev pub butterfly_machine : ℕ → ℕ → Machine_data
 butterfly_machine n i = machine i (states_from 0 (butterfly_pairs n i))
 
@@ -197,12 +213,14 @@ butterfly_machine n i = machine i (states_from 0 (butterfly_pairs n i))
 abbrev pub role_name : ℕ → List ℕ
 role_name i = codes "R" ++ decimal i
 
+-- the names of a demo's roles and labels
 abbrev pub demo_names : Demo → ℕ → Names_data
 demo_names demo.Double n = record { roles = codes "K" ∷ codes "S" ∷ codes "T" ∷ []; labels = codes "ready" ∷ codes "copy" ∷ codes "stop" ∷ [] }
 demo_names demo.Stream n = record { roles = codes "S" ∷ codes "T" ∷ []; labels = codes "ready" ∷ codes "value" ∷ codes "stop" ∷ [] }
 demo_names demo.Ring n = record { roles = map role_name (numbers_from 0 n); labels = codes "v" ∷ [] }
 demo_names demo.Butterfly n = record { roles = map role_name (numbers_from 0 n); labels = codes "v" ∷ [] }
 
+-- the protocol of a demo
 abbrev pub demo_protocol : Demo → ℕ → Protocol_data
 demo_protocol demo.Double n = double_protocol
 demo_protocol demo.Stream n = stream_protocol
@@ -224,8 +242,10 @@ has_line demo.Stream p = p == 0
 has_line demo.Ring p = not (p == 0)
 has_line demo.Butterfly p = not (p == 0)
 
+-- the machine, where the text has a line for it
 abbrev pub written : Demo → Machine_data → Option Machine_data
 written kind m = if has_line kind m.role.0 then Some m else None
 
+-- .. of each role
 abbrev pub written_machines : Demo → ℕ → List (Option Machine_data)
 written_machines kind n = map (written kind) (demo_machines kind n)

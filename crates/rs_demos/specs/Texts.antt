@@ -6,8 +6,10 @@ use Rattle.rs_documents.specs.Parts.{no_parts}
 use Rattle.rs_demos.specs.Sessions.{demo_names, demo_protocol, written_machines}
 use Rattle.rs_demos.specs.declared.kinds.Demo.{Demo}
 
+-- the document of a demo for so many roles
 abbrev pub document_of : Demo → ℕ → Document_data
 document_of kind count = record { names = demo_names kind count; protocol = demo_protocol kind count; machines = written_machines kind count; derivations = no_parts (demo_names kind count).roles }
 
+-- the text is the canonical one of this document
 abbrev pub IsDemoText : Demo → ℕ → List ℕ → Type 0
 IsDemoText kind count text = IsCanonicalDocument (document_of kind count) text

@@ -7,6 +7,7 @@ use Rattle.rs_demos.specs.Sessions.{Exchange, role_name, numbers_from, ring_exch
 abbrev pub exchange_text : Exchange → List ℕ
 exchange_text x = role_name x.0 ++ (codes "->" ++ (role_name x.1 ++ codes ":v(int). "))
 
+-- .. one behind the other
 abbrev pub exchanges_text : List Exchange → List ℕ
 exchanges_text xs = flat_map exchange_text xs
 
@@ -14,9 +15,11 @@ exchanges_text xs = flat_map exchange_text xs
 abbrev pub acts_text : Exchange → List ℕ
 acts_text x = role_name x.0 ++ (codes "!v(int). " ++ (role_name x.1 ++ codes "?v(int). "))
 
+-- .. one behind the other
 abbrev pub pairs_text : List Exchange → List ℕ
 pairs_text xs = flat_map acts_text xs
 
+-- a further role on the roles line
 abbrev pub other_name : ℕ → List ℕ
 other_name i = codes ", " ++ role_name i
 
@@ -24,6 +27,7 @@ other_name i = codes ", " ++ role_name i
 abbrev pub roles_text : ℕ → List ℕ
 roles_text n = codes "roles R0" ++ (flat_map other_name (numbers_from 1 (n - 1)) ++ codes "\n")
 
+-- `machine Ri: `, its acts and `end`
 abbrev pub machine_line : ℕ → List Exchange → List ℕ
 machine_line i xs = codes "machine " ++ (role_name i ++ (codes ": " ++ (pairs_text xs ++ codes "end\n")))
 
@@ -31,14 +35,18 @@ machine_line i xs = codes "machine " ++ (role_name i ++ (codes ": " ++ (pairs_te
 abbrev pub front_text : ℕ → List Exchange → List ℕ
 front_text n xs = roles_text n ++ (codes "protocol " ++ (exchanges_text xs ++ codes "end\n"))
 
+-- the line of role i in a ring of n
 abbrev pub ring_line : ℕ → ℕ → List ℕ
 ring_line n i = machine_line i (ring_pairs n i)
 
+-- the line of role i in a butterfly of n
 abbrev pub butterfly_line : ℕ → ℕ → List ℕ
 butterfly_line n i = machine_line i (butterfly_pairs n i)
 
+-- the text of a ring of n roles
 abbrev pub ring_text : ℕ → List ℕ
 ring_text n = front_text n (ring_exchanges n) ++ flat_map (ring_line n) (numbers_from 1 (n - 1))
 
+-- the text of a butterfly of n roles
 abbrev pub butterfly_text : ℕ → List ℕ
 butterfly_text n = front_text n (butterfly_exchanges n) ++ flat_map (butterfly_line n) (numbers_from 1 (n - 1))

@@ -1,27 +1,27 @@
 -- A text whose machines may be derived is accepted.
-use Rattle.std.proofs.Common.{◌≡◌, ◌⊎◌, inl, inr, ℕ, zero, suc, List, [], ◌∷◌, length, false, Option, Some, None, ap, ◌∙◌, refl, arith}
+use Rattle.std.proofs.Common.{◌≡◌, ◌⊎◌, inl, inr, ℕ, zero, suc, List, [], ◌∷◌, length, Option, Some, None, ap, ◌∙◌, refl, arith}
 use Rattle.rs_derive.specs.Data.{Derivation_data}
 use Rattle.rs_documents.proofs.SpeltSessions.{spelt_session}
 use Rattle.rs_model.proofs.Faults as of_machines
 use Rattle.rs_model.specs.Data.{Machine_data}
 use Rattle.rs_search.proofs.Deciding.{not_refused}
 use Rattle.rs_wellformed.proofs.Faults as of_protocols
-use Rattle.rs_tool.specs.Answers.{Answers, CarriesOut, IsDocument, ReadsInput}
+use Rattle.rs_tool.specs.Answers.{Answers, CarriesOut, IsDocument, ReadsDocument}
 use Rattle.rs_tool.specs.Calls.{Ends, Tells, TellsAll, TellsPart, TellsReadFault, TellsNoMemory}
-use Rattle.rs_tool.specs.Checks.{IsAccepted}
+use Rattle.rs_answers.specs.Checks.{IsAccepted}
 use Rattle.rs_tool.specs.Completeness.{EachIsWellFormed, IsComplete, SpellsDerivableSession}
-use Rattle.rs_tool.specs.Data.{Answer_data}
-use Rattle.rs_tool.specs.Derivations.{AreCanonical}
-use Rattle.rs_tool.specs.Machines.{machines_of}
-use Rattle.rs_tool.specs.Report.{report}
-use Rattle.rs_tool.specs.Sessions.{HasMachines, first_refusal}
+use Rattle.rs_answers.specs.Data.{Answer_data}
+use Rattle.rs_answers.specs.Derivations.{AreCanonical}
+use Rattle.rs_answers.specs.Machines.{machines_of}
+use Rattle.rs_answers.specs.Sessions.{HasMachines, first_refusal}
 use Rattle.rs_tool.specs.Statuses.{status_of}
 use Rattle.rs_tool.specs.Tasks.{SpellsCheck}
 use Rattle.rs_tool.specs.declared.statuses.Status.{Status}
 use Rattle.rs_tool.specs.declared.statuses.Status.TheVariants as status
 use Rattle.rs_words.specs.declared.tasks.Task.TheVariants as task
-use Rattle.rs_tool.proofs.Derivings.{session_of}
-use Rattle.rs_tool.proofs.SomeAnswer.{Searched, AllFound, OneIsnt, found_first}
+use Rattle.rs_answers.proofs.Derivings.{session_of}
+use Rattle.rs_answers.proofs.SomeSession.{Searched, AllFound, OneIsnt, found_first}
+use Rattle.rs_tool.proofs.SomeAnswer.{some_telling}
 use Rattle.rs_tool.proofs.Unique.{one_answer}
 
 -- where each machine is well formed none is refused
@@ -30,7 +30,7 @@ none_refused roles [] fit = refl
 none_refused roles (m ∷ machines) fit = rw (of_machines.right m roles (fit zero m refl), none_refused roles machines (λ p n at. fit (suc p) n at)) refl
 
 -- .. so the document has its machines
-has_machines : (bound : ℕ) (bytes : List ℕ) (s : SpellsDerivableSession bound bytes) → HasMachines s.document s.projections (machines_of s.document.machines s.projections)
+pub has_machines : (bound : ℕ) (bytes : List ℕ) (s : SpellsDerivableSession bound bytes) → HasMachines s.document s.projections (machines_of s.document.machines s.projections)
 has_machines bound bytes s = record {
   projections_are = record { well_formed = of_protocols.right s.document.protocol s.well_formed; projected = s.projected };
   machines_are = refl;
@@ -38,7 +38,7 @@ has_machines bound bytes s = record {
 }
 
 -- .. and their derivations
-derived : (bound : ℕ) (bytes : List ℕ) (s : SpellsDerivableSession bound bytes) → (derivations : List Derivation_data) × AreCanonical bound (machines_of s.document.machines s.projections) s.projections derivations
+pub derived : (bound : ℕ) (bytes : List ℕ) (s : SpellsDerivableSession bound bytes) → (derivations : List Derivation_data) × AreCanonical bound (machines_of s.document.machines s.projections) s.projections derivations
 derived bound bytes s =
     let ms = machines_of s.document.machines s.projections in
     let h = has_machines bound bytes s in
@@ -49,17 +49,18 @@ derived bound bytes s =
     go (AllFound derivations found) = (derivations, found)
     go (OneIsnt role fault u) = absurd (not_refused u.machine u.projection.machine bound (s.derivable role.0 u.machine u.projection u.runs u.projects) fault u.cause u.refused)
 
--- the answer to such a text
-abbrev answer_of : (bound : ℕ) (bytes : List ℕ) → SpellsDerivableSession bound bytes → Answer_data
-answer_of bound bytes s = report s.document.names.roles (derived bound bytes s).0
-
-answers : (words : List (List ℕ)) (bound : ℕ) (bytes : List ℕ) (s : SpellsDerivableSession bound bytes) → SpellsCheck words bound → Answers words bytes (answer_of bound bytes s)
+-- the answer to such a text is fine
+answers : (words : List (List ℕ)) (bound : ℕ) (bytes : List ℕ) → SpellsDerivableSession bound bytes → SpellsCheck words bound → (a : Answer_data) × Answers words bytes a × (status_of a.verdict ≡ status.Fine)
 answers words bound bytes s check =
     let d = derived bound bytes s in
-    CarriesOut (task.Check bound false) check (ReadsInput refl (IsDocument s.short s.document s.spells (IsAccepted s.projections (machines_of s.document.machines s.projections) d.0 (has_machines bound bytes s) d.1 refl)))
+    let t = some_telling check.0 bytes s.document d.0 s.spells in
+    let accepted = IsAccepted s.projections (machines_of s.document.machines s.projections) d.0 (has_machines bound bytes s) d.1 t.1 in
+    (t.0, CarriesOut (task.Check bound check.0) check.1 (ReadsDocument refl (IsDocument s.short s.document s.spells accepted)), ap status_of t.2)
 
 is_fine : (words : List (List ℕ)) (bound : ℕ) (bytes : List ℕ) (s : SpellsDerivableSession bound bytes) (a : Answer_data) → SpellsCheck words bound → Answers words bytes a → status_of a.verdict ≡ status.Fine
-is_fine words bound bytes s a check h = ap (λ (z : Answer_data). status_of z.verdict) (one_answer words bytes a (answer_of bound bytes s) h (answers words bound bytes s check))
+is_fine words bound bytes s a check h =
+    let t = answers words bound bytes s check in
+    ap (λ (z : Answer_data). status_of z.verdict) (one_answer words bytes a t.0 h t.1) ∙ t.2
 
 told : (words : List (List ℕ)) (bound : ℕ) (bytes : List ℕ) (old new : Option (List ℕ)) (state : Status) (s : SpellsDerivableSession bound bytes) → SpellsCheck words bound → Tells words bytes old new state
     → (state ≡ status.ReadFault → ⊥) → (state ≡ status.WriteFault → ⊥) → (state ≡ status.Fine) ⊎ (state ≡ status.NoMemory)

@@ -5,25 +5,24 @@ use Rattle.rs_core.specs.Plain.{Moment, Ending, Stuck, IsPlain}
 use Rattle.rs_derive.specs.Data.{Derivation_data}
 use Rattle.rs_documents.specs.Data.{Document_data}
 use Rattle.rs_documents.specs.Documents.{SpellsDocument}
-use Rattle.rs_documents.proofs.SpeltSessions.{spelt_session}
 use Rattle.rs_exec.proofs.NeverFull.{never-stuck}
 use Rattle.rs_model.specs.Data.{Machine_data, Names_data}
 use Rattle.rs_project.specs.Data.{Projection_data}
-use Rattle.rs_safety.specs.Accepting.{Accepted_data, IsAcceptedSession}
+use Rattle.rs_safety.specs.Accepting.{Accepted_data}
 use Rattle.rs_safety.specs.Room.{room_of}
-use Rattle.rs_tool.specs.Data.{Answer_data}
-use Rattle.rs_tool.specs.Derivations.{AreCanonical, IsBound}
+use Rattle.rs_answers.specs.Data.{Answer_data}
+use Rattle.rs_answers.specs.Derivations.{AreCanonical, IsBound}
 use Rattle.rs_tool.specs.RunHeadline.{IsOfRun}
-use Rattle.rs_tool.specs.Runs as runs
-use Rattle.rs_tool.specs.Runs.{Runs, TellsEnd, HasEnded, IsStopped, IsFull, TellsRun, actor_of, capacity_of}
-use Rattle.rs_tool.specs.Sessions.{HasMachines}
+use Rattle.rs_answers.specs.Runs as runs
+use Rattle.rs_answers.specs.Runs.{Runs, TellsEnd, HasEnded, IsStopped, IsFull, TellsRun, actor_of, capacity_of}
+use Rattle.rs_answers.specs.Sessions.{HasMachines}
 use Rattle.rs_tool.specs.Statuses.{status_of}
-use Rattle.rs_tool.specs.declared.runs.RunOptions.{RunOptions}
-use Rattle.rs_tool.specs.declared.statuses.Verdict.{Verdict}
-use Rattle.rs_tool.specs.declared.statuses.Verdict.TheVariants.{Full}
-use Rattle.rs_tool.proofs.Derivings.{canonical_safe, derivations_are, one_each, session_of}
+use Rattle.rs_answers.specs.declared.runs.RunOptions.{RunOptions}
+use Rattle.rs_answers.specs.declared.verdicts.Verdict.{Verdict}
+use Rattle.rs_answers.specs.declared.verdicts.Verdict.TheVariants.{Full}
+use Rattle.rs_answers.proofs.AcceptedSessions.{is_accepted}
 use Rattle.rs_tool.proofs.Headline.{no-run, refusal-is-no-run}
-use Rattle.rs_tool.proofs.Unique.{one_session_derived}
+use Rattle.rs_answers.proofs.OneReason.{one_session_derived}
 
 -- what is told of an end with the verdict `Full` is told of a run in which no role could move
 stuck : (names : Names_data) (ms : List Machine_data) (ds : List Derivation_data) (options : RunOptions) (capacity : ℕ) (a : Answer_data) (o : Ending ℕ) → ((end : Moment ℕ) → IsPlain ms by_draws (actor_of options.seed) options.limit (Some capacity) (Stuck end) → ⊥)
@@ -31,18 +30,6 @@ stuck : (names : Names_data) (ms : List Machine_data) (ds : List Derivation_data
 stuck names ms ds options capacity a o never p (HasEnded k ts h e) full = let is = sym (ap (λ (z : Answer_data). z.verdict) e) ∙ full in cc (is)
 stuck names ms ds options capacity a o never p (IsStopped q k e) full = let is = sym (ap (λ (z : Answer_data). z.verdict) e) ∙ full in cc (is)
 stuck names ms ds options capacity a o never p (IsFull k s r h e) full = never k p
-
--- a session with canonical derivations is accepted
-is_accepted : (bound : ℕ) (bytes : List ℕ) (d : Document_data) (ps : List Projection_data) (ms : List Machine_data) (ds : List Derivation_data) → IsBound bound → SpellsDocument bytes d → HasMachines d ps ms → AreCanonical bound ms ps ds
-    → IsAcceptedSession (record { protocol = d.protocol; projections = ps; derivations = ds; machines = ms })
-is_accepted bound bytes d ps ms ds within doc h f =
-    let session = session_of d ps ms (spelt_session bytes d doc) h.projections_are.well_formed h.projections_are.projected h.machines_are h.well_formed in
-    record {
-      is = session;
-      one_each = one_each bound within d.protocol ps ms ds session f;
-      derived = derivations_are bound d.protocol ps ms ds session f;
-      safe = canonical_safe bound d.protocol ps ms ds session f;
-    }
 
 pub never_full : (options : RunOptions) (bytes : List ℕ) (d : Document_data) (ps : List Projection_data) (ms : List Machine_data) (ds : List Derivation_data) (a : Answer_data) → IsBound options.bound → SpellsDocument bytes d → HasMachines d ps ms
     → AreCanonical options.bound ms ps ds → room_of ds ≤ capacity_of options.ring (room_of ds) → Runs options d a → a.verdict ≡ Full → ⊥

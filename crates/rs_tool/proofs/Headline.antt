@@ -1,5 +1,5 @@
 -- An accepted text spells safe machines.
-use Rattle.std.proofs.Common.{◌≡◌, ℕ, List, [], true, false, Option, Some, None, sym, ◌∙◌, subst}
+use Rattle.std.proofs.Common.{◌≡◌, ℕ, List, [], Bool, true, false, Option, Some, None, sym, ◌∙◌, subst}
 use Rattle.std.specs.Prelude.{IfSome}
 use Rattle.rs_core.specs.Safety.{IsSafe}
 use Rattle.rs_project.specs.declared.projecting.ProjFault.{ProjFault}
@@ -7,11 +7,11 @@ use Rattle.rs_project.specs.declared.projecting.ProjFault.TheVariants as proj
 use Rattle.rs_model.specs.declared.graph.Role.{Role}
 use Rattle.rs_search.specs.declared.faults.SearchFault.{SearchFault}
 use Rattle.rs_search.specs.declared.faults.SearchFault.TheVariants as search
-use Rattle.rs_tool.proofs.Derivings.{canonical_safe, session_of}
+use Rattle.rs_answers.proofs.Derivings.{canonical_safe, session_of}
 use Rattle.rs_documents.proofs.SpeltSessions.{spelt_session}
-use Rattle.rs_tool.specs.Verifying as verifying
-use Rattle.rs_tool.specs.Verifying.{Verifies}
-use Rattle.rs_tool.proofs.Verified.{verified_safe}
+use Rattle.rs_answers.specs.Verifying as verifying
+use Rattle.rs_answers.specs.Verifying.{Verifies}
+use Rattle.rs_answers.proofs.Verified.{verified_safe}
 use Rattle.rs_documents.proofs.Spelt.{one_place_each, spelt_machines}
 use Rattle.rs_text.specs.declared.faults.TextKind.{TextKind}
 use Rattle.rs_text.specs.declared.faults.TextKind.TheVariants as kind
@@ -21,27 +21,27 @@ use Rattle.rs_tool.specs.Statuses.{status_of}
 use Rattle.rs_tool.specs.declared.statuses.Status.{Status}
 use Rattle.rs_tool.specs.declared.statuses.Status.TheVariants as status
 use Rattle.rs_pipeline.specs.Pipelines.{pipeline_text, pipeline_of}
-use Rattle.rs_tool.specs.Answers.{Answers, SpellsNothing, CarriesOut, AnswersText, IsTooLong, IsFaulty, IsDocument, AnswersDocument, AnswersTask, IsNotBuilt, ReadsInput, MakesPipeline}
+use Rattle.rs_tool.specs.Answers.{Answers, SpellsNothing, CarriesOut, AnswersText, IsTooLong, IsFaulty, IsDocument, AnswersDocument, AnswersTask, IsNotBuilt, ReadsDocument, RunsDemo, MakesPipeline}
 use Rattle.rs_tool.specs.Calls.{ForInput, Tells, TellsAll, TellsPart, TellsReadFault, TellsNoMemory}
-use Rattle.rs_tool.specs.Checks.{Checks, IsRefused, IsAccepted}
+use Rattle.rs_answers.specs.Checks.{Checks, IsRefused, IsAccepted}
 use Rattle.rs_documents.specs.Data.{Document_data}
-use Rattle.rs_tool.specs.Data.{Answer_data}
-use Rattle.rs_tool.specs.RefusalTexts.{fault_answer, wf_answer, proj_answer, search_answer}
-use Rattle.rs_tool.specs.Derivations.{AreCanonical}
+use Rattle.rs_answers.specs.Data.{Answer_data}
+use Rattle.rs_answers.specs.RefusalTexts.{fault_answer, wf_answer, proj_answer, search_answer}
+use Rattle.rs_answers.specs.Derivations.{AreCanonical}
 use Rattle.rs_documents.specs.Documents.{SpellsDocument}
-use Rattle.rs_tool.specs.Refusals.{refusal_answer}
-use Rattle.rs_tool.specs.Sessions.{HasMachines}
+use Rattle.rs_answers.specs.Refusals.{refusal_answer}
+use Rattle.rs_answers.specs.Sessions.{HasMachines}
 use Rattle.rs_words.specs.declared.limits.TheConstants.{DEFAULT_BOUND}
-use Rattle.rs_tool.specs.declared.refusals.Refusal.{Refusal}
-use Rattle.rs_tool.specs.declared.refusals.Refusal.TheVariants as refusal
+use Rattle.rs_answers.specs.declared.refusals.Refusal.{Refusal}
+use Rattle.rs_answers.specs.declared.refusals.Refusal.TheVariants as refusal
 use Rattle.rs_derive.specs.Data.{Derivation_data}
 use Rattle.rs_model.specs.Data.{Machine_data, Names_data}
 use Rattle.rs_project.specs.Data.{Projection_data}
 use Rattle.rs_tool.specs.Headline.{SpellsSafeMachines}
 use Rattle.rs_tool.specs.RunHeadline.{IsOfRun}
-use Rattle.rs_tool.specs.Runs as runs
-use Rattle.rs_tool.specs.Runs.{Runs}
-use Rattle.rs_tool.specs.declared.runs.RunOptions.{RunOptions}
+use Rattle.rs_answers.specs.Runs as runs
+use Rattle.rs_answers.specs.Runs.{Runs}
+use Rattle.rs_answers.specs.declared.runs.RunOptions.{RunOptions}
 use Rattle.rs_tool.specs.Tasks.{ReadTheInput, SpellsCheck, SpellsRun, reads_input}
 use Rattle.rs_words.specs.Meaning.{SpellsTask}
 use Rattle.rs_words.proofs.Exact.{words_spell_one_task}
@@ -55,7 +55,7 @@ IsNoRun a = IsOfRun (status_of a.verdict) → ⊥
 pub no-run : (a b : Answer_data) → a ≡ b → IsNoRun b → IsNoRun a
 no-run a b e h = subst IsNoRun (sym e) h
 
-fault-is-no-run : (bytes : List ℕ) (k : TextKind) (at : ℕ) → IsNoRun (fault_answer bytes k at)
+pub fault-is-no-run : (bytes : List ℕ) (k : TextKind) (at : ℕ) → IsNoRun (fault_answer bytes k at)
 fault-is-no-run bytes (kind.Expected w) at e = e
 fault-is-no-run bytes kind.UnknownRole at e = e
 fault-is-no-run bytes kind.UnboundName at e = e
@@ -97,7 +97,7 @@ refusal-is-no-run names (refusal.Underivable u) e = search-is-no-run names u.rol
 refusal-is-no-run names refusal.NoMemory e = e
 
 -- machines that have derivations are safe
-derived-is-safe : (bound : ℕ) (bytes : List ℕ) (d : Document_data) (projections : List Projection_data) (machines : List Machine_data) (derivations : List Derivation_data) → SpellsDocument bytes d → HasMachines d projections machines
+pub derived-is-safe : (bound : ℕ) (bytes : List ℕ) (d : Document_data) (projections : List Projection_data) (machines : List Machine_data) (derivations : List Derivation_data) → SpellsDocument bytes d → HasMachines d projections machines
     → AreCanonical bound machines projections derivations → SpellsSafeMachines bytes
 derived-is-safe bound bytes d projections machines derivations doc h found =
     let spelt = spelt_session bytes d doc in
@@ -114,9 +114,9 @@ derived-is-safe bound bytes d projections machines derivations doc h found =
       safe = subst IsSafe h.machines_are (canonical_safe bound d.protocol projections machines derivations session found);
     }
 
-checked-is-safe : (bound : ℕ) (bytes : List ℕ) (d : Document_data) (a : Answer_data) → SpellsDocument bytes d → Checks bound d a → IsOfRun (status_of a.verdict) → SpellsSafeMachines bytes
-checked-is-safe bound bytes d a doc (IsRefused r h is) run = absurd (no-run a _ is (refusal-is-no-run d.names r) run)
-checked-is-safe bound bytes d a doc (IsAccepted projections machines derivations h found is) run = derived-is-safe bound bytes d projections machines derivations doc h found
+checked-is-safe : (bound : ℕ) (asked : Bool) (bytes : List ℕ) (d : Document_data) (a : Answer_data) → SpellsDocument bytes d → Checks bound asked d a → IsOfRun (status_of a.verdict) → SpellsSafeMachines bytes
+checked-is-safe bound asked bytes d a doc (IsRefused r h is) run = absurd (no-run a _ is (refusal-is-no-run d.names r) run)
+checked-is-safe bound asked bytes d a doc (IsAccepted projections machines derivations h found is) run = derived-is-safe bound bytes d projections machines derivations doc h found
 
 run-is-safe : (options : RunOptions) (bytes : List ℕ) (d : Document_data) (a : Answer_data) → SpellsDocument bytes d → Runs options d a → IsOfRun (status_of a.verdict) → SpellsSafeMachines bytes
 run-is-safe options bytes d a doc (runs.IsRefused r h is) run = absurd (no-run a _ is (refusal-is-no-run d.names r) run)
@@ -149,39 +149,43 @@ text-is-safe t bytes a safe (IsDocument short d h answers) run = safe d h answer
 text-is-safe t bytes a safe (IsTooLong long is) run = absurd (no-run a _ is (λ e. e) run)
 text-is-safe t bytes a safe (IsFaulty short k at h is) run = absurd (no-run a _ is (fault-is-no-run bytes k at) run)
 
-check-is-safe : (bound : ℕ) (bytes : List ℕ) (a : Answer_data) → AnswersText (task.Check bound false) bytes a → IsOfRun (status_of a.verdict) → SpellsSafeMachines bytes
-check-is-safe bound bytes a h run = text-is-safe (task.Check bound false) bytes a (λ d doc k is. checked-is-safe bound bytes d a doc k is) h run
+check-is-safe : (bound : ℕ) (asked : Bool) (bytes : List ℕ) (a : Answer_data) → AnswersText (task.Check bound asked) bytes a → IsOfRun (status_of a.verdict) → SpellsSafeMachines bytes
+check-is-safe bound asked bytes a h run = text-is-safe (task.Check bound asked) bytes a (λ d doc k is. checked-is-safe bound asked bytes d a doc k is) h run
 
 -- what the words ask for is safe, where it was carried out on an accepted session
-checks-safely : (bound : ℕ) (bytes : List ℕ) (a : Answer_data) → AnswersTask (task.Check bound false) bytes a → IsOfRun (status_of a.verdict) → SpellsSafeMachines bytes
-checks-safely bound bytes a (IsNotBuilt not is) run = absurd (no-run a _ is (λ e. e) run)
-checks-safely bound bytes a (ReadsInput reads h) run = check-is-safe bound bytes a h run
-checks-safely bound bytes a (MakesPipeline number same h) run = absurd cc
+checks-safely : (bound : ℕ) (asked : Bool) (bytes : List ℕ) (a : Answer_data) → AnswersTask (task.Check bound asked) bytes a → IsOfRun (status_of a.verdict) → SpellsSafeMachines bytes
+checks-safely bound asked bytes a (IsNotBuilt not is) run = absurd (no-run a _ is (λ e. e) run)
+checks-safely bound asked bytes a (ReadsDocument reads h) run = check-is-safe bound asked bytes a h run
+checks-safely bound asked bytes a (RunsDemo kind own same h) run = absurd cc
+checks-safely bound asked bytes a (MakesPipeline number same h) run = absurd cc
 
 verifies-safely : (bytes : List ℕ) (a : Answer_data) → AnswersTask task.Verify bytes a → IsOfRun (status_of a.verdict) → SpellsSafeMachines bytes
 verifies-safely bytes a (IsNotBuilt not is) run = absurd (no-run a _ is (λ e. e) run)
-verifies-safely bytes a (ReadsInput reads h) run = text-is-safe task.Verify bytes a (λ d doc k is. verify-is-safe bytes d a doc k is) h run
+verifies-safely bytes a (ReadsDocument reads h) run = text-is-safe task.Verify bytes a (λ d doc k is. verify-is-safe bytes d a doc k is) h run
+verifies-safely bytes a (RunsDemo kind own same h) run = absurd cc
 verifies-safely bytes a (MakesPipeline number same h) run = absurd cc
 
 runs-safely : (options : RunOptions) (bytes : List ℕ) (a : Answer_data) → AnswersTask (task.Run options.bound options.ring 1 options.limit options.seed) bytes a → IsOfRun (status_of a.verdict) → SpellsSafeMachines bytes
 runs-safely options bytes a (IsNotBuilt not is) run = absurd (no-run a _ is (λ e. e) run)
-runs-safely options bytes a (ReadsInput reads h) run = text-is-safe (task.Run options.bound options.ring 1 options.limit options.seed) bytes a (λ d doc k is. run-is-safe options bytes d a doc k is) h run
+runs-safely options bytes a (ReadsDocument reads h) run = text-is-safe (task.Run options.bound options.ring 1 options.limit options.seed) bytes a (λ d doc k is. run-is-safe options bytes d a doc k is) h run
+runs-safely options bytes a (RunsDemo kind own same h) run = absurd cc
 runs-safely options bytes a (MakesPipeline number same h) run = absurd cc
 
 pipes-safely : (number : ℕ) (bytes : List ℕ) (a : Answer_data) → AnswersTask (task.Gen number) bytes a → IsOfRun (status_of a.verdict) → SpellsSafeMachines (pipeline_text (pipeline_of number))
 pipes-safely number bytes a (IsNotBuilt not is) run = absurd (no-run a _ is (λ e. e) run)
-pipes-safely number bytes a (ReadsInput reads h) run = absurd cc
+pipes-safely number bytes a (ReadsDocument reads h) run = absurd cc
+pipes-safely number bytes a (RunsDemo kind own same h) run = absurd cc
 pipes-safely number bytes a (MakesPipeline other same h) run =
     let is : other ≡ number = cc in
     let checked : IsOfRun (status_of h.checked.verdict) = subst (λ (z : Answer_data). IsOfRun (status_of z.verdict)) h.is run in
-    subst (λ (n : ℕ). SpellsSafeMachines (pipeline_text (pipeline_of n))) is (check-is-safe DEFAULT_BOUND (pipeline_text (pipeline_of other)) h.checked h.checks checked)
+    subst (λ (n : ℕ). SpellsSafeMachines (pipeline_text (pipeline_of n))) is (check-is-safe DEFAULT_BOUND false (pipeline_text (pipeline_of other)) h.checked h.checks checked)
 
 -- the answer to the words is that of the task that they spell
-task-is-answered : (words : List (List ℕ)) (t : Task) (bytes : List ℕ) (a : Answer_data) → SpellsTask words t → Answers words bytes a → AnswersTask t bytes a
+pub task-is-answered : (words : List (List ℕ)) (t : Task) (bytes : List ℕ) (a : Answer_data) → SpellsTask words t → Answers words bytes a → AnswersTask t bytes a
 task-is-answered words t bytes a s (SpellsNothing none is) = absurd (none t s)
 task-is-answered words t bytes a s (CarriesOut u r h) = subst (λ (x : Task). AnswersTask x bytes a) (words_spell_one_task words u t r s) h
 
-told-is-run : (words : List (List ℕ)) (t : Task) (bytes : List ℕ) (old new : Option (List ℕ)) (s : Status) → SpellsTask words t → Tells words bytes old new s → IsOfRun s → (a : Answer_data) × AnswersTask t bytes a × IsOfRun (status_of a.verdict)
+pub told-is-run : (words : List (List ℕ)) (t : Task) (bytes : List ℕ) (old new : Option (List ℕ)) (s : Status) → SpellsTask words t → Tells words bytes old new s → IsOfRun s → (a : Answer_data) × AnswersTask t bytes a × IsOfRun (status_of a.verdict)
 told-is-run words t bytes old new s spells (TellsAll a h text is) run = (a, task-is-answered words t bytes a spells h, subst IsOfRun is run)
 told-is-run words t bytes old new s spells (TellsPart a h text is) run = absurd (subst IsOfRun is run)
 told-is-run words t bytes old new s spells (TellsReadFault keeps is) run = absurd (subst IsOfRun is run)
@@ -193,8 +197,8 @@ fine-is-run s e = subst IsOfRun (sym e) tt
 pub fine-is-safe : (words : List (List ℕ)) (o old new : Option (List ℕ)) (s : Status) (bound : ℕ) → SpellsCheck words bound → ForInput words o (λ bytes. Tells words bytes old new s) → IfSome o (λ bytes. s ≡ status.Fine → SpellsSafeMachines bytes)
 fine-is-safe words None old new s bound check told = tt
 fine-is-safe words (Some bytes) old new s bound check told = λ fine.
-    let is = told-is-run words (task.Check bound false) bytes old new s check told.told (fine-is-run s fine) in
-    checks-safely bound bytes is.0 is.1 is.2
+    let is = told-is-run words (task.Check bound check.0) bytes old new s check.1 told.told (fine-is-run s fine) in
+    checks-safely bound check.0 bytes is.0 is.1 is.2
 
 pub verified-is-safe : (words : List (List ℕ)) (o old new : Option (List ℕ)) (s : Status) → SpellsTask words task.Verify → ForInput words o (λ bytes. Tells words bytes old new s) → IfSome o (λ bytes. s ≡ status.Fine → SpellsSafeMachines bytes)
 verified-is-safe words None old new s spells told = tt

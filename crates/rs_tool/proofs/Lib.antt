@@ -1,11 +1,9 @@
-pub mod EachRole
-pub mod Derivings
 pub mod Answering
-pub mod Outcomes
 pub mod Headline
 pub mod Unique
 pub mod EnoughRoom
 pub mod Complete
 pub mod SomeAnswer
 pub mod OneSession
-pub mod Verified
+pub mod DemoHeadline
+pub mod DemoComplete

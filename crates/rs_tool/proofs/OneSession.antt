@@ -4,9 +4,9 @@ use Rattle.rs_documents.proofs.Spelt.{one_session}
 use Rattle.rs_model.specs.Data.{Protocol_data}
 use Rattle.rs_project.specs.Numbered.{AreNumberedProjections}
 use Rattle.rs_tool.specs.Headline.{SpellsSafeMachines}
-use Rattle.rs_tool.specs.Machines.{machines_of}
-use Rattle.rs_tool.proofs.EachRole.{chosen_size}
-use Rattle.rs_tool.proofs.Unique.{one_list}
+use Rattle.rs_answers.specs.Machines.{machines_of}
+use Rattle.rs_answers.proofs.EachRole.{chosen_size}
+use Rattle.rs_answers.proofs.OneReason.{one_list}
 
 pub one-session : (bytes : List ℕ) (one other : SpellsSafeMachines bytes) → machines_of one.machines one.projections ≡ machines_of other.machines other.projections
 one-session bytes one other =

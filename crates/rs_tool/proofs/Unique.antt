@@ -1,143 +1,49 @@
 -- Words and bytes have one answer.
-use Rattle.std.proofs.Common.{◌≡◌, ℕ, zero, suc, ◌≤◌, ◌<◌, Option, None, arith, true, false, List, [], ◌∷◌, ◌++◌, Some, length, refl, sym, ap, subst, ◌∙◌, inl, inr, slice_get}
-use Rattle.std.proofs.lemmas.Bool.Decides.{leb_tells}
-use Rattle.std.proofs.lemmas.Option.{slice_get_within, same_Some}
-use Rattle.rs_model.specs.Data.{Names_data, Protocol_data, Machine_data}
-use Rattle.rs_model.specs.declared.graph.Role.{Role}
+use Rattle.std.proofs.Common.{◌≡◌, ℕ, ◌≤◌, ◌<◌, Option, None, arith, Bool, true, false, List, [], ◌∷◌, ◌++◌, Some, length, sym, ap, subst, ◌∙◌}
+use Rattle.std.proofs.lemmas.Option.{same_Some}
+use Rattle.rs_model.specs.Data.{Names_data, Machine_data}
 use Rattle.rs_model.specs.declared.limits.TheConstants.{MOST_BYTES}
 use Rattle.rs_global.proofs.CanonOne.{canonical_text_is_one}
+use Rattle.rs_global.specs.Canonical.{IsTextShaped}
 use Rattle.rs_project.specs.Data.{Projection_data}
-use Rattle.rs_project.specs.Numbered.{AreFirstProjections, AreNumberedProjections}
-use Rattle.rs_project.specs.declared.projecting.ProjFault.{ProjFault}
 use Rattle.rs_derive.specs.Data.{Derivation_data}
-use Rattle.rs_search.specs.Canonical.{Refuses}
-use Rattle.rs_search.specs.declared.faults.SearchFault.{SearchFault}
-use Rattle.rs_search.proofs.Determined.{not_both_ways}
-use Rattle.rs_search.proofs.Determined as searched
-use Rattle.rs_tool.specs.Derivations.{AreCanonical, AreFirstCanonical, IsUnderivable}
 use Rattle.rs_pipeline.specs.Pipelines.{pipeline_text, pipeline_of, pipeline_summary}
 use Rattle.rs_words.specs.declared.limits.TheConstants.{DEFAULT_BOUND}
 use Rattle.rs_words.proofs.Exact.{words_spell_one_task}
-use Rattle.rs_wellformed.specs.WellFormed.{IsWellFormed}
 use Rattle.rs_wellformed.proofs.Faults.{no_fault}
-use Rattle.rs_text.specs.declared.faults.TextKind.{TextKind}
-use Rattle.rs_text.specs.declared.faults.TextKind.TheVariants as kind
-use Rattle.rs_tool.specs.declared.statuses.Verdict.TheVariants.{Fine}
+use Rattle.rs_answers.specs.declared.verdicts.Verdict.TheVariants.{Fine}
+use Rattle.rs_demo_answers.proofs.OneAnswer.{one_demo}
+use Rattle.rs_demos.specs.declared.kinds.Demo.{Demo}
 use Rattle.rs_words.specs.declared.tasks.Task.{Task}
 use Rattle.rs_words.specs.declared.tasks.Task.TheVariants as task
-use Rattle.rs_tool.specs.Answers.{Answers, SpellsNothing, CarriesOut, AnswersText, IsTooLong, IsFaulty, IsDocument, AnswersDocument, AnswersPipeline, AnswersTask, IsNotBuilt, ReadsInput, MakesPipeline}
-use Rattle.rs_tool.specs.Checks.{Checks, IsRefused, IsAccepted}
+use Rattle.rs_tool.specs.Answers.{Answers, SpellsNothing, CarriesOut, AnswersText, IsTooLong, IsFaulty, IsDocument, AnswersDocument, AnswersPipeline, AnswersTask, AnswersData, DataIsTooLong, DataIsShort, IsNotBuilt, ReadsDocument, RunsDemo, MakesPipeline}
+use Rattle.rs_answers.specs.Checks.{Checks, IsRefused, IsAccepted, TellsAccepted, with_derivations}
 use Rattle.rs_documents.specs.Data.{Document_data}
-use Rattle.rs_tool.specs.Data.{Answer_data}
+use Rattle.rs_answers.specs.Data.{Answer_data}
 use Rattle.rs_documents.specs.Documents.{SpellsDocument}
-use Rattle.rs_tool.specs.RefusalTexts.{blame_answer, fault_answer, wf_answer, proj_answer}
-use Rattle.rs_tool.specs.Refusals.{HasNoDerivations, HasNoSession, IsIllFormed, HasNoProjection, HasIllMachine, IsWithoutSession, HasNoDerivation, refusal_answer}
-use Rattle.rs_tool.specs.declared.refusals.Refusal.{Refusal}
-use Rattle.rs_tool.specs.declared.refusals.Refusal.TheVariants as refusal
-use Rattle.rs_tool.specs.Report.{report}
-use Rattle.rs_tool.specs.Runs as runs
-use Rattle.rs_tool.specs.Runs.{Runs, TellsRun}
-use Rattle.rs_tool.specs.declared.runs.RunOptions.{RunOptions}
-use Rattle.rs_tool.proofs.Derivings.{session_of}
-use Rattle.rs_tool.proofs.Outcomes.{one_run}
+use Rattle.rs_answers.specs.RefusalTexts.{blame_answer, fault_answer, wf_answer, proj_answer}
+use Rattle.rs_answers.specs.Refusals.{IsIllFormed, HasNoProjection, refusal_answer}
+use Rattle.rs_answers.specs.Runs as runs
+use Rattle.rs_answers.specs.Runs.{Runs, TellsRun}
+use Rattle.rs_answers.specs.declared.runs.RunOptions.{RunOptions}
+use Rattle.rs_answers.proofs.Derivings.{session_of}
+use Rattle.rs_answers.proofs.Outcomes.{one_run}
 use Rattle.rs_documents.proofs.SpeltSessions.{spelt_session}
-use Rattle.rs_tool.specs.Sessions.{HasMachines, HasProjections, IsUnprojectable, MachineRefusal, first_refusal, machines_of}
+use Rattle.rs_answers.specs.Sessions.{HasMachines}
 use Rattle.rs_documents.specs.Canonical.{AreCanonicalMachines, AreShown, derivations_text}
-use Rattle.rs_tool.specs.Shown.{Shows}
-use Rattle.rs_tool.specs.Verifying as verifying
-use Rattle.rs_tool.specs.Verifying.{RoleBlame, Verifies, first_blame}
-use Rattle.rs_tool.specs.Tables as tables
-use Rattle.rs_tool.specs.Tables.{Projects, tables_text}
-use Rattle.rs_tool.specs.Tasks.{is_built, reads_input}
+use Rattle.rs_answers.specs.Shown.{Shows}
+use Rattle.rs_answers.specs.Verifying as verifying
+use Rattle.rs_answers.specs.Verifying.{RoleBlame, Verifies, first_blame}
+use Rattle.rs_answers.specs.Tables as tables
+use Rattle.rs_answers.specs.Tables.{Projects, tables_text}
+use Rattle.rs_tool.specs.Tasks.{is_built, reads_document}
 use Rattle.rs_documents.proofs.CanShow.{role_names}
-use Rattle.rs_project.proofs.OneProjection.{not-both, one-projection}
-use Rattle.rs_project.proofs.OneAnswer.{one-refusal}
 use Rattle.rs_machines.proofs.CanonOne as of_machines
 use Rattle.rs_documents.proofs.OneDocument.{no_fault as no_text_fault, one_document, one_fault}
+use Rattle.rs_answers.proofs.OneReason.{one_unprojectable, one_projection_list, not_unprojectable, one_reason, has_a_session, same_session, one_session_derived, one_refusal, not_refused}
 
 short-and-long : (bytes : List ℕ) → length bytes ≤ MOST_BYTES → MOST_BYTES < length bytes → ⊥
 short-and-long bytes s l = absurd (omega arith)
-
--- projections
-same_list : {A : Type 0} (xs ys : List A) → length xs ≡ length ys → ((p : ℕ) (x y : A) → slice_get xs p ≡ Some x → slice_get ys p ≡ Some y → x ≡ y) → xs ≡ ys
-same_list [] [] size h = refl
-same_list [] (y ∷ ys) size h = absurd cc
-same_list (x ∷ xs) [] size h = absurd cc
-same_list (x ∷ xs) (y ∷ ys) size h =
-    ap (λ z. z ∷ xs) (h 0 x y refl refl) ∙ ap (λ z. y ∷ z) (same_list xs ys (cc) (λ p a b e f. h (suc p) a b e f))
-
-pub one_list : (protocol : Protocol_data) (xs ys : List Projection_data) → IsWellFormed protocol → AreNumberedProjections protocol xs → AreNumberedProjections protocol ys → xs ≡ ys
-one_list protocol xs ys w h k =
-    same_list xs ys (h.many ∙ sym k.many) (λ p x y e f. one-projection protocol (record { 0 = p }) x y w (h.each p x e) (k.each p y f))
-
-get_some : {A : Type 0} (xs : List A) (k : ℕ) → k < length xs → (x : A) × (slice_get xs k ≡ Some x)
-get_some [] k lt = absurd (omega arith)
-get_some (x ∷ xs) zero lt = (x, refl)
-get_some (x ∷ xs) (suc k) lt = get_some xs k (omega arith)
-
--- a role onto which there is a projection isn't one onto which there is none
-not_earlier : (protocol : Protocol_data) (role : Role) (count : ℕ) (projections : List Projection_data) (fault : ProjFault) → IsWellFormed protocol → AreFirstProjections protocol count projections → role.0 < count → IsUnprojectable protocol role fault → ⊥
-not_earlier protocol role count projections fault w h lt u =
-    let m = h.many in
-    let x = get_some projections role.0 (omega arith) in
-    not-both protocol role x.0 fault (h.each role.0 x.0 x.1) u.refused
-
-same_role : (a b : Role) → a.0 ≡ b.0 → a ≡ b
-same_role a b e = ap (λ (n : ℕ). record { 0 = n }) e
-
-one_unprojectable : (protocol : Protocol_data) (r s : Role) (f g : ProjFault) → IsWellFormed protocol → IsUnprojectable protocol r f → IsUnprojectable protocol s g → f ≡ g
-one_unprojectable protocol r s f g w h k = elim (leb_tells (suc r.0) s.0) [
-  | inl less ↦ absurd (not_earlier protocol r s.0 k.earlier f w k.projected less.1 h)
-  | inr more ↦ elim (leb_tells (suc s.0) r.0) [
-    | inl less ↦ absurd (not_earlier protocol s r.0 h.earlier g w h.projected less.1 k)
-    | inr other ↦
-        let m1 = more.1 in
-        let m2 = other.1 in
-        let same : s ≡ r = same_role s r (omega arith) in
-        let k' : IsUnprojectable protocol r g = subst (λ (x : Role). IsUnprojectable protocol x g) same k in
-        one-refusal protocol r f g h.refused k'.refused
-  ]
-]
-
--- a protocol has one list of projections
-one_projection_list : (d : Document_data) (xs ys : List Projection_data) → HasProjections d xs → HasProjections d ys → xs ≡ ys
-one_projection_list d xs ys h k = one_list d.protocol xs ys (no_fault d.protocol h.well_formed) h.projected k.projected
-
--- a protocol that has projections onto all roles has one onto each
-not_unprojectable : (d : Document_data) (projections : List Projection_data) (role : Role) (fault : ProjFault) → HasProjections d projections → IsUnprojectable d.protocol role fault → ⊥
-not_unprojectable d projections role fault h u = not_earlier d.protocol role d.protocol.roles projections fault (no_fault d.protocol h.well_formed) h.projected u.known u
-
--- there is one reason why a document has no session
-pub one_reason : (d : Document_data) (r s : Refusal) → HasNoSession d r → HasNoSession d s → r ≡ s
-one_reason d r s (IsIllFormed f e) (IsIllFormed g h) = let same : Some f ≡ Some g = sym e ∙ h in let is : f ≡ g = cc in ap refusal.IllFormed is
-one_reason d r s (IsIllFormed f e) (HasNoProjection none role g u) = absurd cc
-one_reason d r s (IsIllFormed f e) (HasIllMachine ps h i g) = let none = h.well_formed in absurd cc
-one_reason d r s (HasNoProjection none role f u) (IsIllFormed g h) = absurd cc
-one_reason d r s (HasNoProjection none role f u) (HasNoProjection other place g v) =
-    ap refusal.Unprojectable (one_unprojectable d.protocol role place f g (no_fault d.protocol none) u v)
-one_reason d r s (HasNoProjection none role f u) (HasIllMachine ps h i g) = absurd (not_unprojectable d ps role f h u)
-one_reason d r s (HasIllMachine ps h i e) (IsIllFormed g f) = let none = h.well_formed in absurd cc
-one_reason d r s (HasIllMachine ps h i e) (HasNoProjection none role g u) = absurd (not_unprojectable d ps role g h u)
-one_reason d r s (HasIllMachine ps h i e) (HasIllMachine qs k j f) =
-    let projections = one_projection_list d ps qs h k in
-    let same : Some i ≡ Some j = sym e ∙ ap (λ z. first_refusal d.protocol.roles (machines_of d.machines z)) projections ∙ f in
-    let is : i ≡ j = cc in
-    ap (λ (z : MachineRefusal). refusal.IllMachine z.role z.fault) is
-
--- a document that has a session isn't one that has none
-pub has_a_session : (d : Document_data) (projections : List Projection_data) (machines : List Machine_data) (r : Refusal) → HasMachines d projections machines → HasNoSession d r → ⊥
-has_a_session d ps ms r h (IsIllFormed f e) = let none = h.projections_are.well_formed in cc
-has_a_session d ps ms r h (HasNoProjection none role f u) = not_unprojectable d ps role f h.projections_are u
-has_a_session d ps ms r h (HasIllMachine qs k i e) =
-    let machines : ms ≡ machines_of d.machines qs = h.machines_are ∙ ap (machines_of d.machines) (one_projection_list d ps qs h.projections_are k) in
-    let none : first_refusal d.protocol.roles (machines_of d.machines qs) ≡ None = subst (λ z. first_refusal d.protocol.roles z ≡ None) machines h.well_formed in
-    cc (none, e)
-
--- a document has one session
-pub same_session : (d : Document_data) (ps qs : List Projection_data) (ms ns : List Machine_data) → HasMachines d ps ms → HasMachines d qs ns → (ps ≡ qs) × (ms ≡ ns)
-same_session d ps qs ms ns h k =
-    let projections = one_projection_list d ps qs h.projections_are k.projections_are in
-    (projections, h.machines_are ∙ ap (machines_of d.machines) projections ∙ sym k.machines_are)
 
 one_tables : (d : Document_data) (a b : Answer_data) → Projects d a → Projects d b → a ≡ b
 one_tables d a b (tables.IsIllFormed f e x) (tables.IsIllFormed g h y) = let same : Some f ≡ Some g = sym e ∙ h in let is : f ≡ g = cc in x ∙ ap (wf_answer d.names) is ∙ sym y
@@ -150,95 +56,6 @@ one_tables d a b (tables.HasNoProjection none r f e x) (tables.HasTables ps h y)
 one_tables d a b (tables.HasTables ps h x) (tables.IsIllFormed g e y) = let none = h.well_formed in absurd cc
 one_tables d a b (tables.HasTables ps h x) (tables.HasNoProjection none s g e y) = absurd (not_unprojectable d ps s g h e)
 one_tables d a b (tables.HasTables ps h x) (tables.HasTables qs k y) = x ∙ ap (λ z. record { text = tables_text d.names z; verdict = Fine }) (one_projection_list d ps qs h k) ∙ sym y
-
--- a role whose machine has a derivation isn't one whose machine has none
-derived_before : (bound : ℕ) (ms : List Machine_data) (ps : List Projection_data) (count : ℕ) (ds : List Derivation_data) (role : Role) (fault : SearchFault) → AreFirstCanonical bound ms ps count ds → role.0 < count → IsUnderivable bound ms ps role fault → ⊥
-derived_before bound ms ps count ds role fault h lt u =
-    let many = h.many in
-    let d = get_some ds role.0 (omega (arith, many, lt)) in
-    let found = h.each role.0 u.machine u.projection d.0 u.runs u.projects d.1 in
-    u.cause (not_both_ways u.machine u.projection.machine bound d.0 fault found u.refused)
-
-not_derived : (bound : ℕ) (ms : List Machine_data) (ps : List Projection_data) (ds : List Derivation_data) (role : Role) (fault : SearchFault) → AreCanonical bound ms ps ds → IsUnderivable bound ms ps role fault → ⊥
-not_derived bound ms ps ds role fault h u = derived_before bound ms ps (length ms) ds role fault h (slice_get_within ms role.0 u.machine u.runs) u
-
-one_underivable : (bound : ℕ) (ms : List Machine_data) (ps : List Projection_data) (r s : Role) (f g : SearchFault) → IsUnderivable bound ms ps r f → IsUnderivable bound ms ps s g → (r ≡ s) × (f ≡ g)
-one_underivable bound ms ps r s f g u v = elim (leb_tells (suc r.0) s.0) [
-  | inl less ↦ absurd (derived_before bound ms ps s.0 v.earlier r f v.derived less.1 u)
-  | inr more ↦ elim (leb_tells (suc s.0) r.0) [
-    | inl less ↦ absurd (derived_before bound ms ps r.0 u.earlier s g u.derived less.1 v)
-    | inr other ↦
-        let m1 = more.1 in
-        let m2 = other.1 in
-        let place : r.0 ≡ s.0 = omega (arith, m1, m2) in
-        let same : r ≡ s = same_role r s place in
-        let machine : u.machine ≡ v.machine = same_Some u.machine v.machine (sym u.runs ∙ ap (λ z. slice_get ms z) place ∙ v.runs) in
-        let projection : u.projection ≡ v.projection = same_Some u.projection v.projection (sym u.projects ∙ ap (λ z. slice_get ps z) place ∙ v.projects) in
-        let P : Machine_data → Type 0 = λ z. Refuses z u.projection.machine bound f in
-        let Q : Projection_data → Type 0 = λ z. Refuses v.machine z.machine bound f in
-        let refused : Refuses v.machine v.projection.machine bound f = subst Q projection (subst P machine u.refused) in
-        (same, searched.one_refusal v.machine v.projection.machine bound f g u.cause v.cause refused v.refused)
-  ]
-]
-
--- the session's derivations are one list
-one_derived : (bound : ℕ) (ms : List Machine_data) (ps : List Projection_data) (ds es : List Derivation_data) → length ms ≤ length ps → AreCanonical bound ms ps ds → AreCanonical bound ms ps es → ds ≡ es
-one_derived bound ms ps ds es few h k =
-    same_list ds es (h.many ∙ sym k.many) (λ p d e hd he.
-    let within = slice_get_within ds p d hd in
-    let many = h.many in
-    let m = get_some ms p (omega (arith, within, many)) in
-    let j = get_some ps p (omega (arith, within, many, few)) in
-    searched.one_answer m.0 j.0.machine bound d e (h.each p m.0 j.0 d m.1 j.1 hd) (k.each p m.0 j.0 e m.1 j.1 he))
-
-few_machines : (own : List (Option Machine_data)) (ps : List Projection_data) → length (machines_of own ps) ≤ length ps
-few_machines [] [] = omega arith
-few_machines [] (j ∷ js) = omega arith
-few_machines (x ∷ xs) [] = omega arith
-few_machines (x ∷ xs) (j ∷ js) = let few = few_machines xs js in omega (arith, few)
-
--- of a session there is one list of derivations, or one reason why there is none
-pub one_session_derived : (bound : ℕ) (d : Document_data) (ps qs : List Projection_data) (ms ns : List Machine_data) (ds es : List Derivation_data) → HasMachines d ps ms → HasMachines d qs ns → AreCanonical bound ms ps ds → AreCanonical bound ns qs es → ds ≡ es
-one_session_derived bound d ps qs ms ns ds es h k f g =
-    let same = same_session d ps qs ms ns h k in
-    let P : List Projection_data → Type 0 = λ z. AreCanonical bound ms z ds in
-    let Q : List Machine_data → Type 0 = λ z. AreCanonical bound z qs ds in
-    let few : length ns ≤ length qs = subst (λ (z : List Machine_data). length z ≤ length qs) (sym k.machines_are) (few_machines d.machines qs) in
-    one_derived bound ns qs ds es few (subst Q same.1 (subst P same.0 f)) g
-
-not_session_derived : (bound : ℕ) (d : Document_data) (ps qs : List Projection_data) (ms ns : List Machine_data) (ds : List Derivation_data) (role : Role) (fault : SearchFault) → HasMachines d ps ms → HasMachines d qs ns → AreCanonical bound ms ps ds
-    → IsUnderivable bound ns qs role fault → ⊥
-not_session_derived bound d ps qs ms ns ds role fault h k f u =
-    let same = same_session d ps qs ms ns h k in
-    let P : List Projection_data → Type 0 = λ z. AreCanonical bound ms z ds in
-    let Q : List Machine_data → Type 0 = λ z. AreCanonical bound z qs ds in
-    not_derived bound ns qs ds role fault (subst Q same.1 (subst P same.0 f)) u
-
-one_session_underivable : (bound : ℕ) (d : Document_data) (ps qs : List Projection_data) (ms ns : List Machine_data) (r s : Role) (f g : SearchFault) → HasMachines d ps ms → HasMachines d qs ns → IsUnderivable bound ms ps r f → IsUnderivable bound ns qs s g
-    → refusal.Underivable (record { role = r; fault = f }) ≡ refusal.Underivable (record { role = s; fault = g })
-one_session_underivable bound d ps qs ms ns r s f g h k u v =
-    let same = same_session d ps qs ms ns h k in
-    let P : List Projection_data → Type 0 = λ z. IsUnderivable bound ms z r f in
-    let Q : List Machine_data → Type 0 = λ z. IsUnderivable bound z qs r f in
-    let one = one_underivable bound ns qs r s f g (subst Q same.1 (subst P same.0 u)) v in
-    ap (λ z. refusal.Underivable (record { role = z; fault = f })) one.0 ∙ ap (λ z. refusal.Underivable (record { role = s; fault = z })) one.1
-
--- there is one reason why no derivations are found, and none where they are
-pub one_refusal : (bound : ℕ) (d : Document_data) (r s : Refusal) → HasNoDerivations bound d r → HasNoDerivations bound d s → r ≡ s
-one_refusal bound d r s (IsWithoutSession p h) (IsWithoutSession q k) = one_reason d r s h k
-one_refusal bound d r s (IsWithoutSession p h) (HasNoDerivation qs ns k role f u) = absurd (has_a_session d qs ns r k h)
-one_refusal bound d r s (HasNoDerivation ps ms h role f u) (IsWithoutSession q k) = absurd (has_a_session d ps ms s h k)
-one_refusal bound d r s (HasNoDerivation ps ms h role f u) (HasNoDerivation qs ns k place g v) = one_session_underivable bound d ps qs ms ns role place f g h k u v
-
-pub not_refused : (bound : ℕ) (d : Document_data) (ps : List Projection_data) (ms : List Machine_data) (ds : List Derivation_data) (r : Refusal) → HasMachines d ps ms → AreCanonical bound ms ps ds → HasNoDerivations bound d r → ⊥
-not_refused bound d ps ms ds r h f (IsWithoutSession q k) = has_a_session d ps ms r h k
-not_refused bound d ps ms ds r h f (HasNoDerivation qs ns k role g u) = not_session_derived bound d ps qs ms ns ds role g h k f u
-
-one_check : (bound : ℕ) (d : Document_data) (a b : Answer_data) → Checks bound d a → Checks bound d b → a ≡ b
-one_check bound d a b (IsRefused r h x) (IsRefused s k y) = x ∙ ap (refusal_answer d.names) (one_refusal bound d r s h k) ∙ sym y
-one_check bound d a b (IsRefused r h x) (IsAccepted ps ms ds k f y) = absurd (not_refused bound d ps ms ds r k f h)
-one_check bound d a b (IsAccepted ps ms ds h f x) (IsRefused s k y) = absurd (not_refused bound d ps ms ds s h f k)
-one_check bound d a b (IsAccepted ps ms ds h f x) (IsAccepted qs ns es k g y) = x ∙ ap (report d.names.roles) (one_session_derived bound d ps qs ms ns ds es h k f g) ∙ sym y
 
 one_of_run : (options : RunOptions) (bytes : List ℕ) (d : Document_data) (a b : Answer_data) → SpellsDocument bytes d → Runs options d a → Runs options d b → a ≡ b
 one_of_run options bytes d a b doc (runs.IsRefused r h x) (runs.IsRefused s k y) = x ∙ ap (refusal_answer d.names) (one_refusal options.bound d r s h k) ∙ sym y
@@ -258,14 +75,28 @@ one_lines names (None ∷ ms) x y s h k = one_lines names ms x y s.1 h k
 one_lines names (Some m ∷ ms) x y s h k =
     h.4 ∙ ap (λ z. z ++ h.1) (of_machines.canonical_text_is_one names m h.0 k.0 s.0.0 h.2 k.2) ∙ ap (λ z. k.0 ++ z) (one_lines names ms h.1 k.1 s.1 h.3 k.3) ∙ sym k.4
 
-one_show : (bytes : List ℕ) (d : Document_data) (a b : Answer_data) → SpellsDocument bytes d → Shows d a → Shows d b → a ≡ b
-one_show bytes d a b doc h k =
-    let r = role_names bytes d doc in
-    let front = canonical_text_is_one d.names d.protocol h.text.front k.text.front r.3 h.text.protocol k.text.protocol in
-    let back = one_lines d.names d.machines h.text.back k.text.back r.2 h.text.machines k.text.machines in
+one_shown : (d : Document_data) (a b : Answer_data) → IsTextShaped d.protocol → AreShown d.names d.machines → Shows d a → Shows d b → a ≡ b
+one_shown d a b shaped there h k =
+    let front = canonical_text_is_one d.names d.protocol h.text.front k.text.front shaped h.text.protocol k.text.protocol in
+    let back = one_lines d.names d.machines h.text.back k.text.back there h.text.machines k.text.machines in
     let last = derivations_text d.names d.derivations in
     let text : a.text ≡ b.text = h.text.is ∙ ap (λ z. z ++ (h.text.back ++ last)) front ∙ ap (λ z. k.text.front ++ (z ++ last)) back ∙ sym k.text.is in
     ap (λ z. record { text = z; verdict = a.verdict }) text ∙ ap (λ z. record { text = b.text; verdict = z }) (h.fine ∙ sym k.fine)
+
+one_show : (bytes : List ℕ) (d : Document_data) (a b : Answer_data) → SpellsDocument bytes d → Shows d a → Shows d b → a ≡ b
+one_show bytes d a b doc h k = let r = role_names bytes d doc in one_shown d a b r.3 r.2 h k
+
+one_telling : (asked : Bool) (bytes : List ℕ) (d : Document_data) (ds : List Derivation_data) (a b : Answer_data) → SpellsDocument bytes d → TellsAccepted asked d ds a → TellsAccepted asked d ds b → a ≡ b
+one_telling false bytes d ds a b doc x y = x ∙ sym y
+one_telling true bytes d ds a b doc x y = let r = role_names bytes d doc in one_shown (with_derivations d ds) a b r.3 r.2 x y
+
+one_check : (bound : ℕ) (asked : Bool) (bytes : List ℕ) (d : Document_data) (a b : Answer_data) → SpellsDocument bytes d → Checks bound asked d a → Checks bound asked d b → a ≡ b
+one_check bound asked bytes d a b doc (IsRefused r h x) (IsRefused s k y) = x ∙ ap (refusal_answer d.names) (one_refusal bound d r s h k) ∙ sym y
+one_check bound asked bytes d a b doc (IsRefused r h x) (IsAccepted ps ms ds k f y) = absurd (not_refused bound d ps ms ds r k f h)
+one_check bound asked bytes d a b doc (IsAccepted ps ms ds h f x) (IsRefused s k y) = absurd (not_refused bound d ps ms ds s h f k)
+one_check bound asked bytes d a b doc (IsAccepted ps ms ds h f x) (IsAccepted qs ns es k g y) =
+    let P : List Derivation_data → Type 0 = λ z. TellsAccepted asked d z a in
+    one_telling asked bytes d es a b doc (subst P (one_session_derived bound d ps qs ms ns ds es h k f g) x) y
 
 -- there is one answer ..
 same_blame : (d : Document_data) (ps qs : List Projection_data) (ms ns : List Machine_data) → HasMachines d ps ms → HasMachines d qs ns → first_blame 0 d.derivations ms ps ≡ first_blame 0 d.derivations ns qs
@@ -288,8 +119,7 @@ one_verifying d a b (verifying.IsVerified ps ms h e x) (verifying.IsBlamed qs ns
 one_verifying d a b (verifying.IsVerified ps ms h e x) (verifying.IsVerified qs ns k f y) = x ∙ sym y
 
 one_of_document : (t : Task) (bytes : List ℕ) (d : Document_data) (a b : Answer_data) → SpellsDocument bytes d → AnswersDocument t d a → AnswersDocument t d b → a ≡ b
-one_of_document (task.Check bound false) bytes d a b doc h k = one_check bound d a b h k
-one_of_document (task.Check bound true) bytes d a b doc h k = absurd h
+one_of_document (task.Check bound asked) bytes d a b doc h k = one_check bound asked bytes d a b doc h k
 one_of_document task.Verify bytes d a b doc h k = one_verifying d a b h k
 one_of_document (task.Run bound ring workers limit seed) bytes d a b doc h k = one_of_run (record { bound = bound; ring = ring; limit = limit; seed = seed }) bytes d a b doc h k
 one_of_document (task.Demo kind ring workers) bytes d a b doc h k = absurd h
@@ -316,10 +146,15 @@ one_pipeline : (number : ℕ) (a b : Answer_data) → AnswersPipeline number a �
 one_pipeline number a b h k =
     h.is ∙ ap (λ (z : Answer_data). record { text = pipeline_summary (pipeline_of number) ++ z.text; verdict = z.verdict }) (one_text (task.Check DEFAULT_BOUND false) (pipeline_text (pipeline_of number)) h.checked k.checked h.checks k.checks) ∙ sym k.is
 
--- what reads the input is built, and isn't `gen`
-reading_is_built : (t : Task) → is_built t ≡ false → reads_input t ≡ true → ⊥
-reading_is_built (task.Check bound true) not reads = cc
-reading_is_built (task.Check bound false) not reads = cc
+one_data : (kind : Demo) (ring : Option ℕ) (bytes : List ℕ) (a b : Answer_data) → AnswersData kind ring bytes a → AnswersData kind ring bytes b → a ≡ b
+one_data kind ring bytes a b (DataIsTooLong l x) (DataIsTooLong m y) = x ∙ sym y
+one_data kind ring bytes a b (DataIsTooLong l x) (DataIsShort s k) = absurd (short-and-long bytes s l)
+one_data kind ring bytes a b (DataIsShort s h) (DataIsTooLong m y) = absurd (short-and-long bytes s m)
+one_data kind ring bytes a b (DataIsShort s h) (DataIsShort r k) = one_demo kind ring bytes a b h k
+
+-- what is carried out is built, and is one thing
+reading_is_built : (t : Task) → is_built t ≡ false → reads_document t ≡ true → ⊥
+reading_is_built (task.Check bound asked) not reads = cc
 reading_is_built task.Verify not reads = cc
 reading_is_built task.Show not reads = cc
 reading_is_built task.Project not reads = cc
@@ -327,21 +162,43 @@ reading_is_built (task.Run bound ring workers limit seed) not reads = let no : f
 reading_is_built (task.Demo kind ring workers) not reads = cc
 reading_is_built (task.Gen number) not reads = cc
 
+demo_is_built : (t : Task) (kind : Demo) (ring : Option ℕ) → t ≡ task.Demo kind ring 1 → is_built t ≡ false → ⊥
+demo_is_built t kind ring e not = let no : true ≡ false = subst (λ (x : Task). is_built x ≡ false) e not in cc
+
+demo_reads_no_document : (t : Task) (kind : Demo) (ring : Option ℕ) → t ≡ task.Demo kind ring 1 → reads_document t ≡ true → ⊥
+demo_reads_no_document t kind ring e reads = let no : false ≡ true = subst (λ (x : Task). reads_document x ≡ true) e reads in cc
+
 gen_is_built : (t : Task) (number : ℕ) → t ≡ task.Gen number → is_built t ≡ false → ⊥
 gen_is_built t number e not = let no : true ≡ false = subst (λ (x : Task). is_built x ≡ false) e not in cc
 
-gen_reads_nothing : (t : Task) (number : ℕ) → t ≡ task.Gen number → reads_input t ≡ true → ⊥
-gen_reads_nothing t number e reads = let no : false ≡ true = subst (λ (x : Task). reads_input x ≡ true) e reads in cc
+gen_reads_no_document : (t : Task) (number : ℕ) → t ≡ task.Gen number → reads_document t ≡ true → ⊥
+gen_reads_no_document t number e reads = let no : false ≡ true = subst (λ (x : Task). reads_document x ≡ true) e reads in cc
+
+gen_is_no_demo : (t : Task) (number : ℕ) (kind : Demo) (ring : Option ℕ) → t ≡ task.Gen number → t ≡ task.Demo kind ring 1 → ⊥
+gen_is_no_demo t number kind ring e f = let no : task.Gen number ≡ task.Demo kind ring 1 = sym e ∙ f in cc
 
 one_task_answer : (t : Task) (bytes : List ℕ) (a b : Answer_data) → AnswersTask t bytes a → AnswersTask t bytes b → a ≡ b
 one_task_answer t bytes a b (IsNotBuilt n x) (IsNotBuilt m y) = x ∙ sym y
-one_task_answer t bytes a b (IsNotBuilt n x) (ReadsInput r k) = absurd (reading_is_built t n r)
+one_task_answer t bytes a b (IsNotBuilt n x) (ReadsDocument r k) = absurd (reading_is_built t n r)
+one_task_answer t bytes a b (IsNotBuilt n x) (RunsDemo kind ring e k) = absurd (demo_is_built t kind ring e n)
 one_task_answer t bytes a b (IsNotBuilt n x) (MakesPipeline number e k) = absurd (gen_is_built t number e n)
-one_task_answer t bytes a b (ReadsInput r h) (IsNotBuilt m y) = absurd (reading_is_built t m r)
-one_task_answer t bytes a b (ReadsInput r h) (ReadsInput q k) = one_text t bytes a b h k
-one_task_answer t bytes a b (ReadsInput r h) (MakesPipeline number e k) = absurd (gen_reads_nothing t number e r)
+one_task_answer t bytes a b (ReadsDocument r h) (IsNotBuilt m y) = absurd (reading_is_built t m r)
+one_task_answer t bytes a b (ReadsDocument r h) (ReadsDocument q k) = one_text t bytes a b h k
+one_task_answer t bytes a b (ReadsDocument r h) (RunsDemo kind ring e k) = absurd (demo_reads_no_document t kind ring e r)
+one_task_answer t bytes a b (ReadsDocument r h) (MakesPipeline number e k) = absurd (gen_reads_no_document t number e r)
+one_task_answer t bytes a b (RunsDemo kind ring e h) (IsNotBuilt m y) = absurd (demo_is_built t kind ring e m)
+one_task_answer t bytes a b (RunsDemo kind ring e h) (ReadsDocument q k) = absurd (demo_reads_no_document t kind ring e q)
+one_task_answer t bytes a b (RunsDemo kind ring e h) (RunsDemo other size f k) =
+    let same : task.Demo kind ring 1 ≡ task.Demo other size 1 = sym e ∙ f in
+    let is : kind ≡ other = cc in
+    let fits : ring ≡ size = cc in
+    let P : Demo → Type 0 = λ z. AnswersData z ring bytes a in
+    let Q : Option ℕ → Type 0 = λ z. AnswersData other z bytes a in
+    one_data other size bytes a b (subst Q fits (subst P is h)) k
+one_task_answer t bytes a b (RunsDemo kind ring e h) (MakesPipeline number f k) = absurd (gen_is_no_demo t number kind ring f e)
 one_task_answer t bytes a b (MakesPipeline number e h) (IsNotBuilt m y) = absurd (gen_is_built t number e m)
-one_task_answer t bytes a b (MakesPipeline number e h) (ReadsInput q k) = absurd (gen_reads_nothing t number e q)
+one_task_answer t bytes a b (MakesPipeline number e h) (ReadsDocument q k) = absurd (gen_reads_no_document t number e q)
+one_task_answer t bytes a b (MakesPipeline number e h) (RunsDemo kind ring f k) = absurd (gen_is_no_demo t number kind ring e f)
 one_task_answer t bytes a b (MakesPipeline number e h) (MakesPipeline other f k) =
     let same : task.Gen number ≡ task.Gen other = sym e ∙ f in
     let is : number ≡ other = cc in

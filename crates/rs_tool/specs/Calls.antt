@@ -4,7 +4,7 @@ use Rattle.std.specs.Io.KnownBytes.{Appends, Keeps, IsAtEnd}
 use Rattle.rs_io.specs.Prefix.{AppendsPrefix}
 use Rattle.rs_model.specs.declared.limits.TheConstants.{MOST_BYTES}
 use Rattle.rs_tool.specs.Answers.{Answers}
-use Rattle.rs_tool.specs.Data.{Answer_data}
+use Rattle.rs_answers.specs.Data.{Answer_data}
 use Rattle.rs_tool.specs.Statuses.{status_of}
 use Rattle.rs_tool.specs.Tasks.{ReadTheInput}
 use Rattle.rs_tool.specs.declared.statuses.Serial.{Serial}

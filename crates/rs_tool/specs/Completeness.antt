@@ -9,7 +9,7 @@ use Rattle.rs_project.specs.Data.{Projection_data}
 use Rattle.rs_project.specs.Numbered.{AreNumberedProjections}
 use Rattle.rs_search.specs.Canonical.{IsDerivable}
 use Rattle.rs_wellformed.specs.WellFormed.{IsWellFormed}
-use Rattle.rs_tool.specs.Machines.{machines_of}
+use Rattle.rs_answers.specs.Machines.{machines_of}
 use Rattle.rs_tool.specs.Tasks.{SpellsCheck}
 use Rattle.rs_tool.specs.declared.statuses.Status.{Status}
 use Rattle.rs_tool.specs.declared.statuses.Status.TheVariants.{Fine, NoMemory}

@@ -6,7 +6,7 @@ use Rattle.rs_model.specs.Data.{Machine_data, Protocol_data}
 use Rattle.rs_project.specs.Data.{Projection_data}
 use Rattle.rs_project.specs.Numbered.{AreNumberedProjections}
 use Rattle.rs_wellformed.specs.WellFormed.{IsWellFormed}
-use Rattle.rs_tool.specs.Machines.{machines_of}
+use Rattle.rs_answers.specs.Machines.{machines_of}
 
 -- the bytes spell a protocol and machines; the protocol is well formed and has a projection onto each role, there is one
 -- place for a machine a role, and the machines are safe: those that the text has, and the projections of the other roles

@@ -4,8 +4,8 @@ use Rattle.rs_tool.specs.declared.statuses.Status.{Status}
 use Rattle.rs_tool.specs.declared.statuses.Status.TheVariants as status
 use Rattle.rs_tool.specs.declared.statuses.Stop.{Stop}
 use Rattle.rs_tool.specs.declared.statuses.Stop.TheVariants as stop
-use Rattle.rs_tool.specs.declared.statuses.Verdict.{Verdict}
-use Rattle.rs_tool.specs.declared.statuses.Verdict.TheVariants as verdict
+use Rattle.rs_answers.specs.declared.verdicts.Verdict.{Verdict}
+use Rattle.rs_answers.specs.declared.verdicts.Verdict.TheVariants as verdict
 
 -- the exit status of the program
 abbrev pub code_of : Status → ℕ
@@ -20,6 +20,7 @@ code_of status.WriteFault = 7
 code_of status.NoMemory = 8
 code_of status.Stopped = 9
 code_of status.Full = 10
+code_of status.RoomTooSmall = 11
 code_of status.NotBuilt = 12
 
 -- the status of an answer that was written whole
@@ -32,6 +33,7 @@ status_of verdict.Unprojectable = status.Unprojectable
 status_of verdict.TooLarge = status.TooLarge
 status_of verdict.Stopped = status.Stopped
 status_of verdict.Full = status.Full
+status_of verdict.RoomTooSmall = status.RoomTooSmall
 status_of verdict.NotBuilt = status.NotBuilt
 
 -- the status of a call that stopped before its answer was made

@@ -1,31 +1,65 @@
 //! The calls that carry out the program's words.
 
-ghost use Rattle.std.specs.Prelude.{◌≡◌, ◌≤◌, ◌<◌, ℕ, List, length, IfOk, IfSome, OnOk, Err, true, false};
+ghost use Rattle.std.specs.Prelude.{◌≡◌, ◌≤◌, ◌<◌, ℕ, List, Option, length, IfOk, IfSome, OnOk, Err, true, false};
 ghost use Rattle.std.specs.Io.KnownBytes.{IsAtEnd};
 ghost use Rattle.rs_io.specs.Faults.{Rose};
+ghost use Rattle.rs_demos.specs.declared.kinds.Demo.{Demo};
 ghost use Rattle.rs_pipeline.specs.Pipelines.{pipeline_text, pipeline_of};
-ghost use Rattle.rs_tool.specs.Answers.{Answers, AnswersTask};
+ghost use Rattle.rs_tool.specs.Answers.{Answers, AnswersData, AnswersTask};
 ghost use Rattle.rs_tool.specs.Calls.{Ends, ForInput, IsAnswered, IfAnswered};
 ghost use Rattle.rs_tool.specs.Completeness.{IsComplete};
+ghost use Rattle.rs_tool.specs.DemoCompleteness.{IsCompleteDemo};
+ghost use Rattle.rs_tool.specs.DemoHeadline.{HasSafeDemo};
 ghost use Rattle.rs_tool.specs.Headline.{SpellsSafeMachines};
 ghost use Rattle.rs_tool.specs.RunHeadline.{IsOfRun};
-ghost use Rattle.rs_tool.specs.Tasks.{ReadTheInput, SpellsCheck, SpellsRun, reads_input};
-ghost use Rattle.rs_tool.specs.declared.runs.RunOptions.{RunOptions};
-ghost use Rattle.rs_words.specs.Meaning.{IsInRange, SpellsTask};
+ghost use Rattle.rs_tool.specs.Tasks.{ReadTheInput, SpellsCheck, SpellsDemo, SpellsRun, reads_input};
+ghost use Rattle.rs_answers.specs.declared.runs.RunOptions.{RunOptions};
+ghost use Rattle.rs_words.specs.Meaning.{IsFrom, IsInRange, SpellsTask};
+ghost use Rattle.rs_words.specs.declared.limits.TheConstants.{MOST_CAPACITY};
 ghost use Rattle.rs_words.specs.Words.{bytes_of_words};
 
-use crate::answers::{Answer, answer_to_text};
+use crate::answers::answer_to_text;
 use crate::pipelines::answer_to_gen;
-use crate::refusal_texts::{not_built, too_large, usage};
 use crate::statuses::{Reply, Serial, Status, Stop};
 use crate::tasks::reads_input;
-use crate::texts::Piece::Words;
+use rs_answers::Piece::Words;
+use rs_answers::{Answer, not_built, too_large, usage};
+use rs_demo_answers::demo;
+use rs_demos::Demo;
 use rs_io::{ReadStop, Sink, Source, read_all, write_all};
 use rs_model::{MOST_BYTES, NoMemory};
 use rs_words::{Task, read_words};
 use std::alloc::Global;
 use std::sync::Wait;
 use std::thread::Threads;
+
+/// The answer of a demo to the data of the input.
+fn answer_to_data(
+    alloc: Global,
+    kind: Demo,
+    ring: Option<u16>,
+    bytes: &[u8],
+) -> Result<Answer, NoMemory>
+    requires { IfSome ring (IsFrom 1 MOST_CAPACITY) }
+    ensures { IfOk result (AnswersData kind ring bytes.now) }
+{
+    if bytes.len() > MOST_BYTES {
+        return too_large(alloc, &[Words(b"text")]);
+    }
+    demo(alloc, kind, ring, bytes)
+}
+
+/// The answer of the task, which reads the input, to these bytes.
+fn answer_to_bytes(alloc: Global, task: Task, bytes: &[u8]) -> Result<Answer, NoMemory>
+    requires range { IsInRange task }
+    requires reads { reads_input task ≡ true }
+    ensures { IfOk result (AnswersTask task bytes.now) }
+{
+    match task {
+        Task::Demo { kind, ring, .. } => answer_to_data(alloc, kind, ring, bytes),
+        _ => answer_to_text(alloc, task, bytes),
+    }
+}
 
 /// The answer of the task, which reads the input, to all that the source has left.
 fn answer_to_input<S: Source>(alloc: Global, task: Task, source: &mut S) -> Result<Answer, Stop>
@@ -36,7 +70,7 @@ fn answer_to_input<S: Source>(alloc: Global, task: Task, source: &mut S) -> Resu
     ensures read_fault { result ≡ Err Stop.ReadFault → Rose (S.faults source.old) (S.faults source.new) (S.last source.new) }
 {
     match read_all(alloc, source, MOST_BYTES) {
-        Ok(bytes) => Ok(answer_to_text(alloc, task, bytes.as_slice())?),
+        Ok(bytes) => Ok(answer_to_bytes(alloc, task, bytes.as_slice())?),
         Err(ReadStop::TooLong) => Ok(too_large(alloc, &[Words(b"text")])?),
         Err(ReadStop::ReadFault) => Err(Stop::ReadFault),
         Err(ReadStop::NoMemory) => Err(Stop::NoMemory),
@@ -107,7 +141,7 @@ fn carry_out<S: Source, K: Sink>(
 
 /// Carries out the words, as the program does, without threads.
 ///
-/// `check`, `show`, `project` and `run` read the source to its end and write their answer. The text of an answer is made whole
+/// `check`, `verify`, `show`, `project`, `run` and `demo` read the source to its end and write their answer. The text of an answer is made whole
 /// before its first byte is written: with the statuses `ReadFault` and `NoMemory` nothing is written, with `WriteFault`
 /// a first part of the text. `gen`, words that spell no task and tasks that aren't built yet read nothing.
 pub fn command_serial<S: Source, K: Sink>(
@@ -127,9 +161,15 @@ pub fn command_serial<S: Source, K: Sink>(
         → IfSome (S.left source.old) (λ bytes. status ≡ Status.Fine → SpellsSafeMachines bytes)) }
     ensures run { IfAnswered result (λ status. (options : RunOptions) → SpellsRun (bytes_of_words words.now) options
         → IfSome (S.left source.old) (λ bytes. IsOfRun status → SpellsSafeMachines bytes)) }
+    ensures demo { IfAnswered result (λ status. (kind : Demo) (ring : Option ℕ) → SpellsDemo (bytes_of_words words.now) kind ring
+        → IfSome (S.left source.old) (λ bytes. IsOfRun status → HasSafeDemo kind bytes)) }
+    ensures demo_is_never_full { IfAnswered result (λ status. (kind : Demo) (ring : Option ℕ) → SpellsDemo (bytes_of_words words.now) kind ring
+        → IfSome (S.left source.old) (λ bytes. status ≡ Status.Full → ⊥)) }
     ensures pipeline { IfAnswered result (λ status. (number : ℕ) → SpellsTask (bytes_of_words words.now) (Task.Gen number)
         → status ≡ Status.Fine → SpellsSafeMachines (pipeline_text (pipeline_of number))) }
     ensures complete { IfAnswered result (λ status. IsComplete (bytes_of_words words.now) (S.left source.old)
+        (Rose (S.faults source.old) (S.faults source.new) (S.last source.new)) (Rose (K.faults sink.old) (K.faults sink.new) (K.last sink.new)) status) }
+    ensures complete_demo { IfAnswered result (λ status. IsCompleteDemo (bytes_of_words words.now) (S.left source.old)
         (Rose (S.faults source.old) (S.faults source.new) (S.last source.new)) (Rose (K.faults sink.old) (K.faults sink.new) (K.last sink.new)) status) }
 {
     Serial::Answered(Reply {
@@ -155,9 +195,15 @@ pub fn command<R: Threads + Wait + Sync, S: Source, K: Sink>(
         → IfSome (S.left source.old) (λ bytes. result.status ≡ Status.Fine → SpellsSafeMachines bytes) }
     ensures run { (options : RunOptions) → SpellsRun (bytes_of_words words.now) options
         → IfSome (S.left source.old) (λ bytes. IsOfRun result.status → SpellsSafeMachines bytes) }
+    ensures demo { (kind : Demo) (ring : Option ℕ) → SpellsDemo (bytes_of_words words.now) kind ring
+        → IfSome (S.left source.old) (λ bytes. IsOfRun result.status → HasSafeDemo kind bytes) }
+    ensures demo_is_never_full { (kind : Demo) (ring : Option ℕ) → SpellsDemo (bytes_of_words words.now) kind ring
+        → IfSome (S.left source.old) (λ bytes. result.status ≡ Status.Full → ⊥) }
     ensures pipeline { (number : ℕ) → SpellsTask (bytes_of_words words.now) (Task.Gen number)
         → result.status ≡ Status.Fine → SpellsSafeMachines (pipeline_text (pipeline_of number)) }
     ensures complete { IsComplete (bytes_of_words words.now) (S.left source.old)
+        (Rose (S.faults source.old) (S.faults source.new) (S.last source.new)) (Rose (K.faults sink.old) (K.faults sink.new) (K.last sink.new)) result.status }
+    ensures complete_demo { IsCompleteDemo (bytes_of_words words.now) (S.left source.old)
         (Rose (S.faults source.old) (S.faults source.new) (S.last source.new)) (Rose (K.faults sink.old) (K.faults sink.new) (K.last sink.new)) result.status }
 {
     match command_serial(alloc, words, source, sink) {

@@ -8,14 +8,14 @@ ghost use Rattle.rs_model.specs.Data.{Machine_data};
 ghost use Rattle.rs_project.specs.Data.{Projection_data};
 ghost use Rattle.rs_safety.specs.Room.{room_of};
 ghost use Rattle.rs_tool.specs.Answers.{Answers};
-ghost use Rattle.rs_tool.specs.Data.{Answer_data};
+ghost use Rattle.rs_answers.specs.Data.{Answer_data};
 ghost use Rattle.rs_tool.specs.Headline.{SpellsSafeMachines};
-ghost use Rattle.rs_tool.specs.Derivations.{AreCanonical, IsBound};
-ghost use Rattle.rs_tool.specs.Machines.{machines_of};
-ghost use Rattle.rs_tool.specs.Runs.{Runs, capacity_of};
-ghost use Rattle.rs_tool.specs.Sessions.{HasMachines};
-ghost use Rattle.rs_tool.specs.declared.runs.RunOptions.{RunOptions};
-ghost use Rattle.rs_tool.specs.declared.statuses.Verdict.TheVariants.{Full};
+ghost use Rattle.rs_answers.specs.Derivations.{AreCanonical, IsBound};
+ghost use Rattle.rs_answers.specs.Machines.{machines_of};
+ghost use Rattle.rs_answers.specs.Runs.{Runs, capacity_of};
+ghost use Rattle.rs_answers.specs.Sessions.{HasMachines};
+ghost use Rattle.rs_answers.specs.declared.runs.RunOptions.{RunOptions};
+ghost use Rattle.rs_answers.specs.declared.verdicts.Verdict.TheVariants.{Full};
 
 /// There is an answer to all words and bytes.
 pub fn all_have_an_answer()

@@ -3,7 +3,8 @@
 ghost use Rattle.std.specs.Prelude.{IfOk};
 ghost use Rattle.rs_tool.specs.Answers.{AnswersPipeline};
 
-use crate::answers::{Answer, answer_to_text};
+use crate::answers::answer_to_text;
+use rs_answers::Answer;
 use rs_model::NoMemory;
 use rs_pipeline::{pipeline_of, pipeline_summary, pipeline_text};
 use rs_words::{DEFAULT_BOUND, Task};

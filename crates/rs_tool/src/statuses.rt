@@ -3,6 +3,7 @@
 ghost use Rattle.std.specs.Prelude.{◌≡◌};
 ghost use Rattle.rs_tool.specs.Statuses.{code_of};
 
+use rs_answers::Verdict;
 use rs_model::NoMemory;
 
 /// How a call ended.
@@ -30,6 +31,8 @@ pub enum Status {
     Stopped,
     /// No role could move, since a queue was full.
     Full,
+    /// The rings that were asked for, or that are the greatest there are, are smaller than the room of the session.
+    RoomTooSmall,
     /// The words or the text ask for what isn't built yet.
     NotBuilt,
 }
@@ -51,23 +54,10 @@ impl Status {
             Status::NoMemory => 8,
             Status::Stopped => 9,
             Status::Full => 10,
+            Status::RoomTooSmall => 11,
             Status::NotBuilt => 12,
         }
     }
-}
-
-/// What an answer says: the statuses of calls that read their input and wrote all of their text.
-#[derive(Clone, Copy, Debug, PartialEq, Eq)]
-pub enum Verdict {
-    Fine,
-    Refused,
-    Usage,
-    Malformed,
-    Unprojectable,
-    TooLarge,
-    Stopped,
-    Full,
-    NotBuilt,
 }
 
 impl From<Verdict> for Status {
@@ -86,6 +76,7 @@ impl From<Verdict> for Status {
             Verdict::TooLarge => Status::TooLarge,
             Verdict::Stopped => Status::Stopped,
             Verdict::Full => Status::Full,
+            Verdict::RoomTooSmall => Status::RoomTooSmall,
             Verdict::NotBuilt => Status::NotBuilt,
         }
     }

@@ -33,9 +33,20 @@ fn answer<R: Threads + Wait + Sync>(
     words: &[&str],
     text: &[u8],
 ) -> Result<(Status, Vec<u8>), Fail> {
+    answer_within(rt, alloc, words, text, 65_536)
+}
+
+/// The same, with room for so many bytes in the sink.
+fn answer_within<R: Threads + Wait + Sync>(
+    rt: &R,
+    alloc: Global,
+    words: &[&str],
+    text: &[u8],
+    room: usize,
+) -> Result<(Status, Vec<u8>), Fail> {
     let words = strings(alloc, words)?;
     let mut source = MemSource::new(text.to_vec(alloc)?, 65_536, Vec::new(alloc));
-    let mut sink = MemSink::new(alloc, 65_536, 65_536, Vec::new(alloc))?;
+    let mut sink = MemSink::new(alloc, room, 65_536, Vec::new(alloc))?;
     let reply = command(rt, alloc, words.as_slice(), &mut source, &mut sink);
     Ok((reply.status, sink.bytes().to_vec(alloc)?))
 }
@@ -80,17 +91,12 @@ fn words_that_read_nothing_have_their_answers(rt: HostRuntime) -> Result<(), Fai
             usage,
         ),
         (
-            ["check", "--derivations"].as_slice(),
-            Status::NotBuilt,
-            not_built,
-        ),
-        (
             ["run", "--workers", "2"].as_slice(),
             Status::NotBuilt,
             not_built,
         ),
         (
-            ["demo", "--", "stream"].as_slice(),
+            ["demo", "stream", "--workers", "2"].as_slice(),
             Status::NotBuilt,
             not_built,
         ),
@@ -638,6 +644,94 @@ const TWICE: &str =
 const ONE: &str = "roles A, B\nprotocol A->B:x(nat). end\n";
 
 #[test]
+fn demos_compute(rt: HostRuntime) -> Result<(), Fail> {
+    let alloc = rt.alloc();
+    for (words, data, status, written) in [
+        (
+            ["demo", "butterfly"].as_slice(),
+            b"1 2 3 4 5 6 7 8".as_slice(),
+            Status::Fine,
+            b"36 -4 -8 0 -16 0 0 0\n".as_slice(),
+        ),
+        (
+            ["demo", "butterfly", "--workers", "1"].as_slice(),
+            b"1 2 3 4 5 6 7 8".as_slice(),
+            Status::Fine,
+            b"36 -4 -8 0 -16 0 0 0\n".as_slice(),
+        ),
+        (
+            ["demo", "butterfly"].as_slice(),
+            b"9223372036854775807 1".as_slice(),
+            Status::Fine,
+            b"-9223372036854775808 9223372036854775806\n".as_slice(),
+        ),
+        (
+            ["demo", "butterfly"].as_slice(),
+            b"1 2 3".as_slice(),
+            Status::Malformed,
+            b"malformed numbers\n".as_slice(),
+        ),
+        (
+            ["demo", "butterfly", "--ring", "3"].as_slice(),
+            b"1 2".as_slice(),
+            Status::RoomTooSmall,
+            b"room too small: ring 3 room 4\n".as_slice(),
+        ),
+        (
+            ["demo", "butterfly", "--ring=4"].as_slice(),
+            b"1 2".as_slice(),
+            Status::Fine,
+            b"3 -1\n".as_slice(),
+        ),
+        (
+            ["demo", "ring"].as_slice(),
+            b"1 2 3".as_slice(),
+            Status::Fine,
+            b"6 6 6\n".as_slice(),
+        ),
+        (
+            ["demo", "ring"].as_slice(),
+            b"5".as_slice(),
+            Status::Malformed,
+            b"malformed numbers\n".as_slice(),
+        ),
+        (
+            ["demo", "double"].as_slice(),
+            b"ABC".as_slice(),
+            Status::Fine,
+            b"\xbe\xbd\xbc".as_slice(),
+        ),
+        (
+            ["demo", "double"].as_slice(),
+            b"".as_slice(),
+            Status::Fine,
+            b"".as_slice(),
+        ),
+        (
+            ["demo", "stream"].as_slice(),
+            b"".as_slice(),
+            Status::Fine,
+            b"".as_slice(),
+        ),
+        (
+            ["demo", "--", "stream"].as_slice(),
+            b"x".as_slice(),
+            Status::Fine,
+            b"x".as_slice(),
+        ),
+    ] {
+        let (found, bytes) = answer(&rt, alloc, words, data)?;
+        assert_eq!(rt; found, status);
+        assert_eq!(rt; bytes.as_slice(), written);
+    }
+    let data = repeated(alloc, "", "0123456", 10_000, "")?;
+    let (found, bytes) = answer_within(&rt, alloc, &["demo", "stream"], data.as_bytes(), 70_000)?;
+    assert_eq!(rt; found, Status::Fine);
+    assert_eq!(rt; bytes.as_slice(), data.as_bytes());
+    Ok(())
+}
+
+#[test]
 fn words_give_the_options_of_a_run(rt: HostRuntime) -> Result<(), Fail> {
     let alloc = rt.alloc();
     for (words, text, status, written) in [
@@ -911,5 +1005,112 @@ fn derivations_are_verified(rt: HostRuntime) -> Result<(), Fail> {
         assert!(rt; told == status, "{written}");
         assert!(rt; found.as_slice() == written.as_bytes(), "{written}");
     }
+
+    // T has none, and before it K's is wrong
+    let missing = DERIVED.replacen(alloc, T_DERIVED, "", 1)?;
+    let text = missing.replacen(alloc, "4 rank 1 next [6]", "4 rank 1 next [7]", 1)?;
+    let (told, found) = answer(&rt, alloc, &["verify"], text.as_bytes())?;
+    assert!(rt; told == Status::Refused);
+    assert!(rt; found.as_slice() == b"refused\nK: wrong next at node 4 arm 0\n".as_slice());
+    Ok(())
+}
+
+/// The kernel one `ready` ahead.
+const KERNEL: &str =
+    "machine K: S!ready(). rec X. S!ready(). T?ready(). S?{copy(bytes). T!copy(bytes). X, stop(). T!stop(). end}\n";
+
+const A_DERIVED: &str =
+    "derivation A bound 16 {\n0: 0 [] 0 rank 0 next [1]\n1: 1 [] 1 rank 0 next [2]\n2: 1 [B?y()] 2 rank 0 next [3]\n3: 2 [] 2 rank 0 next []\n}\n";
+
+const B_DERIVED: &str =
+    "derivation B bound 16 {\n0: 0 [] 0 rank 0 next [1]\n1: 0 [A?x()] 1 rank 0 next [2]\n2: 1 [] 1 rank 0 next [3]\n3: 2 [] 2 rank 0 next []\n}\n";
+
+/// .. where its machine sends first.
+const B_DERIVED_AHEAD: &str =
+    "derivation B bound 16 {\n0: 0 [] 0 rank 0 next [1]\n1: 0 [A?x()] 1 rank 1 next [2]\n2: 1 [A?x()] 2 rank 0 next [3]\n3: 2 [] 2 rank 0 next []\n}\n";
+
+fn joined(alloc: Global, parts: &[&str]) -> Result<String, Fail> {
+    let mut text = String::new(alloc);
+    for part in parts {
+        text.push_str(part)?;
+    }
+    Ok(text)
+}
+
+fn told<R: Threads + Wait + Sync>(
+    rt: &R,
+    alloc: Global,
+    words: &[&str],
+    text: &str,
+    status: Status,
+    written: &str,
+) -> Result<bool, Fail> {
+    let (told, found) = answer(rt, alloc, words, text.as_bytes())?;
+    Ok(told == status && found.as_slice() == written.as_bytes())
+}
+
+#[test]
+fn derivations_that_are_found_are_shown(rt: HostRuntime) -> Result<(), Fail> {
+    let alloc = rt.alloc();
+    let asked = ["check", "--derivations"].as_slice();
+
+    // double buffering, by itself; with other derivations; and within another bound
+    let buffer = joined(alloc, &[BUFFER, KERNEL])?;
+    let wrong = DERIVED.replacen(alloc, "4 rank 1 next [6]", "4 rank 1 next [7]", 1)?;
+    let near = DERIVED.replacen(alloc, "bound 16", "bound 3", 3)?;
+    let bounded = ["check", "--derivations", "--bound=3"].as_slice();
+    assert!(rt; told(&rt, alloc, asked, buffer.as_str(), Status::Fine, DERIVED)?);
+    assert!(rt; told(&rt, alloc, asked, wrong.as_str(), Status::Fine, DERIVED)?);
+    assert!(rt; told(&rt, alloc, asked, near.as_str(), Status::Fine, DERIVED)?);
+    assert!(rt;
+        told(
+            &rt,
+            alloc,
+            bounded,
+            buffer.as_str(),
+            Status::Fine,
+            near.as_str()
+        )?
+    );
+
+    // no machine; a derivation of one role
+    let one = joined(alloc, &[SESSION, B_DERIVED])?;
+    let derived = joined(alloc, &[SESSION, A_DERIVED, B_DERIVED])?;
+    assert!(rt; told(&rt, alloc, asked, SESSION, Status::Fine, derived.as_str())?);
+    assert!(rt;
+        told(
+            &rt,
+            alloc,
+            asked,
+            one.as_str(),
+            Status::Fine,
+            derived.as_str()
+        )?
+    );
+
+    // B sends first
+    let ahead = joined(alloc, &[SESSION, "machine B: A!y(). A?x(). end\n"])?;
+    let derived = joined(alloc, &[ahead.as_str(), A_DERIVED, B_DERIVED_AHEAD])?;
+    assert!(rt;
+        told(
+            &rt,
+            alloc,
+            asked,
+            ahead.as_str(),
+            Status::Fine,
+            derived.as_str()
+        )?
+    );
+
+    // none is found
+    let behind = joined(
+        alloc,
+        &[SESSION, "machine A: B?y(). B!x(). end\n", A_DERIVED],
+    )?;
+    let refused = "refused\nA: not found, cut no\n";
+    assert!(rt; told(&rt, alloc, asked, behind.as_str(), Status::Refused, refused)?);
+    let short = ["check", "--bound", "2", "--derivations"].as_slice();
+    let refused = "refused\nK: not found, cut yes\n";
+    assert!(rt; told(&rt, alloc, short, DERIVED, Status::Refused, refused)?);
     Ok(())
 }

@@ -7,8 +7,8 @@ use Rattle.rs_model.specs.declared.limits.TheConstants.{MOST_BOUND}
 use Rattle.rs_words.specs.declared.limits.TheConstants.{DEFAULT_BOUND, DEFAULT_LIMIT, MOST_CAPACITY, MOST_GEN, MOST_LIMIT, MOST_SEED, MOST_WORKERS}
 use Rattle.rs_words.specs.declared.tasks.Task.{Task}
 use Rattle.rs_words.specs.declared.tasks.Task.TheVariants as task
-use Rattle.rs_words.specs.declared.tasks.Demo.{Demo}
-use Rattle.rs_words.specs.declared.tasks.Demo.TheVariants as demo
+use Rattle.rs_demos.specs.declared.kinds.Demo.{Demo}
+use Rattle.rs_demos.specs.declared.kinds.Demo.TheVariants as demo
 use Rattle.rs_words.specs.Grammar.{Bytes, Form, SpellsUses, Use, forms}
 
 -- the number whose decimal text this is, where it lies from the low one to the high one
@@ -42,15 +42,19 @@ demo_of_name text = if bytes_eq text (codes "double") then Some demo.Double
 abbrev pub bound_in : Option Bytes → Option ℕ
 bound_in text = number_or DEFAULT_BOUND 1 MOST_BOUND text
 
+-- the capacity of rings, which may be left out
 abbrev pub ring_in : Option Bytes → Option (Option ℕ)
 ring_in text = optional_in 1 MOST_CAPACITY text
 
+-- how many workers there are
 abbrev pub workers_in : Option Bytes → Option ℕ
 workers_in text = number_or 1 1 MOST_WORKERS text
 
+-- how many acts a role may make
 abbrev pub limit_in : Option Bytes → Option ℕ
 limit_in text = number_or DEFAULT_LIMIT 1 MOST_LIMIT text
 
+-- the seed of the draws
 abbrev pub seed_in : Option Bytes → Option ℕ
 seed_in text = number_or 0 0 MOST_SEED text
 

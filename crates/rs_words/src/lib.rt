@@ -14,7 +14,7 @@ pub use limits::{
     DEFAULT_BOUND, DEFAULT_LIMIT, MOST_CAPACITY, MOST_GEN, MOST_LIMIT, MOST_SEED, MOST_WORKERS,
 };
 pub use reading::read_words;
-pub use tasks::{Demo, Task};
+pub use tasks::Task;
 
 #[cfg(test)]
 mod tests;

@@ -7,8 +7,9 @@ ghost use Rattle.rs_words.specs.Meaning as spec;
 
 use crate::limits::MOST_GEN;
 use crate::numbers::{bound_in, limit_in, number_in, ring_in, seed_in, workers_in};
-use crate::tasks::{Demo, Task};
+use crate::tasks::Task;
 use clap::ArgMatches;
+use rs_demos::Demo;
 use std::alloc::{AllocError, Global};
 
 /// The demo of this name.

@@ -1,17 +1,6 @@
 //! What the words of the program can ask for.
 
-/// A demo of the program.
-#[derive(Clone, Copy, Debug, PartialEq, Eq)]
-pub enum Demo {
-    /// The double buffer.
-    Double,
-    /// A ring of roles that sum their numbers.
-    Ring,
-    /// A source whose values go to a sink.
-    Stream,
-    /// The Walsh-Hadamard transform, a role for each number.
-    Butterfly,
-}
+use rs_demos::Demo;
 
 /// What the words ask for, with the value of each option, or what stands in its place where it isn't given.
 #[derive(Clone, Copy, Debug, PartialEq, Eq)]

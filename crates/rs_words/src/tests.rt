@@ -1,6 +1,7 @@
 //! Lists of words, and what they mean. The expected tasks are those of the grammar of words.
 
-use crate::{Demo, Task, read_words};
+use crate::{Task, read_words};
+use rs_demos::Demo;
 use std::alloc::Global;
 use std::test::Fail;
 

@@ -1,5 +1,5 @@
-use Rattle.std.proofs.Common.{sym, ap, ◌∙◌, ◌≡◌}
-use Rattle.rs_tool.specs.Data.{Answer_data}
+use Rattle.std.proofs.Common.{ap}
+use Rattle.rs_answers.specs.Data.{Answer_data}
 use Rattle.rs_tool.proofs.Answering.{piped}
 use Rattle.rs_tool.proofs.pipelines.answer_to_gen.Goals as goal
 

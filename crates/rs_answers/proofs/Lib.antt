@@ -1,0 +1,10 @@
+pub mod EachRole
+pub mod Derivings
+pub mod Answering
+pub mod Outcomes
+pub mod Verified
+pub mod Owed
+pub mod Printables
+pub mod AcceptedSessions
+pub mod OneReason
+pub mod SomeSession

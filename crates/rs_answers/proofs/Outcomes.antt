@@ -1,0 +1,184 @@
+-- What is told of the end of a run: that it is told, that it is one thing, and that there is such an end.
+use Rattle.std.proofs.Common.{◌≡◌, inl, inr, ℕ, zero, suc, ◌+◌, ◌<◌, ◌≤◌, List, [], ◌∷◌, length, Option, Some, None, Result, Ok, Err, slice_get, refl, sym, ap, subst, ◌∙◌, arith}
+use Rattle.std.specs.Prelude.{IfOk, IfSome}
+use Rattle.std.proofs.lemmas.Bool.Decides.{leb_tells}
+use Rattle.std.proofs.lemmas.Option.{same_Some}
+use Rattle.rs_model.specs.Data.{Names_data, Machine_data, Protocol_data}
+use Rattle.rs_model.specs.declared.graph.Role.{Role}
+use Rattle.rs_model.specs.declared.machines.State.TheVariants.{Puts}
+use Rattle.rs_model.specs.declared.memory.NoMemory.{NoMemory}
+use Rattle.rs_core.specs.Choices.{AreWellFormed}
+use Rattle.rs_core.specs.Choosing.{draws-well}
+use Rattle.rs_core.specs.Configurations.{state_at, state_of}
+use Rattle.rs_core.specs.Determined.{SameMoment, SameOutcome}
+use Rattle.rs_core.specs.Draws.{by_draws}
+use Rattle.rs_core.specs.Histories.{History, transcript_of}
+use Rattle.rs_core.specs.Plain.{Moment, Ending, Ended, Stopped, Stuck, IsPlain, FirstFull}
+use Rattle.rs_core.specs.Runs.{HasTranscripts, IsFullAt, IsShown, got_from, sent_to}
+use Rattle.rs_core.specs.Safety.{IsSafe}
+use Rattle.rs_core.specs.declared.runs.Outcome.TheVariants as outcome
+use Rattle.rs_core.specs.declared.transcripts.Entry.{Entry}
+use Rattle.rs_core.proofs.Full.{stuck-is-full}
+use Rattle.rs_core.proofs.Unique.{one-outcome}
+use Rattle.rs_exec.proofs.Ends.{comes-to-an-end}
+use Rattle.rs_derive.specs.Data.{Derivation_data}
+use Rattle.rs_project.specs.Data.{Projection_data}
+use Rattle.rs_safety.specs.Room.{room_of}
+use Rattle.rs_safety.specs.Sessions.{IsSession}
+use Rattle.rs_answers.specs.Data.{Answer_data}
+use Rattle.rs_answers.specs.Runs.{TellsEnd, HasEnded, IsStopped, IsFull, TellsRun, actor_of, capacity_of, ended_answer, stopped_answer, full_answer}
+use Rattle.rs_answers.specs.declared.runs.RunOptions.{RunOptions}
+use Rattle.rs_words.specs.Meaning.{IsFrom}
+use Rattle.rs_words.specs.declared.limits.TheConstants.{MOST_CAPACITY}
+
+-- a capacity that is asked for, or that the room gives, is one that queues can have
+pub capacity_fits : (ring : Option ℕ) (derivations : List Derivation_data) → IfSome ring (IsFrom 1 MOST_CAPACITY) → (1 ≤ capacity_of ring (room_of derivations)) × (capacity_of ring (room_of derivations) ≤ MOST_CAPACITY)
+capacity_fits (Some ring) ds h = h
+capacity_fits None ds h = (omega arith, omega arith)
+
+-- as many roles as machines
+pub few_machines : (pr : Protocol_data) (ps : List Projection_data) (ms : List Machine_data) → IsSession pr ps ms → length ms ≤ 16
+few_machines pr ps ms s = let many = s.a_machine_each in let few = s.roles.1 in omega arith
+
+-- what a run shows is what is told of its end
+tells_ended : (names : Names_data) (ms : List Machine_data) (capacity : ℕ) (o : Ending ℕ) (transcripts : List (List Entry)) (actors : List ℕ) (a : Answer_data) → IsShown (length ms) o (outcome.Ended transcripts) actors → a ≡ ended_answer names transcripts
+    → TellsEnd names ms capacity a o
+tells_ended names ms capacity (Ended k) transcripts actors a s e = HasEnded k transcripts s.0 e
+tells_ended names ms capacity (Stopped p k) transcripts actors a s e = absurd s
+tells_ended names ms capacity (Stuck k) transcripts actors a s e = absurd s
+
+tells_stopped : (names : Names_data) (ms : List Machine_data) (capacity : ℕ) (o : Ending ℕ) (role : Role) (actors : List ℕ) (a : Answer_data) → IsShown (length ms) o (outcome.Stopped role) actors → a ≡ stopped_answer names role → TellsEnd names ms capacity a o
+tells_stopped names ms capacity (Ended k) role actors a s e = absurd s
+tells_stopped names ms capacity (Stopped p k) role actors a s e = IsStopped p k (e ∙ ap (λ (n : ℕ). stopped_answer names (record { 0 = n })) (sym s.0))
+tells_stopped names ms capacity (Stuck k) role actors a s e = absurd s
+
+pub tells_run_ended : (options : RunOptions) (names : Names_data) (ms : List Machine_data) (ds : List Derivation_data) (transcripts : List (List Entry)) (actors : List ℕ) (r : Result Answer_data NoMemory)
+    → (o : Ending ℕ) × IsPlain ms by_draws (actor_of options.seed) options.limit (Some (capacity_of options.ring (room_of ds))) o × IsShown (length ms) o (outcome.Ended transcripts) actors
+    → IfOk r (λ a. a ≡ ended_answer names transcripts) → IfOk r (TellsRun options names ms ds)
+tells_run_ended options names ms ds transcripts actors (Ok a) p e = record { end = p.0; plain = p.1; tells = tells_ended names ms (capacity_of options.ring (room_of ds)) p.0 transcripts actors a p.2 e }
+tells_run_ended options names ms ds transcripts actors (Err x) p e = tt
+
+pub tells_run_stopped : (options : RunOptions) (names : Names_data) (ms : List Machine_data) (ds : List Derivation_data) (role : Role) (actors : List ℕ) (r : Result Answer_data NoMemory)
+    → (o : Ending ℕ) × IsPlain ms by_draws (actor_of options.seed) options.limit (Some (capacity_of options.ring (room_of ds))) o × IsShown (length ms) o (outcome.Stopped role) actors
+    → IfOk r (λ a. a ≡ stopped_answer names role) → IfOk r (TellsRun options names ms ds)
+tells_run_stopped options names ms ds role actors (Ok a) p e = record { end = p.0; plain = p.1; tells = tells_stopped names ms (capacity_of options.ring (room_of ds)) p.0 role actors a p.2 e }
+tells_run_stopped options names ms ds role actors (Err x) p e = tt
+
+pub tells_run_full : (options : RunOptions) (names : Names_data) (ms : List Machine_data) (ds : List Derivation_data) (sender receiver : Role) (sent taken : ℕ) (r : Result Answer_data NoMemory)
+    → IsFullAt ms by_draws (actor_of options.seed) options.limit (capacity_of options.ring (room_of ds)) sender receiver sent taken
+    → IfOk r (λ a. a ≡ full_answer names sender receiver sent taken) → IfOk r (TellsRun options names ms ds)
+tells_run_full options names ms ds sender receiver sent taken (Ok a) f e = record {
+  end = Stuck f.end;
+  plain = f.plain;
+  tells = IsFull f.end sender receiver f.full (e ∙ ap (λ z. full_answer names sender receiver z taken) f.is_sent ∙ ap (λ z. full_answer names sender receiver (sent_to receiver.0 (transcript_of (f.end.history sender.0))) z) f.is_taken);
+}
+tells_run_full options names ms ds sender receiver sent taken (Err x) f e = tt
+
+-- lists with the same items are the same
+same_items : {A : Type 0} (xs ys : List A) → length xs ≡ length ys → ((p : ℕ) (x y : A) → p < length xs → slice_get xs p ≡ Some x → slice_get ys p ≡ Some y → x ≡ y) → xs ≡ ys
+same_items [] [] size h = refl
+same_items [] (y ∷ ys) size h = absurd cc
+same_items (x ∷ xs) [] size h = absurd cc
+same_items (x ∷ xs) (y ∷ ys) size h =
+    ap (λ z. z ∷ xs) (h 0 x y (omega arith) refl refl) ∙ ap (λ z. y ∷ z) (same_items xs ys (cc) (λ p a b lt e f. h (suc p) a b (omega arith) e f))
+
+one_transcripts : (roles : ℕ) (k l : Moment ℕ) (xs ys : List (List Entry)) → SameMoment roles k l → HasTranscripts roles k.history xs → HasTranscripts roles l.history ys → xs ≡ ys
+one_transcripts roles k l xs ys same h g =
+    same_items xs ys (h.many ∙ sym g.many) (λ p x y lt ex ey.
+    (let many = h.many in
+    let less : p < roles = omega (arith, lt, many) in
+    same_Some x y (sym ex ∙ h.each p less ∙ ap (λ z. Some (transcript_of z)) (same.history p) ∙ sym (g.each p less) ∙ ey)))
+
+-- the first sender of a moment is one
+same_state : (ms : List Machine_data) (k l : Moment ℕ) (p : ℕ) → SameMoment (length ms) k l → p < length ms → state_at ms k.at p ≡ state_at ms l.at p
+same_state ms k l p same there = ap (state_of (slice_get ms p)) (same.at p there)
+
+-- two senders that are first
+record SameFull (s t r q : Role) : Type 0 where
+  sender : s ≡ t
+  receiver : r ≡ q
+
+one_full : (ms : List Machine_data) (capacity : Option ℕ) (k l : Moment ℕ) (s t r q : Role) → SameMoment (length ms) k l → FirstFull ms capacity k s.0 r → FirstFull ms capacity l t.0 q → SameFull s t r q
+one_full ms capacity k l s t r q same f g = elim (leb_tells (suc s.0) t.0) [
+  | inl less ↦ absurd (g.first s.0 r f.arms less.1 (sym (same_state ms k l s.0 same f.there) ∙ f.puts))
+  | inr more ↦ elim (leb_tells (suc t.0) s.0) [
+    | inl less ↦ absurd (f.first t.0 q g.arms less.1 (same_state ms k l t.0 same g.there ∙ g.puts))
+    | inr other ↦
+        let m1 = more.1 in
+        let m2 = other.1 in
+        let place : s.0 ≡ t.0 = omega (arith, m1, m2) in
+        let P : ℕ → Type 0 = λ z. state_at ms l.at z ≡ Some (Puts r f.arms) in
+        let here : state_at ms l.at t.0 ≡ Some (Puts r f.arms) = subst P place (sym (same_state ms k l s.0 same f.there) ∙ f.puts) in
+        let puts : Some (Puts r f.arms) ≡ Some (Puts q g.arms) = sym here ∙ g.puts in
+        record { sender = ap (λ (n : ℕ). record { 0 = n }) place; receiver = cc (puts) }
+  ]
+]
+
+full_is_one : (names : Names_data) (s t r q : Role) (k l : Moment ℕ) (roles : ℕ) → SameFull s t r q → SameMoment roles k l
+    → full_answer names s r (sent_to r.0 (transcript_of (k.history s.0))) (got_from s.0 (transcript_of (k.history r.0)))
+    ≡ full_answer names t q (sent_to q.0 (transcript_of (l.history t.0))) (got_from t.0 (transcript_of (l.history q.0)))
+full_is_one names s t r q k l roles same moment =
+    ap (λ z. full_answer names s r (sent_to r.0 (transcript_of z)) (got_from s.0 (transcript_of (k.history r.0)))) (moment.history s.0)
+    ∙ ap (λ z. full_answer names s r (sent_to r.0 (transcript_of (l.history s.0))) (got_from s.0 (transcript_of z))) (moment.history r.0)
+    ∙ ap (λ z. full_answer names z r (sent_to r.0 (transcript_of (l.history z.0))) (got_from z.0 (transcript_of (l.history r.0)))) same.sender
+    ∙ ap (λ z. full_answer names t z (sent_to z.0 (transcript_of (l.history t.0))) (got_from t.0 (transcript_of (l.history z.0)))) same.receiver
+
+one_end : (names : Names_data) (ms : List Machine_data) (capacity : ℕ) (a b : Answer_data) (o u : Ending ℕ) → SameOutcome (length ms) o u → TellsEnd names ms capacity a o → TellsEnd names ms capacity b u → a ≡ b
+one_end names ms capacity a b o u same (HasEnded k xs h e) (HasEnded l ys g f) = e ∙ ap (ended_answer names) (one_transcripts (length ms) k l xs ys same h g) ∙ sym f
+one_end names ms capacity a b o u same (HasEnded k xs h e) (IsStopped q l f) = absurd same
+one_end names ms capacity a b o u same (HasEnded k xs h e) (IsFull l t q g f) = absurd same
+one_end names ms capacity a b o u same (IsStopped p k e) (HasEnded l ys g f) = absurd same
+one_end names ms capacity a b o u same (IsStopped p k e) (IsStopped q l f) = e ∙ ap (λ (n : ℕ). stopped_answer names (record { 0 = n })) same.0 ∙ sym f
+one_end names ms capacity a b o u same (IsStopped p k e) (IsFull l t q g f) = absurd same
+one_end names ms capacity a b o u same (IsFull k s r h e) (HasEnded l ys g f) = absurd same
+one_end names ms capacity a b o u same (IsFull k s r h e) (IsStopped q l f) = absurd same
+one_end names ms capacity a b o u same (IsFull k s r h e) (IsFull l t q g f) = e ∙ full_is_one names s t r q k l (length ms) (one_full ms (Some capacity) k l s t r q same h g) same ∙ sym f
+
+-- a run is told in one way
+pub one_run : (options : RunOptions) (names : Names_data) (ms : List Machine_data) (ds : List Derivation_data) (a b : Answer_data) → AreWellFormed ms → TellsRun options names ms ds a → TellsRun options names ms ds b → a ≡ b
+one_run options names ms ds a b wf h k =
+    one_end names ms (capacity_of options.ring (room_of ds)) a b h.end k.end
+    (one-outcome by_draws ms (actor_of options.seed) options.limit (Some (capacity_of options.ring (room_of ds))) h.end k.end wf h.plain k.plain) h.tells k.tells
+
+-- the transcripts of the roles from a place on
+abbrev transcripts_from : (ℕ → History) → ℕ → ℕ → List (List Entry)
+transcripts_from history p zero = []
+transcripts_from history p (suc many) = transcript_of (history p) ∷ transcripts_from history (suc p) many
+
+how_many : (history : ℕ → History) (p many : ℕ) → length (transcripts_from history p many) ≡ many
+how_many history p zero = refl
+how_many history p (suc many) = ap suc (how_many history (suc p) many)
+
+each_one : (history : ℕ → History) (p many q : ℕ) → q < many → slice_get (transcripts_from history p many) q ≡ Some (transcript_of (history (p + q)))
+each_one history p zero q lt = absurd (omega arith)
+each_one history p (suc many) zero lt = let is : p ≡ p + 0 = omega arith in ap (λ z. Some (transcript_of (history z))) is
+each_one history p (suc many) (suc q) lt = let is : suc p + q ≡ p + suc q = omega arith in each_one history (suc p) many q (omega arith) ∙ ap (λ z. Some (transcript_of (history z))) is
+
+-- something is told of each end
+record SomeEnd (names : Names_data) (ms : List Machine_data) (capacity : ℕ) (o : Ending ℕ) : Type 0 where
+  answer : Answer_data
+  tells : TellsEnd names ms capacity answer o
+
+some_end : (names : Names_data) (ms : List Machine_data) (actors : ℕ → ℕ) (limit capacity : ℕ) (o : Ending ℕ) → IsSafe ms → AreWellFormed ms → IsPlain ms by_draws actors limit (Some capacity) o → SomeEnd names ms capacity o
+some_end names ms actors limit capacity (Ended k) safe wf p = record {
+  answer = ended_answer names (transcripts_from k.history 0 (length ms));
+  tells = HasEnded k (transcripts_from k.history 0 (length ms)) (record { many = how_many k.history 0 (length ms); each = λ q lt. each_one k.history 0 (length ms) q lt ∙ (let is : 0 + q ≡ q = omega arith in ap (λ z. Some (transcript_of (k.history z))) is) }) refl;
+}
+some_end names ms actors limit capacity (Stopped q k) safe wf p = record { answer = stopped_answer names (record { 0 = q }); tells = IsStopped q k refl }
+some_end names ms actors limit capacity (Stuck k) safe wf p =
+    let f = stuck-is-full by_draws draws-well ms actors limit (Some capacity) k safe wf p in
+    record {
+      answer = full_answer names (record { 0 = f.0 }) f.1 (sent_to f.1.0 (transcript_of (k.history f.0))) (got_from f.0 (transcript_of (k.history f.1.0)));
+      tells = IsFull k (record { 0 = f.0 }) f.1 f.2 refl;
+    }
+
+-- .. and of each run
+pub record SomeRun (options : RunOptions) (names : Names_data) (ms : List Machine_data) (ds : List Derivation_data) : Type 0 where
+  pub answer : Answer_data
+  pub tells : TellsRun options names ms ds answer
+
+pub some_run : (options : RunOptions) (names : Names_data) (ms : List Machine_data) (ds : List Derivation_data) → IsSafe ms → AreWellFormed ms → SomeRun options names ms ds
+some_run options names ms ds safe wf =
+    let o = comes-to-an-end by_draws ms (actor_of options.seed) options.limit (Some (capacity_of options.ring (room_of ds))) record { safe = safe; wf = wf; well = draws-well } in
+    let e = some_end names ms (actor_of options.seed) options.limit (capacity_of options.ring (room_of ds)) o.0 safe wf o.1 in
+    record { answer = e.answer; tells = record { end = o.0; plain = o.1; tells = e.tells } }

@@ -1,0 +1,5 @@
+use Rattle.rs_answers.specs.Derivations.{AreFirstCanonical}
+use Rattle.rs_answers.proofs.derivations.derivations_of.Given as goal
+
+abbrev pub invariant-loop-place : goal.invariant-loop-place
+invariant-loop-place l = AreFirstCanonical l.bound l.machines l.projections l.place l.derivations.items

@@ -1,0 +1,14 @@
+pub mod Checks
+pub mod Data
+pub mod Derivations
+pub mod Machines
+pub mod RefusalTexts
+pub mod Refusals
+pub mod Report
+pub mod Runs
+pub mod Sessions
+pub mod Shown
+pub mod Tables
+pub mod Texts
+pub mod TranscriptTexts
+pub mod Verifying

@@ -1,0 +1,162 @@
+-- Believed: the answers that refuse, by the reason.
+use Rattle.std.specs.Prelude.{ℕ, List, [], ◌∷◌, codes, Bool, true, false, Option, Some, None}
+use Rattle.std.specs.Fmt.{decimal}
+use Rattle.rs_model.specs.Data.{Names_data}
+use Rattle.rs_model.specs.declared.checks.MachineFault.{MachineFault}
+use Rattle.rs_model.specs.declared.checks.MachineFault.TheVariants as bad
+use Rattle.rs_model.specs.declared.graph.Label.{Label}
+use Rattle.rs_model.specs.declared.graph.Role.{Role}
+use Rattle.rs_machines.specs.Tables.{name_at}
+use Rattle.rs_text.specs.Faults.{wanted_text}
+use Rattle.rs_text.specs.Places.{line_of, column_of}
+use Rattle.rs_text.specs.declared.faults.TextKind.{TextKind}
+use Rattle.rs_text.specs.declared.faults.TextKind.TheVariants as kind
+use Rattle.rs_wellformed.specs.declared.checks.WfFault.{WfFault}
+use Rattle.rs_wellformed.specs.declared.checks.WfFault.TheVariants as wf
+use Rattle.rs_project.specs.declared.projecting.ProjFault.{ProjFault}
+use Rattle.rs_project.specs.declared.projecting.ProjFault.TheVariants as proj
+use Rattle.rs_search.specs.declared.faults.SearchFault.{SearchFault}
+use Rattle.rs_search.specs.declared.faults.SearchFault.TheVariants as search
+use Rattle.rs_answers.specs.Data.{Answer_data}
+use Rattle.rs_derive.specs.declared.faults.DeriveFault.{DeriveFault}
+use Rattle.rs_derive.specs.declared.faults.DeriveFault.TheVariants as derive
+use Rattle.rs_answers.specs.Texts.{joined}
+use Rattle.rs_answers.specs.declared.verdicts.Verdict.{Verdict}
+use Rattle.rs_answers.specs.declared.verdicts.Verdict.TheVariants as verdict
+use Rattle.rs_answers.specs.declared.verifying.Blame.{Blame}
+use Rattle.rs_answers.specs.declared.verifying.Blame.TheVariants as blame
+
+-- what is said, behind the words that tell its kind, and the end of the line
+abbrev pub line_of_answer : List ℕ → List ℕ → Verdict → Answer_data
+line_of_answer kind what verdict = record { text = joined (kind ∷ what ∷ codes "\n" ∷ []); verdict = verdict }
+
+-- the words are none of the program's
+abbrev pub usage : Answer_data
+usage = line_of_answer (codes "usage") [] verdict.Usage
+
+-- the words or the text ask for what isn't built yet
+abbrev pub not_built : Answer_data
+not_built = line_of_answer (codes "not built") [] verdict.NotBuilt
+
+-- a quantity passes its limit
+abbrev pub too_large : List ℕ → Answer_data
+too_large what = line_of_answer (codes "too large: ") what verdict.TooLarge
+
+-- the text is at fault
+abbrev pub malformed : List ℕ → Answer_data
+malformed what = line_of_answer (codes "malformed ") what verdict.Malformed
+
+-- the protocol has no projection onto the role
+abbrev pub unprojectable : List ℕ → List ℕ → Answer_data
+unprojectable role what = line_of_answer (codes "unprojectable\n") (joined (role ∷ codes ": " ∷ what ∷ [])) verdict.Unprojectable
+
+-- the role's machine is refused
+abbrev pub refused : List ℕ → List ℕ → Answer_data
+refused role what = line_of_answer (codes "refused\n") (joined (role ∷ codes ": " ∷ what ∷ [])) verdict.Refused
+
+-- `L:C` and what is said: line and column of the offset
+abbrev pub malformed_at : List ℕ → ℕ → List ℕ → Answer_data
+malformed_at bytes at what =
+    malformed (joined (decimal (line_of bytes at) ∷ codes ":" ∷ decimal (column_of bytes at) ∷ codes " " ∷ what ∷ []))
+
+-- what is answered to the first fault of the text. That memory is refused is no fault of a text: its line is never
+-- written
+abbrev pub fault_answer : List ℕ → TextKind → ℕ → Answer_data
+fault_answer bytes (kind.Expected w) at = malformed_at bytes at (joined (codes "expected " ∷ wanted_text w ∷ []))
+fault_answer bytes kind.UnknownRole at = malformed_at bytes at (codes "unknown role")
+fault_answer bytes kind.UnboundName at = malformed_at bytes at (codes "unbound name")
+fault_answer bytes kind.NameTwice at = malformed_at bytes at (codes "name twice")
+fault_answer bytes kind.TooDeep at = too_large (codes "nesting")
+fault_answer bytes kind.TooManyRoles at = too_large (codes "roles")
+fault_answer bytes kind.TooManyNodes at = too_large (codes "nodes")
+fault_answer bytes kind.NoMemory at = malformed_at bytes at (codes "no memory")
+fault_answer bytes kind.Unguarded at = malformed_at bytes at (codes "unguarded name")
+fault_answer bytes kind.TooManyLabels at = too_large (codes "labels")
+fault_answer bytes kind.BadByte at = malformed_at bytes at (codes "bad byte")
+fault_answer bytes kind.NumberTooLarge at = malformed_at bytes at (codes "number too large")
+fault_answer bytes kind.NameTooLong at = too_large (codes "name")
+
+-- the name of a label
+abbrev pub label_name : Names_data → Label → List ℕ
+label_name names label = name_at names.labels label.0
+
+-- the name of a role
+abbrev pub role_name : Names_data → Role → List ℕ
+role_name names role = name_at names.roles role.0
+
+-- what is answered to a protocol that isn't well formed, by its first fault. What a text spells has arms everywhere,
+-- and leads to its own nodes: the second and the last line are never written
+abbrev pub wf_answer : Names_data → WfFault → Answer_data
+wf_answer names (wf.SelfTalk n) = malformed (joined (codes "protocol: node " ∷ decimal n ∷ codes " talks to itself" ∷ []))
+wf_answer names (wf.NoArms n) = malformed (joined (codes "protocol: no arms at node " ∷ decimal n ∷ []))
+wf_answer names (wf.TooManyArms n) = too_large (codes "arms")
+wf_answer names (wf.TwiceLabel n label) =
+    malformed (joined (codes "protocol: label " ∷ label_name names label ∷ codes " twice at node " ∷ decimal n ∷ []))
+wf_answer names (wf.BadNext n) = malformed (joined (codes "protocol: bad next at node " ∷ decimal n ∷ []))
+
+-- the two members that don't merge: talks, or a talk and the end
+abbrev pub clash_text : ℕ → Option ℕ → List ℕ
+clash_text a (Some b) = joined (codes "nodes " ∷ decimal a ∷ codes " and " ∷ decimal b ∷ codes " do not merge" ∷ [])
+clash_text a None = joined (codes "node " ∷ decimal a ∷ codes " and the end do not merge" ∷ [])
+
+-- what is answered to a protocol that has no projection onto a role. That memory is refused is no such reason: the last
+-- line is never written
+abbrev pub proj_answer : Names_data → ProjFault → Answer_data
+proj_answer names (proj.Unmergeable role a b) = unprojectable (role_name names role) (clash_text a b)
+proj_answer names (proj.Unreached role node) =
+    unprojectable (role_name names role) (joined (codes "unreached at node " ∷ decimal node ∷ []))
+proj_answer names (proj.TooManyStates role) = too_large (joined (codes "projection " ∷ role_name names role ∷ []))
+proj_answer names proj.NoMemory = unprojectable [] []
+
+-- what is wrong at a state. What a text spells has arms everywhere, leads to its own states and knows its peers: the
+-- last three lines are never written
+abbrev pub state_text : Names_data → MachineFault → List ℕ
+state_text names (bad.TwiceLabel s label) = joined (codes "label " ∷ label_name names label ∷ codes " twice at state " ∷ decimal s ∷ [])
+state_text names (bad.SelfPeer s) = joined (codes "state " ∷ decimal s ∷ codes " talks to itself" ∷ [])
+state_text names (bad.NoArms s) = joined (codes "no arms at state " ∷ decimal s ∷ [])
+state_text names (bad.BadNext s) = joined (codes "bad next at state " ∷ decimal s ∷ [])
+state_text names (bad.UnknownPeer s) = joined (codes "unknown peer at state " ∷ decimal s ∷ [])
+
+-- what is answered to a machine that isn't well formed, by its role and its first fault
+abbrev pub machine_answer : Names_data → Role → MachineFault → Answer_data
+machine_answer names role fault =
+    malformed (joined (codes "machine " ∷ role_name names role ∷ codes ": " ∷ state_text names fault ∷ []))
+
+-- whether some candidate of the search met a cut
+abbrev pub cut_text : Bool → List ℕ
+cut_text true = codes "not found, cut yes"
+cut_text false = codes "not found, cut no"
+
+-- what is answered where the search finds no derivation of the role's machine. That memory is refused is no such reason:
+-- the last line is never written
+abbrev pub search_answer : Names_data → Role → SearchFault → Answer_data
+search_answer names role (search.NotFound cut) = refused (role_name names role) (cut_text cut)
+search_answer names role (search.Forgets node) = refused (role_name names role) (joined (codes "forgets at node " ∷ decimal node ∷ []))
+search_answer names role search.TooLarge = too_large (joined (codes "candidates " ∷ role_name names role ∷ []))
+search_answer names role search.NoMemory = refused [] []
+
+-- where a derivation is refused
+abbrev pub at_node : List ℕ → ℕ → List ℕ
+at_node what node = joined (what ∷ codes " at node " ∷ decimal node ∷ [])
+
+-- .. and at which arm of its node
+abbrev pub at_arm : List ℕ → ℕ → ℕ → List ℕ
+at_arm what node arm = joined (what ∷ codes " at node " ∷ decimal node ∷ codes " arm " ∷ decimal arm ∷ [])
+
+-- .. and why
+abbrev pub derive_text : DeriveFault → List ℕ
+derive_text derive.BadStart = codes "bad start"
+derive_text (derive.BadState node) = at_node (codes "bad state") node
+derive_text (derive.TooLongPending node) = at_node (codes "too long") node
+derive_text (derive.NoMove node) = at_node (codes "no move") node
+derive_text (derive.WrongNext node arm) = at_arm (codes "wrong next") node arm
+derive_text (derive.Forgets node arm) = at_arm (codes "forgets") node arm
+
+-- .. or that there is none
+abbrev pub blame_text : Blame → List ℕ
+blame_text blame.Missing = codes "no derivation"
+blame_text (blame.Fault fault) = derive_text fault
+
+-- what is answered where the role's own derivation doesn't show that its machine may stand for its projection
+abbrev pub blame_answer : Names_data → Role → Blame → Answer_data
+blame_answer names role why = refused (role_name names role) (blame_text why)

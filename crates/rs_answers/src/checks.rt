@@ -1,0 +1,79 @@
+//! What `check` answers to a document.
+
+ghost use Rattle.std.specs.Prelude.{◌≡◌, Some, false, length, map, true, IfOk};
+ghost use Rattle.rs_answers.specs.Checks.{Checks};
+ghost use Rattle.rs_answers.specs.Derivations.{IsBound};
+ghost use Rattle.rs_documents.specs.Canonical.{CanBeShown};
+ghost use Rattle.rs_documents.specs.Reading.{IsReady};
+
+use crate::answers::Answer;
+use crate::derivations::{DerivedSession, accept_derived, derived_session};
+use crate::refusals::refusal_answer;
+use crate::report::report;
+use crate::shown::show;
+use rs_derive::Derivation;
+use rs_documents::Document;
+use rs_model::NoMemory;
+use std::alloc::Global;
+
+/// What `check` answers to a document, with a search within the bound: the first reason to refuse it, else the report of
+/// its session.
+pub fn check(alloc: Global, document: &Document, bound: u8) -> Result<Answer, NoMemory>
+    requires ready { IsReady document.now }
+    requires roles { length document.now.names.roles ≡ document.now.protocol.roles }
+    requires bound { IsBound bound }
+    ensures { IfOk result (Checks bound false document.now) }
+{
+    let names = &document.names;
+    let DerivedSession {
+        projections,
+        machines,
+        derivations,
+    } = match derived_session(alloc, document, bound) {
+        Ok(session) => session,
+        Err(refusal) => return refusal_answer(alloc, names, refusal),
+    };
+    let accepted = accept_derived(
+        &document.protocol,
+        projections.as_slice(),
+        machines,
+        derivations.as_slice(),
+    );
+    report(alloc, names.roles.as_slice(), &accepted)
+}
+
+/// A derivation for each role.
+fn one_for_each_role(
+    alloc: Global,
+    derivations: Vec<Derivation>,
+) -> Result<Vec<Option<Derivation>>, NoMemory>
+    ensures { IfOk result (λ own. own.items ≡ map Some derivations.items) }
+{
+    let mut own = Vec::new(alloc);
+    for derivation in derivations {
+        own.push(Some(derivation))?;
+    }
+    Ok(own)
+}
+
+/// What `check --derivations` answers to a document, with a search within the bound: the first reason to refuse it, else
+/// the document with the derivations that were found, in place of its own.
+pub fn check_with_derivations(
+    alloc: Global,
+    mut document: Document,
+    bound: u8,
+) -> Result<Answer, NoMemory>
+    requires ready { IsReady document }
+    requires roles { length document.names.roles ≡ document.protocol.roles }
+    requires shown { CanBeShown document }
+    requires bound { IsBound bound }
+    ensures { IfOk result (Checks bound true document) }
+{
+    match derived_session(alloc, &document, bound) {
+        Ok(session) => {
+            document.derivations = one_for_each_role(alloc, session.derivations)?;
+            show(alloc, &document)
+        }
+        Err(refusal) => refusal_answer(alloc, &document.names, refusal),
+    }
+}

@@ -1,0 +1,32 @@
+//! What `check`, `verify`, `show`, `project` and `run` answer to a document.
+#![tactic(auto)]
+
+mod answers;
+mod checks;
+mod derivations;
+mod refusal_texts;
+mod refusals;
+mod report;
+mod runs;
+mod sessions;
+mod shown;
+mod tables;
+mod texts;
+mod transcript_texts;
+mod verdicts;
+mod verifying;
+
+pub use answers::Answer;
+pub use checks::{check, check_with_derivations};
+pub use derivations::{
+    DerivedSession, Underivable, accept_derived, derivations_of, derived_session,
+};
+pub use refusal_texts::{answer_to_fault, line_of_answer, not_built, too_large, usage};
+pub use refusals::{Refusal, refusal_answer};
+pub use runs::{RunOptions, capacity_of, run, stopped_answer};
+pub use sessions::{Session, first_refusal, machines_of, projections_of, session_of};
+pub use shown::show;
+pub use tables::project_all;
+pub use texts::Piece;
+pub use verdicts::Verdict;
+pub use verifying::{Blame, verify};

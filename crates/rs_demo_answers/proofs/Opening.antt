@@ -1,0 +1,61 @@
+-- How many roles a demo has: as many as it has actors.
+use Rattle.std.proofs.Common.{◌≡◌, ◌⊎◌, inl, inr, ℕ, suc, ◌+◌, ◌≤◌, Bool, true, false, ◌||◌, ◌==◌, nat_le, List, [], ◌∷◌, length, map, refl, sym, ap, subst, ◌∙◌, arith}
+use Rattle.std.specs.List.{enumerate_from}
+use Rattle.std.proofs.lemmas.Bool.{and_parts, false≢true, leb-true}
+use Rattle.std.proofs.lemmas.Bool.Decides.{eqb_tells}
+use Rattle.std.proofs.lemmas.List.{length-map}
+use Rattle.rs_demo_answers.specs.Demos.{Opens}
+use Rattle.rs_demos.specs.Numbers.{takes_numbers}
+use Rattle.rs_demos.specs.Sessions.{has_session, demo_protocol}
+use Rattle.rs_demos.specs.Starts.{StartsWithActors, ring_member, butterfly_member}
+use Rattle.rs_demos.specs.declared.actors.DemoActor.{DemoActor}
+use Rattle.rs_demos.specs.declared.kinds.Demo.{Demo}
+use Rattle.rs_demos.specs.declared.kinds.Demo.TheVariants as demo
+use Rattle.rs_demos.specs.Texts.{document_of}
+use Rattle.rs_demos.proofs.SpeltDocuments.{spelt_document}
+use Rattle.rs_documents.proofs.OneDocument.{one_document}
+use Rattle.rs_documents.specs.Data.{Document_data}
+use Rattle.rs_documents.specs.Documents.{SpellsDocument}
+
+-- a demo has a session for so many roles, and its protocol has as many
+pub record HasSession (kind : Demo) (count : ℕ) : Type 0 where
+  pub has : has_session kind count ≡ true
+  pub roles : (demo_protocol kind count).roles ≡ count
+  pub few : count ≤ 16
+
+-- numbered numbers are as many as the numbers
+many-numbered : {X : Type 0} (n : ℕ) (xs : List X) → length (enumerate_from n xs) ≡ length xs
+many-numbered n [] = refl
+many-numbered n (x ∷ xs) = ap (λ (z : ℕ). suc z) (many-numbered (n + 1) xs)
+
+eq-by : (x y : ℕ) → (x == y) ≡ true → x ≡ y
+eq-by x y h = elim (eqb_tells x y) [ inl t ↦ t.1 | inr t ↦ absurd (false≢true (sym t.0 ∙ h)) ]
+
+either : (a b : Bool) → (a || b) ≡ true → (a ≡ true) ⊎ (b ≡ true)
+either true b h = inl refl
+either false b h = inr h
+
+few-of-ring : (n : ℕ) → takes_numbers demo.Ring n ≡ true → n ≤ 16
+few-of-ring n h = leb-true n 16 (and_parts (nat_le 2 n) (nat_le n 16) h).1
+
+few-of-butterfly : (n : ℕ) → takes_numbers demo.Butterfly n ≡ true → n ≤ 16
+few-of-butterfly n h = elim (either ((n == 2) || (n == 4)) ((n == 8) || (n == 16)) h) [
+  | inl k ↦ elim (either (n == 2) (n == 4) k) [ inl f ↦ let e = eq-by n 2 f in omega (arith, e) | inr f ↦ let e = eq-by n 4 f in omega (arith, e) ]
+  | inr k ↦ elim (either (n == 8) (n == 16) k) [ inl f ↦ let e = eq-by n 8 f in omega (arith, e) | inr f ↦ let e = eq-by n 16 f in omega (arith, e) ]
+]
+
+pub has_session_for : (kind : Demo) (bytes : List ℕ) (actors : List DemoActor) → StartsWithActors kind bytes actors → HasSession kind (length actors)
+has_session_for demo.Double bytes actors s = subst (λ (xs : List DemoActor). HasSession demo.Double (length xs)) (sym s) (record { has = refl; roles = refl; few = omega arith })
+has_session_for demo.Stream bytes actors s = subst (λ (xs : List DemoActor). HasSession demo.Stream (length xs)) (sym s) (record { has = refl; roles = refl; few = omega arith })
+has_session_for demo.Ring bytes actors s =
+    let many : length actors ≡ length s.0 = ap length s.2 ∙ length-map s.0 ring_member in
+    subst (λ (n : ℕ). HasSession demo.Ring n) (sym many) (record { has = s.1.0; roles = refl; few = few-of-ring (length s.0) s.1.0 })
+has_session_for demo.Butterfly bytes actors s =
+    let many : length actors ≡ length s.0 = ap length s.2 ∙ length-map (enumerate_from 0 s.0) butterfly_member ∙ many-numbered 0 s.0 in
+    subst (λ (n : ℕ). HasSession demo.Butterfly n) (sym many) (record { has = s.1.0; roles = refl; few = few-of-butterfly (length s.0) s.1.0 })
+
+-- the document that a demo's text spells has a role for each actor
+pub role_each : (kind : Demo) (bytes : List ℕ) (actors : List DemoActor) (text : List ℕ) (d : Document_data) → Opens kind bytes actors text → SpellsDocument text d → length actors ≡ d.protocol.roles
+role_each kind bytes actors text d o h =
+    let s = has_session_for kind bytes actors o.starts in
+    sym s.roles ∙ ap (λ (x : Document_data). x.protocol.roles) (one_document text (document_of kind (length actors)) d (spelt_document kind (length actors) text s.has o.document) h)

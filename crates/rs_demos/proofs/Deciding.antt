@@ -1,0 +1,144 @@
+-- Whether bytes spell the numbers that a demo asks for is decided.
+use Rattle.std.proofs.Common.{◌≡◌, ◌⊎◌, inl, inr, ℕ, zero, suc, ◌^◌, ◌<◌, ◌≤◌, ℤ, pos, negsuc, FitsSigned, Bool, true, false, List, [], ◌∷◌, length, take, drop, ◌++◌, refl, sym, ap, subst, ◌∙◌, arith}
+use Rattle.std.specs.Char.{digit_value}
+use Rattle.std.specs.Int.{w64}
+use Rattle.std.specs.List.{enumerate_from}
+use Rattle.std.specs.Str.Parse.{AllDigits, IsNumeral, digits_value}
+use Rattle.std.specs.Prelude.{map, None}
+use Rattle.std.proofs.lemmas.Bool.{false≢true}
+use Rattle.std.proofs.lemmas.Bool.Decides.{leb_tells, eqb_tells}
+use Rattle.std.proofs.lemmas.Str.Parse.{digit_from_value}
+use Rattle.rs_demos.specs.Numbers.{AreAsked, IsNumber, SpellsNumbers, minus_text, takes_numbers, with_sign}
+use Rattle.rs_demos.specs.Reading.{behind_blanks, word_len}
+use Rattle.rs_demos.specs.Starts.{HasNoNumbers, StartsWithActors, butterfly_member, ring_member}
+use Rattle.rs_demos.specs.declared.actors.DemoActor.{DemoActor}
+use Rattle.rs_demos.specs.declared.actors.DemoActor.TheVariants as actor
+use Rattle.rs_demos.specs.declared.kinds.Demo.{Demo}
+use Rattle.rs_demos.specs.declared.kinds.Demo.TheVariants as demo
+use Rattle.rs_demos.proofs.Spelt.{StartsAWord, asks_none, before-of, behind-of, behind-starts, fewer, next-word, number-length, one-spelling, some-word}
+
+less-or-not : (a b : ℕ) → (a < b) ⊎ (a < b → ⊥)
+less-or-not a b = elim (leb_tells (suc a) b) [ inl t ↦ inl t.1 | inr t ↦ inr (λ l. let m = t.1 in absurd (omega (arith, l, m))) ]
+
+fits-or-not : (z : ℤ) → FitsSigned w64 z ⊎ (FitsSigned w64 z → ⊥)
+fits-or-not (pos n) = elim (less-or-not n (2 ^ 63)) [ inl h ↦ inl (record { sfits = h }) | inr h ↦ inr (λ f. h f.sfits) ]
+fits-or-not (negsuc n) = elim (less-or-not n (2 ^ 63)) [ inl h ↦ inl (record { sfits = h }) | inr h ↦ inr (λ f. h f.sfits) ]
+
+digits-or-not : (ds : List ℕ) → AllDigits 10 ds ⊎ (AllDigits 10 ds → ⊥)
+digits-or-not [] = inl tt
+digits-or-not (d ∷ ds) = elim (less-or-not (digit_value d) 10) [
+  | inl h ↦ elim (digits-or-not ds) [ inl k ↦ inl (h, k) | inr k ↦ inr (λ both. k both.1) ]
+  | inr h ↦ inr (λ both. h both.0)
+]
+
+-- the digits, behind their sign, write a number
+record Write (minus : Bool) (ds : List ℕ) : Type 0 where
+  numeral : IsNumeral 10 ds
+  few : length ds ≤ 20
+  fits : FitsSigned w64 (with_sign minus (digits_value 10 ds))
+
+write-or-not : (minus : Bool) (ds : List ℕ) → Write minus ds ⊎ (Write minus ds → ⊥)
+write-or-not minus ds = elim (less-or-not 0 (length ds)) [
+  | inl some ↦ elim (less-or-not (length ds) 21) [
+    | inl few ↦ elim (digits-or-not ds) [
+      | inl all ↦ elim (fits-or-not (with_sign minus (digits_value 10 ds))) [
+        | inl fits ↦ inl (record { numeral = (some, all); few = omega (arith, few); fits = fits })
+        | inr isnt ↦ inr (λ w. isnt w.fits)
+      ]
+      | inr isnt ↦ inr (λ w. isnt w.numeral.1)
+    ]
+    | inr isnt ↦ inr (λ w. let few = w.few in isnt (omega (arith, few)))
+  ]
+  | inr isnt ↦ inr (λ w. isnt w.numeral.0)
+]
+
+written : (word : List ℕ) (minus : Bool) (ds : List ℕ) → word ≡ minus_text minus ++ ds → Write minus ds → IsNumber word (with_sign minus (digits_value 10 ds))
+written word minus ds e w = record { minus = minus; digits = ds; spelt = e; numeral = w.numeral; few = w.few; value = refl; fits = w.fits }
+
+writes : (word : List ℕ) (z : ℤ) (n : IsNumber word z) → Write n.minus n.digits
+writes word z n = record { numeral = n.numeral; few = n.few; fits = subst (λ (x : ℤ). FitsSigned w64 x) n.value n.fits }
+
+number-or-not : (word : List ℕ) → ((z : ℤ) × IsNumber word z) ⊎ ((z : ℤ) → IsNumber word z → ⊥)
+number-or-not [] = inr (λ z n. let some = number-length [] z n in absurd (omega (arith, some)))
+number-or-not (c ∷ cs) = elim (eqb_tells c 45) [
+  | inl t ↦ elim (write-or-not true cs) [
+    | inl w ↦ inl (_, written (c ∷ cs) true cs (ap (λ (x : ℕ). x ∷ cs) t.1) w)
+    | inr isnt ↦ inr (λ z n. with_minus t.1 isnt n.minus n.digits n.spelt (writes (c ∷ cs) z n))
+  ]
+  | inr t ↦ elim (write-or-not false (c ∷ cs)) [
+    | inl w ↦ inl (_, written (c ∷ cs) false (c ∷ cs) refl w)
+    | inr isnt ↦ inr (λ z n. without_minus t.1 isnt n.minus n.digits n.spelt (writes (c ∷ cs) z n))
+  ]
+]
+  where
+    with_minus : c ≡ 45 → (Write true cs → ⊥) → (minus : Bool) (ds : List ℕ) → c ∷ cs ≡ minus_text minus ++ ds → Write minus ds → ⊥
+    with_minus is isnt true ds e w = let same : ds ≡ cs = cc (e) in isnt (subst (λ (x : List ℕ). Write true x) same w)
+    with_minus is isnt false ds e w =
+        let all : AllDigits 10 (c ∷ cs) = subst (λ (x : List ℕ). AllDigits 10 x) (sym e) w.numeral.1 in
+        let r = digit_from_value c all.0 in
+        omega (arith, r, is)
+
+    without_minus : (c ≡ 45 → ⊥) → (Write false (c ∷ cs) → ⊥) → (minus : Bool) (ds : List ℕ) → c ∷ cs ≡ minus_text minus ++ ds → Write minus ds → ⊥
+    without_minus other isnt true ds e w = let same : c ≡ 45 = cc (e) in other same
+    without_minus other isnt false ds e w = isnt (subst (λ (x : List ℕ). Write false x) (sym e) w)
+
+-- the bytes spell numbers, or none
+abbrev Spelt-or-not : List ℕ → Type 0
+Spelt-or-not bytes = ((zs : List ℤ) × SpellsNumbers zs bytes) ⊎ ((zs : List ℤ) → SpellsNumbers zs bytes → ⊥)
+
+one-word : (left : List ℕ) → StartsAWord left → 0 < length left → Spelt-or-not (behind_blanks (drop (word_len left) left)) → Spelt-or-not left
+one-word left starts there later = elim (number-or-not (take (word_len left) left)) [
+  | inl n ↦ elim later [
+    | inl zs ↦ inl (n.0 ∷ zs.0, next-word left n.0 zs.0 n.1 (before-of (drop (word_len left) left) zs.0 zs.1))
+    | inr isnt ↦ inr (λ zs s. let f = some-word left zs starts there s in isnt f.1 (behind-of (drop (word_len left) left) f.1 f.2.later))
+  ]
+  | inr isnt ↦ inr (λ zs s. let f = some-word left zs starts there s in isnt f.0 f.2.number)
+]
+
+word-by-word : (most : ℕ) (left : List ℕ) → StartsAWord left → length left ≤ most → Spelt-or-not left
+word-by-word most [] starts le = inl ([], refl)
+word-by-word zero (b ∷ left) starts le = absurd (omega (arith, le))
+word-by-word (suc most) (b ∷ left) starts le =
+    let behind = drop (word_len (b ∷ left)) (b ∷ left) in
+    let less = fewer (b ∷ left) starts (omega arith) in
+    one-word (b ∷ left) starts (omega arith) (word-by-word most (behind_blanks behind) (behind-starts behind) (omega (arith, less, le)))
+
+spelt-or-not : (bytes : List ℕ) → Spelt-or-not bytes
+spelt-or-not bytes = elim (word-by-word (length (behind_blanks bytes)) (behind_blanks bytes) (behind-starts bytes) (omega arith)) [
+  | inl s ↦ inl (s.0, before-of bytes s.0 s.1)
+  | inr isnt ↦ inr (λ zs s. isnt zs (behind-of bytes zs s))
+]
+
+abbrev Asked-or-not : Demo → List ℕ → Type 0
+Asked-or-not kind bytes = ((zs : List ℤ) × AreAsked kind bytes zs) ⊎ ((zs : List ℤ) → AreAsked kind bytes zs → ⊥)
+
+asked-or-not : (kind : Demo) (bytes : List ℕ) → Asked-or-not kind bytes
+asked-or-not kind bytes = elim (spelt-or-not bytes) [
+  | inl s ↦ go s.0 s.1 (takes_numbers kind (length s.0)) refl
+  | inr isnt ↦ inr (λ zs a. isnt zs a.1)
+]
+  where
+    go : (zs : List ℤ) → SpellsNumbers zs bytes → (b : Bool) → takes_numbers kind (length zs) ≡ b → Asked-or-not kind bytes
+    go zs s true t = inl (zs, (t, s))
+    go zs s false t = inr (λ ys a. asks_none kind bytes zs ys s t a)
+
+-- a demo has actors for the bytes, or the bytes aren't the numbers that it asks for ..
+pub actors-or-none : (kind : Demo) (bytes : List ℕ) → ((actors : List DemoActor) × StartsWithActors kind bytes actors) ⊎ HasNoNumbers kind bytes
+actors-or-none demo.Double bytes = inl (actor.Kernel (record { piece = None }) ∷ actor.Source bytes ∷ actor.Sink [] ∷ [], refl)
+actors-or-none demo.Stream bytes = inl (actor.Source bytes ∷ actor.Sink [] ∷ [], refl)
+actors-or-none demo.Ring bytes = elim (asked-or-not demo.Ring bytes) [ inl a ↦ inl (map ring_member a.0, (a.0, a.1, refl)) | inr isnt ↦ inr isnt ]
+actors-or-none demo.Butterfly bytes = elim (asked-or-not demo.Butterfly bytes) [ inl a ↦ inl (map butterfly_member (enumerate_from 0 a.0), (a.0, a.1, refl)) | inr isnt ↦ inr isnt ]
+
+-- .. and not both
+pub not-both : (kind : Demo) (bytes : List ℕ) (actors : List DemoActor) → StartsWithActors kind bytes actors → HasNoNumbers kind bytes → ⊥
+not-both demo.Double bytes actors s isnt = isnt
+not-both demo.Stream bytes actors s isnt = isnt
+not-both demo.Ring bytes actors s isnt = isnt s.0 s.1
+not-both demo.Butterfly bytes actors s isnt = isnt s.0 s.1
+
+-- .. and they are one list
+pub one-start : (kind : Demo) (bytes : List ℕ) (xs ys : List DemoActor) → StartsWithActors kind bytes xs → StartsWithActors kind bytes ys → xs ≡ ys
+one-start demo.Double bytes xs ys s t = s ∙ sym t
+one-start demo.Stream bytes xs ys s t = s ∙ sym t
+one-start demo.Ring bytes xs ys s t = s.2 ∙ ap (λ (zs : List ℤ). map ring_member zs) (one-spelling s.0 t.0 bytes s.1.1 t.1.1) ∙ sym t.2
+one-start demo.Butterfly bytes xs ys s t = s.2 ∙ ap (λ (zs : List ℤ). map butterfly_member (enumerate_from 0 zs)) (one-spelling s.0 t.0 bytes s.1.1 t.1.1) ∙ sym t.2

@@ -1,5 +1,0 @@
-use Rattle.rs_tool.specs.Derivations.{AreFirstCanonical}
-use Rattle.rs_tool.proofs.derivations.derivations_of.Given as goal
-
-abbrev pub invariant-loop-place : goal.invariant-loop-place
-invariant-loop-place l = AreFirstCanonical l.bound l.machines l.projections l.place l.derivations.items

@@ -1,5 +1,0 @@
-use Rattle.rs_project.specs.Numbered.{AreFirstProjections}
-use Rattle.rs_tool.proofs.sessions.projections_of.Given as goal
-
-abbrev pub invariant-loop-role : goal.invariant-loop-role
-invariant-loop-role l = AreFirstProjections l.protocol l.role l.projections.items

@@ -1,6 +1,0 @@
-use Rattle.std.proofs.Common.{◌≡◌, ◌++◌, take}
-use Rattle.rs_tool.specs.Texts.{text_of}
-use Rattle.rs_tool.proofs.texts.push_pieces.Given as goal
-
-abbrev pub invariant-loop-piece : goal.invariant-loop-piece
-invariant-loop-piece l = l.text ≡ l.fn.text ++ text_of (take l.piece-index l.pieces)

@@ -1,6 +1,0 @@
-use Rattle.std.proofs.Common.{◌≡◌}
-use Rattle.rs_tool.specs.Verifying.{those_there}
-use Rattle.rs_tool.proofs.verifying.those_there.Given as goal
-
-abbrev pub invariant-loop-held : goal.invariant-loop-held
-invariant-loop-held l = l.derivations.items ≡ those_there l.yielded

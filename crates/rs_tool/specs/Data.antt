@@ -1,8 +1,0 @@
--- Believed: what contracts see of answers.
-use Rattle.std.specs.Prelude.{ℕ, List}
-use Rattle.rs_tool.specs.declared.statuses.Verdict.{Verdict}
-
--- the text that is written, and what it says
-pub record Answer_data : Type 0 where
-  pub text : List ℕ
-  pub verdict : Verdict
