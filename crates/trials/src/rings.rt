@@ -5,10 +5,10 @@ ghost use Rattle.rs_core.specs.Configurations.{role_of};
 
 use crate::session::{Session, session_of};
 use rs_core::Event;
+use rs_documents::read_document;
 use rs_model::{Role, Value};
 use rs_room::{Bounded, BoundedFault};
 use rs_safety::{Accepted, accept};
-use rs_tool::read_document;
 use std::alloc::Global;
 
 /// The room, who can go on after both roles have sent once by their first arms, and why the first one can't send again.

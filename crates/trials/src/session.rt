@@ -2,16 +2,16 @@
 
 ghost use Rattle.std.specs.Prelude.{◌≡◌, length, IfSome};
 ghost use Rattle.rs_safety.specs.Sessions.{AreOneEach, IsSession};
-ghost use Rattle.rs_tool.specs.Machines.{machines_of};
+ghost use Rattle.rs_answers.specs.Machines.{machines_of};
 ghost use Rattle.rs_documents.specs.Reading.{IsReady};
 
+use rs_answers::{derivations_of, first_refusal, machines_of, projections_of};
 use rs_derive::Derivation;
+use rs_documents::Document;
 use rs_model::Machine;
 use rs_project::Projection;
-use rs_tool::{
-    DEFAULT_BOUND, Document, derivations_of, first_refusal, machines_of, projections_of,
-};
 use rs_wellformed::well_formed;
+use rs_words::DEFAULT_BOUND;
 use std::alloc::Global;
 
 /// What is accepted with a protocol: a projection, a machine and a derivation for each role in order.

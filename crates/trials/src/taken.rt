@@ -6,9 +6,9 @@ ghost use Rattle.rs_core.specs.Configurations.{role_of};
 use crate::session::{Session, session_of};
 use rs_alive::{AliveFault, taken_within};
 use rs_core::{Core, Event};
+use rs_documents::read_document;
 use rs_model::{Machine, NoMemory, Role};
 use rs_safety::{Accepted, accept};
-use rs_tool::read_document;
 use std::alloc::Global;
 
 fn copies_of(alloc: Global, machines: &[Machine]) -> Result<Vec<Machine>, NoMemory>

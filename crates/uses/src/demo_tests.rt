@@ -7,11 +7,11 @@ ghost use Rattle.rs_demos.specs.declared.kinds.Demo.TheVariants as demo;
 use crate::session::{Session, session_of};
 use rs_core::{Outcome, Run};
 use rs_demos::{Demo, DemoActor, demo_actors, demo_document, demo_output};
+use rs_documents::read_document;
 use rs_exec::run_inline;
 use rs_model::NoMemory;
 use rs_safety::{Accepted, accept};
 use rs_text::Text;
-use rs_tool::read_document;
 use std::alloc::Global;
 use std::test::Fail;
 

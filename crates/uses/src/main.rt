@@ -1,15 +1,18 @@
 //! A user of the library: it reads a document, has its session accepted, runs it on one thread, and tells of both.
 #![tactic(auto)]
 
+mod counting;
 #[cfg(test)]
 mod demo_tests;
 mod runs;
 mod session;
 #[cfg(test)]
+mod stage_tests;
+#[cfg(test)]
 mod tests;
 
 use rs_core::Outcome;
-use runs::{Told, run_of};
+use runs::{End, Told, run_of};
 use std::alloc::Alloc;
 use std::process::ExitCode;
 
@@ -26,12 +29,24 @@ fn main(rt: HostRuntime) -> ExitCode {
                 run,
             },
         ) => {
-            let end = match run {
-                Ok(Outcome::Ended(_)) => "each role has ended",
-                Ok(Outcome::Stopped(_)) => "the limit was met",
-                Err(_) => "no role could move, or memory was refused",
+            let (end, taken) = match run {
+                Ok(
+                    End {
+                        outcome: Outcome::Ended(_),
+                        taken,
+                    },
+                ) => ("each role has ended", taken),
+                Ok(
+                    End {
+                        outcome: Outcome::Stopped(_),
+                        taken,
+                    },
+                ) => ("the limit was met", taken),
+                Err(_) => ("no role could move, or memory was refused", 0),
             };
-            println!(rt; "{machines} machines are safe, with room for {room}: {end}")
+            println!(rt;
+                "{machines} machines are safe, with room for {room}: {end}, and {taken} messages came"
+            )
         }
         None => println!(rt; "nothing is accepted"),
     };

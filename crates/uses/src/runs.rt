@@ -5,12 +5,13 @@ ghost use Rattle.rs_safety.specs.Room.{room_of};
 ghost use Rattle.rs_documents.specs.Data.{Document_data};
 ghost use Rattle.rs_documents.specs.Documents.{SpellsDocument};
 
+use crate::counting::CountingActor;
 use crate::session::{Session, session_of};
 use rs_core::{Outcome, Run, SeededActor, run_plain};
+use rs_documents::read_document;
 use rs_exec::{ExecFault, run_inline};
-use rs_model::{Machine, NoMemory};
+use rs_model::{Machine, NoMemory, Role};
 use rs_safety::{Accepted, accept};
-use rs_tool::read_document;
 use std::alloc::Global;
 
 /// How many machines are safe, the room that their rings need, and how the session ran.
@@ -18,16 +19,30 @@ use std::alloc::Global;
 pub struct Told {
     pub machines: usize,
     pub room: u64,
-    pub run: Result<Outcome, ExecFault>,
+    pub run: Result<End, ExecFault>,
+}
+
+/// How a run ended, and how many messages came to all actors.
+#[derive(Drop)]
+pub struct End {
+    pub outcome: Outcome,
+    pub taken: u64,
+}
+
+fn actor_for(role: Role) -> CountingActor {
+    CountingActor {
+        draws: SeededActor::new(0, role),
+        taken: 0,
+    }
 }
 
 /// An actor for each machine, from one seed.
-fn actors_for(alloc: Global, machines: &[Machine]) -> Result<Vec<SeededActor>, NoMemory>
+fn actors_for(alloc: Global, machines: &[Machine]) -> Result<Vec<CountingActor>, NoMemory>
     ensures { IfOk result (λ actors. length actors.items ≡ length machines.now) }
 {
     let mut actors = Vec::new(alloc);
     for machine in machines {
-        actors.push(SeededActor::new(0, machine.role))?;
+        actors.push(actor_for(machine.role))?;
     }
     Ok(actors)
 }
@@ -42,25 +57,37 @@ fn copies_of(alloc: Global, machines: &[Machine]) -> Result<Vec<Machine>, NoMemo
     Ok(copies)
 }
 
+/// How a run ended, by its actors.
+fn end_of(run: Run<CountingActor>) -> End {
+    let mut taken: u64 = 0;
+    for actor in run.actors.as_slice() {
+        taken = taken.saturating_add(actor.taken);
+    }
+    End {
+        outcome: run.outcome,
+        taken,
+    }
+}
+
 /// How an accepted session runs, over queues of a capacity or over unbounded ones.
-fn outcome_of(
+fn run_session(
     alloc: Global,
     accepted: &Accepted,
     capacity: Option<u16>,
     limit: u32,
-) -> Result<Outcome, ExecFault>
+) -> Result<End, ExecFault>
     requires { IfSome capacity (λ c. (1 ≤ c) × (c ≤ 1024)) }
 {
     let actors = actors_for(alloc, accepted.machines())?;
     match capacity {
         Some(capacity) => {
-            let Run { outcome, .. } = run_inline(alloc, accepted, actors, capacity, limit)?;
-            Ok(outcome)
+            let run = run_inline(alloc, accepted, actors, capacity, limit)?;
+            Ok(end_of(run))
         }
         None => {
             let machines = copies_of(alloc, accepted.machines())?;
-            let Run { outcome, .. } = run_plain(alloc, machines, actors, limit)?;
-            Ok(outcome)
+            let run = run_plain(alloc, machines, actors, limit)?;
+            Ok(end_of(run))
         }
     }
 }
@@ -74,7 +101,7 @@ fn told_of(alloc: Global, accepted: &Accepted, capacity: Option<u16>, limit: u32
     Told {
         machines: accepted.machines().len(),
         room: accepted.room(),
-        run: outcome_of(alloc, accepted, capacity, limit),
+        run: run_session(alloc, accepted, capacity, limit),
     }
 }
 

@@ -1,4 +1,4 @@
-use crate::runs::{Told, run_of};
+use crate::runs::{End, Told, run_of};
 use rs_core::{Entry, Outcome};
 use rs_exec::ExecFault;
 use rs_model::{NoMemory, Role};
@@ -11,7 +11,7 @@ const NAMES: [&str; 2] = ["A", "B"];
 const LABELS: [&str; 2] = ["x", "y"];
 
 /// The entries as `B!x.B?y.`.
-fn text_of(alloc: Global, entries: &[Entry]) -> Result<Text, NoMemory> {
+pub fn text_of(alloc: Global, entries: &[Entry]) -> Result<Text, NoMemory> {
     let mut text = Text::new(alloc);
     for entry in entries {
         let (peer, mark, label) = match entry {
@@ -48,24 +48,26 @@ const ENDLESS: &[u8] =
 fn sessions_end(rt: HostRuntime) -> Result<(), Fail> {
     let alloc = rt.alloc();
     let rows = [
-        (SWAPPED, Some(11), ["B!x.B?y.", "A!y.A?x."]),
-        (SWAPPED, None, ["B!x.B?y.", "A!y.A?x."]),
-        (TWICE, Some(11), ["B!x.B!x.B?y.B?y.", "A!y.A!y.A?x.A?x."]),
-        (TWICE, None, ["B!x.B!x.B?y.B?y.", "A!y.A!y.A?x.A?x."]),
-        (LISTS, None, ["B!x.", "A?x."]),
+        (SWAPPED, Some(11), 2, ["B!x.B?y.", "A!y.A?x."]),
+        (SWAPPED, None, 2, ["B!x.B?y.", "A!y.A?x."]),
+        (TWICE, Some(11), 4, ["B!x.B!x.B?y.B?y.", "A!y.A!y.A?x.A?x."]),
+        (TWICE, None, 4, ["B!x.B!x.B?y.B?y.", "A!y.A!y.A?x.A?x."]),
+        (LISTS, None, 1, ["B!x.", "A?x."]),
     ];
-    for (text, capacity, wanted) in rows {
+    for (text, capacity, messages, wanted) in rows {
         match run_of(alloc, text, capacity, 1_000_000) {
-            Some(
-                Told {
-                    run: Ok(Outcome::Ended(transcripts)),
-                    ..
-                },
-            ) => {
-                assert_eq!(rt; transcripts.as_slice().len(), 2);
-                for (transcript, wanted) in transcripts.as_slice().iter().zip(&wanted) {
-                    let told = text_of(alloc, transcript.as_slice())?;
-                    assert_eq!(rt; told.as_slice(), wanted.as_bytes());
+            Some(Told { run: Ok(end), .. }) => {
+                let End { outcome, taken } = end;
+                assert_eq!(rt; taken, messages);
+                match outcome {
+                    Outcome::Ended(transcripts) => {
+                        assert_eq!(rt; transcripts.as_slice().len(), 2);
+                        for (transcript, wanted) in transcripts.as_slice().iter().zip(&wanted) {
+                            let told = text_of(alloc, transcript.as_slice())?;
+                            assert_eq!(rt; told.as_slice(), wanted.as_bytes());
+                        }
+                    }
+                    Outcome::Stopped(_) => assert!(rt; false, "stopped"),
                 }
             }
             _ => assert!(rt; false, "not ended"),
@@ -102,7 +104,12 @@ fn endless_sessions_stop(rt: HostRuntime) -> Result<(), Fail> {
         match run_of(rt.alloc(), ENDLESS, capacity, 3) {
             Some(
                 Told {
-                    run: Ok(Outcome::Stopped(role)),
+                    run: Ok(
+                        End {
+                            outcome: Outcome::Stopped(role),
+                            ..
+                        },
+                    ),
                     ..
                 },
             ) => assert_eq!(rt; role, Role(0)),

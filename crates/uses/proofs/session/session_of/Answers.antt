@@ -4,15 +4,15 @@ use Rattle.rs_project.specs.Data.{Projection_data}
 use Rattle.rs_project.specs.Numbered.{AreNumberedProjections}
 use Rattle.rs_safety.specs.Sessions.{AreOneEach, IsSession}
 use Rattle.rs_documents.specs.Data.{Document_data}
-use Rattle.rs_tool.specs.Machines.{machines_of}
-use Rattle.rs_tool.specs.Derivations.{AreCanonical}
-use Rattle.rs_tool.proofs.Derivings.{one_each, ready_session}
-use Rattle.rs_tool.proofs.Derivings as derivings
-use Rattle.rs_tool.specs.Sessions.{first_refusal}
+use Rattle.rs_answers.specs.Machines.{machines_of}
+use Rattle.rs_answers.specs.Derivations.{AreCanonical}
+use Rattle.rs_answers.proofs.Derivings.{one_each, ready_session}
+use Rattle.rs_answers.proofs.Derivings as derivings
+use Rattle.rs_answers.specs.Sessions.{first_refusal}
 use Rattle.rs_documents.specs.Reading.{IsReady}
 use Rattle.rs_documents.proofs.SpeltSessions.{IsSpeltSession}
 use Rattle.rs_wellformed.specs.Faults.{first_fault}
-use Rattle.rs_tool.proofs.EachRole.{chosen_small_by}
+use Rattle.rs_answers.proofs.EachRole.{chosen_small_by}
 use Rattle.uses.proofs.session.session_of.Goals as goal
 
 -- the session of a document that was read

@@ -1,0 +1,262 @@
+// Stages and tasks on documents.
+ghost use Rattle.std.specs.Prelude.{◌≡◌, ◌≤◌, ◌++◌, ◌∷◌, [], None, IfSome};
+ghost use Rattle.rs_exec.specs.Tasks.{IsTaskOf};
+ghost use Rattle.rs_session.specs.Stages.{AreFirst, IsEnded, shown};
+ghost use Rattle.rs_session.specs.declared.stages.Stage.TheVariants as kind;
+
+use crate::session::{Session as Accepting, session_of};
+use crate::tests::text_of;
+use rs_core::SeededActor;
+use rs_documents::read_document;
+use rs_exec::{RoleTask, Turn, Why};
+use rs_model::{Label, Role, Value};
+use rs_rings::{Closed, Loose};
+use rs_safety::accept;
+use rs_session::{CloseFault, Ended, Left, LeftFault, LeftOver, Session, Stage};
+use std::alloc::Global;
+use std::process::Abort;
+use std::test::Fail;
+
+const TWICE: &[u8] =
+    b"roles A, B\nprotocol A->B:x(). A->B:x(). B->A:y(). B->A:y(). end\nmachine B: A!y(). A!y(). A?x(). A?x(). end\n";
+
+/// The session of a text, and its first stages.
+fn begun_of(alloc: Global, text: &[u8], capacity: u16) -> Option<(Session, Vec<Stage>)>
+    requires { (1 ≤ capacity) × (capacity ≤ 1024) }
+    ensures { IfSome result (λ begun. AreFirst begun.0 begun.1.items) }
+{
+    let Ok(document) = read_document(alloc, text) else {
+        return None;
+    };
+    let Some(accepting) = session_of(alloc, &document) else {
+        return None;
+    };
+    let Accepting {
+        projections,
+        machines,
+        derivations,
+    } = accepting;
+    match accept(
+        &document.protocol,
+        projections.as_slice(),
+        machines,
+        derivations.as_slice(),
+    ) {
+        Ok(accepted) => match Session::begin(alloc, &accepted, capacity) {
+            Ok(begun) => Some(begun),
+            Err(_refused) => None,
+        },
+        Err(_refused) => None,
+    }
+}
+
+/// A session of two roles with a task for each.
+struct Pair {
+    session: Session,
+    a: RoleTask<SeededActor>,
+    b: RoleTask<SeededActor>,
+}
+
+/// A task with an actor for the role of a first stage.
+fn task_of(rt: &impl Abort, alloc: Global, stage: Stage) -> RoleTask<SeededActor>
+    requires nothing { (shown stage).part.history ≡ [] }
+    ensures stage { result.stage ≡ stage }
+    ensures kept { result.kept ≡ None }
+{
+    let role = stage.role();
+    match RoleTask::new(alloc, stage, SeededActor::new(0, role), 100) {
+        Ok(task) => task,
+        Err(_) => panic!(rt; "no memory"),
+    }
+}
+
+fn pair_of(rt: &impl Abort, alloc: Global, text: &[u8], capacity: u16) -> Pair
+    requires { (1 ≤ capacity) × (capacity ≤ 1024) }
+    ensures a { IsTaskOf result.session result.a }
+    ensures b { IsTaskOf result.session result.b }
+{
+    let Some((session, stages)) = begun_of(alloc, text, capacity) else {
+        panic!(rt; "not accepted");
+    };
+    let mut stages = stages;
+    if stages.len() != 2 {
+        panic!(rt; "not two roles");
+    }
+    match (stages.pop(), stages.pop()) {
+        (Some(b), Some(a)) => {
+            stages.destroy_empty();
+            Pair {
+                session,
+                a: task_of(rt, alloc, a),
+                b: task_of(rt, alloc, b),
+            }
+        }
+        _ => panic!(rt; "not two stages"),
+    }
+}
+
+fn push_left(rt: &impl Abort, left: &mut Vec<Left>, one: Left)
+    ensures { left.new.items ≡ left.old.items ++ one ∷ [] }
+{
+    match left.push(one) {
+        Ok(()) => {}
+        Err(_) => panic!(rt; "no memory"),
+    }
+}
+
+/// What is left of a session whose two roles leave. The role A is handed in alone at first.
+fn left_of(rt: &impl Abort, alloc: Global, pair: Pair) -> LeftOver
+    requires a { IsTaskOf pair.session pair.a }
+    requires b { IsTaskOf pair.session pair.b }
+{
+    let Pair { session, a, b } = pair;
+    let (a, _, _) = a.leave();
+    let (b, _, _) = b.leave();
+    let mut left = Vec::new(alloc);
+    push_left(rt, &mut left, a);
+    match session.close_left(alloc, left) {
+        Err(
+            LeftFault::Missing {
+                session,
+                left,
+                missing,
+            },
+        ) => {
+            assert_eq!(rt; missing, Role(1));
+            let mut left = left;
+            push_left(rt, &mut left, b);
+            match session.close_left(alloc, left) {
+                Ok(over) => over,
+                Err(_) => panic!(rt; "a role is missing, or memory"),
+            }
+        }
+        _ => panic!(rt; "no role is missing"),
+    }
+}
+
+/// The loose parcels as `0 to 1 label 0.`.
+fn is_loose(loose: &Loose, sender: u8, receiver: u8, label: u16) -> bool {
+    loose.sender == Role(sender)
+        && loose.receiver == Role(receiver)
+        && loose.parcel.label == Label(label)
+        && matches!(loose.parcel.value, Value::Unit)
+}
+
+#[test]
+fn what_is_under_way_is_handed_out(rt: HostRuntime) -> Result<(), Fail> {
+    let alloc = rt.alloc();
+    let mut pair = pair_of(&rt, alloc, TWICE, 2);
+    assert_eq!(rt; pair.a.turn(alloc, &pair.session), Turn::Moved);
+    assert_eq!(rt; pair.b.turn(alloc, &pair.session), Turn::Moved);
+    let over = left_of(&rt, alloc, pair);
+    assert_eq!(rt; over.closed.roles(), 2);
+    match over.loose.as_slice() {
+        [x, y] => {
+            assert!(rt; is_loose(x, 0, 1, 0));
+            assert!(rt; is_loose(y, 1, 0, 1));
+        }
+        _ => assert!(rt; false, "two are under way"),
+    }
+    Ok(())
+}
+
+#[test]
+fn full_and_empty_rings_are_told(rt: HostRuntime) -> Result<(), Fail> {
+    let alloc = rt.alloc();
+    let mut pair = pair_of(&rt, alloc, TWICE, 1);
+    let moved = pair.a.turn(alloc, &pair.session);
+    assert_eq!(rt; moved, Turn::Moved);
+    let full = pair.a.turn(alloc, &pair.session);
+    assert_eq!(rt;
+        full,
+        Turn::Waits(Why::Full {
+            peer: Role(1),
+            sent: 1,
+            taken: 0
+        })
+    );
+    let over = left_of(&rt, alloc, pair);
+    assert_eq!(rt; over.loose.len(), 1);
+    Ok(())
+}
+
+fn ended_of(rt: &impl Abort, stage: Stage) -> Ended
+    ensures { stage ≡ kind.Ended result }
+{
+    match stage {
+        Stage::Ended(ended) => ended,
+        _ => panic!(rt; "the role has not ended"),
+    }
+}
+
+fn push_ended(rt: &impl Abort, ended: &mut Vec<Ended>, one: Ended)
+    ensures { ended.new.items ≡ ended.old.items ++ one ∷ [] }
+{
+    match ended.push(one) {
+        Ok(()) => {}
+        Err(_) => panic!(rt; "no memory"),
+    }
+}
+
+/// Closes the session of two roles that have ended. The role A is handed in alone at first.
+fn closed_of(rt: &impl Abort, alloc: Global, session: Session, a: Ended, b: Ended) -> Closed
+    requires a { IsEnded session a }
+    requires b { IsEnded session b }
+{
+    let mut ended = Vec::new(alloc);
+    push_ended(rt, &mut ended, a);
+    match session.close(ended) {
+        Err(fault) => {
+            let CloseFault {
+                session,
+                ended,
+                missing,
+            } = fault;
+            assert_eq!(rt; missing, Role(1));
+            let mut ended = ended;
+            push_ended(rt, &mut ended, b);
+            match session.close(ended) {
+                Ok(closed) => closed,
+                Err(_) => panic!(rt; "a role is missing"),
+            }
+        }
+        Ok(_) => panic!(rt; "no role is missing"),
+    }
+}
+
+/// One act of each role.
+fn both_move(rt: &impl Abort, alloc: Global, pair: &mut Pair)
+    requires a { IsTaskOf pair.old.session pair.old.a }
+    requires b { IsTaskOf pair.old.session pair.old.b }
+    ensures a { IsTaskOf pair.new.session pair.new.a }
+    ensures b { IsTaskOf pair.new.session pair.new.b }
+{
+    assert_eq!(rt; pair.a.turn(alloc, &pair.session), Turn::Moved);
+    assert_eq!(rt; pair.b.turn(alloc, &pair.session), Turn::Moved);
+}
+
+#[test]
+fn a_session_closes(rt: HostRuntime) -> Result<(), Fail> {
+    let alloc = rt.alloc();
+    let mut pair = pair_of(&rt, alloc, TWICE, 2);
+    both_move(&rt, alloc, &mut pair);
+    both_move(&rt, alloc, &mut pair);
+    both_move(&rt, alloc, &mut pair);
+    both_move(&rt, alloc, &mut pair);
+    assert_eq!(rt; pair.a.turn(alloc, &pair.session), Turn::Ended);
+    assert_eq!(rt; pair.b.turn(alloc, &pair.session), Turn::Ended);
+    let Pair { session, a, b } = pair;
+    let (a, _, a_did) = a.into_parts();
+    let (b, _, b_did) = b.into_parts();
+    let closed = closed_of(&rt, alloc, session, ended_of(&rt, a), ended_of(&rt, b));
+    assert_eq!(rt; closed.roles(), 2);
+    assert_eq!(rt;
+        text_of(alloc, a_did.as_slice())?.as_slice(),
+        b"B!x.B!x.B?y.B?y.".as_slice()
+    );
+    assert_eq!(rt;
+        text_of(alloc, b_did.as_slice())?.as_slice(),
+        b"A!y.A!y.A?x.A?x.".as_slice()
+    );
+    Ok(())
+}
