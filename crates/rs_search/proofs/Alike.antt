@@ -120,7 +120,7 @@ even-puts bound s q arms once =
     let self : (i : ℕ) (a : Arm) → slice_get arms i ≡ Some a → arm_of arms a.label ≡ Some a = arm-of-self arms once in
     subst (λ (b : Bool). Goes (cut_at bound (turn_of (if b then (if all_serve arms arms then Some D else None) else guesses (even s) q arms))) (map (λ (a : Arm). even a.next) arms)) (sym (eq-eqb q.0 q.0 refl))
     (subst (λ (b : Bool). Goes (cut_at bound (turn_of (if b then Some D else None))) (map (λ (a : Arm). even a.next) arms)) (sym (all-serve arms arms self))
-        (goes-due bound D (map (λ (a : Arm). even a.next) arms) (both-self arms arms self) (even-short bound arms) refl (one-arm (λ (a : Arm). both_at [] a (arm_of arms a.label)) (λ (a : Arm). even a.next) arms)))
+    (goes-due bound D (map (λ (a : Arm). even a.next) arms) (both-self arms arms self) (even-short bound arms) refl (one-arm (λ (a : Arm). both_at [] a (arm_of arms a.label)) (λ (a : Arm). even a.next) arms)))
 
 even-takes : (bound s : ℕ) (q : Role) (arms : List Arm) → 0 < bound → Goes (cut_at bound (turn_of (due_at (even s) (Some (Takes q arms)) (Some (Takes q arms))))) (map (λ (b : Arm). owing_receive (even s) q b) arms)
 even-takes bound s q arms some =
@@ -140,8 +140,8 @@ owes-goes bound s i q arms b t once e =
     subst (λ (y : Bool). Goes (cut_at bound (turn_of (receives p arms t (if y then At 0 else (if may_overtake Receive q a then earliest_from [] Receive q (0 + 1) else Blocked 0))))) (even b.next ∷ []))
     (sym (eq-eqb q.0 q.0 refl))
     (subst (λ (o : Option Arm). Goes (cut_at bound (turn_of (served_by p 0 b.sort o))) (even b.next ∷ [])) (sym (arm-of-self arms once i b e))
-        (subst (λ (y : Bool). Goes (cut_at bound (turn_of (if y then Some (paid p 0 b) else None))) (even b.next ∷ [])) (sym (serves-self b.sort))
-            (goes-due bound (paid p 0 b) (even b.next ∷ []) refl (λ r m. elim m [ inl h ↦ subst (λ (z : Spot). length z.pending ≤ bound) h (omega arith) | inr h ↦ absurd h ]) refl (λ h. refl))))
+    (subst (λ (y : Bool). Goes (cut_at bound (turn_of (if y then Some (paid p 0 b) else None))) (even b.next ∷ [])) (sym (serves-self b.sort))
+    (goes-due bound (paid p 0 b) (even b.next ∷ []) refl (λ r m. elim m [ inl h ↦ subst (λ (z : Spot). length z.pending ≤ bound) h (omega arith) | inr h ↦ absurd h ]) refl (λ h. refl))))
 
 goes : (m : Machine_data) (bound : ℕ) → IsProper m → 0 < bound → (p : Spot) → IsOfItself m p → Goes (turn_within m m bound p) (nexts_itself m p)
 goes m bound w some p (Even s lt e) =
@@ -151,7 +151,7 @@ goes m bound w some p (Even s lt e) =
 goes m bound w some p (Owes s i q arms b es eb e) =
     subst (λ (z : Spot). Goes (turn_within m m bound z) (nexts_itself m z)) (sym e)
     (subst (λ (o : Option State). Goes (cut_at bound (turn_of (due_at (owing_receive (even s) q b) o (slice_get m.states b.next)))) (even b.next ∷ [])) (sym es)
-        (owes-goes bound s i q arms b (slice_get m.states b.next) (w.1.takes s q arms es).once eb))
+    (owes-goes bound s i q arms b (slice_get m.states b.next) (w.1.takes s q arms es).once eb))
 
 -- spots of a machine that follows itself lead to such spots
 
@@ -491,11 +491,13 @@ made_on m w found new nodes nodes' p node row a e named en es =
         | inl old ↦ a.kinds x (in_at found i.0 x old)
         | inr next ↦ kind_on m w p kind x next
       ]);
-      at_spots = record { each = λ i n h. elim (push_is nodes node i n (subst (λ (z : List DNode_data). slice_get z i ≡ Some n) es h)) [
-        | inl old ↦ (let k = a.at_spots.each i n old in (named.grown.kept i (spot_of n) k.0, k.1))
-        | inr this ↦ (let q : node_of p 0 row ≡ n = sym en ∙ this.1 in
-            (subst (λ (z : ℕ). slice_get new z ≡ Some (spot_of n)) (sym this.0) (named.grown.kept (length nodes) p e ∙ ap (λ (z : DNode_data). Some (spot_of z)) q), sym (ap (λ (z : DNode_data). z.rank) q)))
-      ] };
+      at_spots = record {
+        each = λ i n h. elim (push_is nodes node i n (subst (λ (z : List DNode_data). slice_get z i ≡ Some n) es h)) [
+          | inl old ↦ (let k = a.at_spots.each i n old in (named.grown.kept i (spot_of n) k.0, k.1))
+          | inr this ↦ (let q : node_of p 0 row ≡ n = sym en ∙ this.1 in
+              (subst (λ (z : ℕ). slice_get new z ≡ Some (spot_of n)) (sym this.0) (named.grown.kept (length nodes) p e ∙ ap (λ (z : DNode_data). Some (spot_of z)) q), sym (ap (λ (z : DNode_data). z.rank) q)))
+        ];
+      };
       sources = subst (λ (z : ℕ). AreSources new z) (sym count) (sources_on m found new (length nodes) p e kind named.grown a.sources);
     }
 

@@ -17,10 +17,15 @@ loop-i-preserved c =
     let l = c.requires.low n far w in
     let m = topped_on c.args.row.now c.args.ranks.now c.loop-i.rank c.loop-i.i c.loop-i.invariant.0 in
     let b = c.loop-i.invariant.1 in
-    rw c.max-rank.ensures (m, omega arith, (let t = c.loop-i-test.true in omega arith), λ k lt. elim (cases_lt k c.loop-i.i) [
-      | inl a ↦ c.loop-i.invariant.3 k a
-      | inr a ↦ (let e : c.loop-i.i ≡ k = omega arith in subst (λ (z : ℕ). c.args.number < slice_index_or c.args.row.now z 0) e far)
-    ])
+    rw c.max-rank.ensures (
+      m,
+      omega arith,
+      (let t = c.loop-i-test.true in omega arith),
+      λ k lt. elim (cases_lt k c.loop-i.i) [
+        | inl a ↦ c.loop-i.invariant.3 k a
+        | inr a ↦ (let e : c.loop-i.i ≡ k = omega arith in subst (λ (z : ℕ). c.args.number < slice_index_or c.args.row.now z 0) e far)
+      ],
+    )
 
 pub returns-clause-fits : goal.returns-clause-fits
 returns-clause-fits c = topped_all c.args.row.now c.args.ranks.now c.loop-i.rank c.loop-i.i (grind arith) c.loop-i.invariant.0 (λ k lt. let a = c.loop-i.invariant.2 in omega arith)

@@ -23,7 +23,7 @@ loop-i-preserved c =
     let h = arm_reads c.args.arms.now c.loop-i.i none c.loop-i-test.true in
     let m = map_more (λ (a : Arm). even a.next) c.args.arms.now c.loop-i.i (slice_index_or c.args.arms.now c.loop-i.i none) h in (
       subst (λ (z : List Spot). AreNamed c.args.found.now.items z c.come_to.new.found.items c.push.new.self.items) (sym m)
-      (named_push c.args.found.now.items _ c.loop-i.found.items c.come_to.new.found.items _ c.in_ok-n.n c.loop-i.row.items c.push.new.self.items i.0 e.adds e.at e.old e.fresh e.longer c.in_ok-push.ensures.items),
+          (named_push c.args.found.now.items _ c.loop-i.found.items c.come_to.new.found.items _ c.in_ok-n.n c.loop-i.row.items c.push.new.self.items i.0 e.adds e.at e.old e.fresh e.longer c.in_ok-push.ensures.items),
       e.few,
       e.placed,
       e.size ∙ i.3,

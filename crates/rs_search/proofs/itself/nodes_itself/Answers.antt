@@ -36,7 +36,7 @@ loop-alloc-preserved c =
     let h = reads_at c.loop-alloc.found.items (length c.loop-alloc.nodes.items) c.index.result.now c.index.result.now (grind arith) (sym (grind arith)) in
     let p = spot_in c.loop-alloc.found.items (length c.loop-alloc.nodes.items) c.index.result.now c.copy-position.result h c.copy-position.ensures in (
       made_on c.args.machine.now c.requires.proper c.loop-alloc.found.items c.nexts_of.new.found.items c.loop-alloc.nodes.items c.push.new.self.items c.copy-position.result c.in_ok-into_node.field-0 c.in_ok-next.next.items
-      i.0 p e.named c.in_ok-into_node.ensures c.in_ok-push.ensures.items,
+          i.0 p e.named c.in_ok-into_node.ensures c.in_ok-push.ensures.items,
       e.few,
       e.placed,
       e.size ∙ i.3,

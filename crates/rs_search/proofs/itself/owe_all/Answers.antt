@@ -26,7 +26,7 @@ loop-i-preserved c =
     let at' : slice_get c.push.new.self.items c.len-n.result ≡ Some (f b) = rw (p, l) (push_new c.loop-i.found.items (f b)) in
     let room : length c.push.new.self.items ≤ 65536 = (let a = i.1 in let ne = c.if-n-eq-MOST_CANDIDATES.false in grind arith) in (
       subst (λ (z : List Spot). AreNamed c.args.found.now.items z c.push.new.self.items c.push-in-loop-i.new.self.items) (sym m)
-      (named_push c.args.found.now.items (map f (take c.loop-i.i c.args.arms.now)) c.loop-i.found.items c.push.new.self.items (f b) c.len-n.result c.loop-i.row.items c.push-in-loop-i.new.self.items i.0 (inr (new, p)) at'
+          (named_push c.args.found.now.items (map f (take c.loop-i.i c.args.arms.now)) c.loop-i.found.items c.push.new.self.items (f b) c.len-n.result c.loop-i.row.items c.push-in-loop-i.new.self.items i.0 (inr (new, p)) at'
           (λ q. let s : length c.push.new.self.items ≡ length c.loop-i.found.items = ap (λ (z : List Spot). length z) q in let bad : ⊥ = omega arith in absurd bad) (λ q. l) (omega arith) c.in_ok-push-2.ensures.items),
       room,
       p ∙ ap (λ (z : List Spot). z ++ (f b ∷ [])) i.2 ∙ append_assoc c.args.found.now.items (map f (take c.loop-i.i c.args.arms.now)) (f b ∷ []) ∙ ap (λ (z : List Spot). c.args.found.now.items ++ z) (sym m),
