@@ -1,4 +1,5 @@
 pub mod Accepted
+pub mod Alike
 pub mod Assembled
 pub mod Choices
 pub mod Chosen
@@ -6,8 +7,10 @@ pub mod Costing
 pub mod Deciding
 pub mod Determined
 pub mod Discovering
+pub mod Forced
 pub mod Noding
 pub mod Removing
+pub mod Rising
 pub mod Rounds
 pub mod Same
 pub mod Small

@@ -5,6 +5,8 @@ ghost use Rattle.rs_search.specs.Canonical.{IsFound, Refuses};
 ghost use Rattle.rs_search.specs.Costs.{Costs, IsWithinCost};
 
 use crate::SearchFault;
+use crate::found::Fault;
+use crate::itself::search_itself;
 use crate::nodes::{kept_of, nodes_of};
 use crate::survey::explore;
 use rs_derive::Derivation;
@@ -27,6 +29,13 @@ pub fn search(
     ensures ok { IfOk result (λ d. IsFound sub.now above.now bound d) }
     ensures err { IfErr result (λ e. Refuses sub.now above.now bound e) }
 {
+    if bound > 0 && sub.same(above) {
+        match search_itself(alloc, sub, bound) {
+            Ok(derivation) => return Ok(derivation),
+            Err(Fault::Memory) => return Err(SearchFault::NoMemory),
+            Err(Fault::TooLarge) => {}
+        }
+    }
     search_by::<Brand>(alloc, sub, above, bound, Blank::new(1))
 }
 
