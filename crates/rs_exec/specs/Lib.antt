@@ -3,3 +3,4 @@ pub mod Data
 pub mod Tasks
 pub mod Players
 pub mod Polling
+pub mod Runs

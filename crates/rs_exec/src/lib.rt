@@ -4,10 +4,12 @@
 mod inline;
 pub mod laws;
 mod polling;
+mod runs;
 mod tasks;
 #[cfg(test)]
 mod tests;
 
 pub use inline::{ExecFault, run_inline};
 pub use polling::RoleFuture;
+pub use runs::Ran;
 pub use tasks::{RoleTask, Turn, Why};
