@@ -3,11 +3,16 @@
 
 mod inline;
 pub mod laws;
+mod members;
 mod polling;
+mod rounds;
+mod running;
+mod runs;
 mod tasks;
 #[cfg(test)]
 mod tests;
 
 pub use inline::{ExecFault, run_inline};
 pub use polling::RoleFuture;
+pub use runs::Ran;
 pub use tasks::{RoleTask, Turn, Why};
