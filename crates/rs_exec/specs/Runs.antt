@@ -37,6 +37,6 @@ pub record IsSessionOfRun {A : Type 0} (machines : List Machine_data) (b : Behav
   pub same_machines : closed.machines ≡ machines
   pub end : Configuration
   pub legal : IsLegal machines (history_in closed.last) end
-  pub few : (r : ℕ) → length (history_in closed.last r) ≤ limit
+  pub few : (r : ℕ) → r < length machines → length (history_in closed.last r) ≤ limit
   pub played : HavePlayed machines b (history_in closed.last) actors left
   pub comes_to : IsOutcomeOf machines limit (history_in closed.last) end ending
