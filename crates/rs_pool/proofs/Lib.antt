@@ -1,0 +1,9 @@
+mod Sums
+mod Known
+mod Acts
+mod Bounds
+mod Turned
+mod Lists
+mod Endings
+mod Beginnings
+mod Looks

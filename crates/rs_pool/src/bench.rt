@@ -1,0 +1,191 @@
+// The bench: a table with a word and a slot for each role, and one word more, the word of ends.
+ghost use Rattle.std.specs.Prelude.{◌≡◌, ◌⊎◌, ◌+◌, ◌<◌, ◌≤◌, [], ◌∷◌, true, false, Some, None, IfOk, IfErr, map, replicate, vec_len, vec_capacity};
+ghost use Rattle.rs_pool.specs.Calls.{Begun, Collected, HasClaimed, HasRead, Rests};
+ghost use Rattle.rs_pool.specs.Jobs.{Fits, Over};
+ghost use Rattle.rs_pool.specs.Rule.{IsAmount, alone, amount_in, counting, first_view, freed, joined, kept};
+
+use crate::jobs::Job;
+use crate::plays::{
+    BenchRule, Claim, CountEnd, GiveHome, JoinShares, ReadEnds, SplitShare, StartName,
+};
+use crate::vectors::put;
+use crate::views::{Key, View};
+use atomic_table::{Refused, Seat, Table};
+use rs_core::Actor;
+use std::alloc::Global;
+
+pub(crate) type Board<A, N> = Table<Option<Job<A>>, View, Key, BenchRule<A, N>, Global>;
+
+pub(crate) type Desk<A> = Seat<Option<Job<A>>, View>;
+
+/// The table, and for how many roles it is.
+pub(crate) struct Bench<A: Actor, N: StartName<A>> {
+    board: Board<A, N>,
+    pub(crate) roles: u8,
+    pub ghost keyed: { board.shared.key.roles ≡ roles },
+    pub ghost wide: { board.shared.table_id.words ≡ roles + 1 },
+}
+
+/// The word of a job that is at home.
+fn home_word(counted: bool) -> u64
+    ensures counted { counted ≡ true → result ≡ 2 }
+    ensures free { counted ≡ false → result ≡ 0 }
+{
+    if counted { 2 } else { 0 }
+}
+
+impl<A: Actor, N: StartName<A>> Bench<A, N> {
+    /// A bench with these jobs, and the first seat, which has a share for each worker and one more. The error hands the jobs back.
+    pub(crate) fn open(
+        alloc: Global,
+        words: &[u64],
+        slots: Vec<Option<Job<A>>>,
+        workers: u8,
+    ) -> Result<(Bench<A, N>, Desk<A>), Vec<Option<Job<A>>>>
+        requires few { vec_len slots ≤ 16 }
+        requires words { words.now ≡ replicate (vec_len slots + 1) 0 }
+        requires begun { Begun (Fits A.behaviour N.start) (vec_len slots) slots.items }
+        ensures table { IfOk result (λ t. t.1.table_id ≡ t.0.board.shared.table_id) }
+        ensures first { IfOk result (λ t. t.1.me ≡ (first_view (workers + 1), [])) }
+        ensures key { IfOk result (λ t. (t.0.roles ≡ vec_len slots) × (t.0.board.shared.key.shares ≡ workers + 1)) }
+        ensures back { IfErr result (λ back. back.items ≡ slots.items) }
+    {
+        let roles = slots.len() as u8;
+        let key = Key {
+            roles,
+            shares: workers as u32 + 1,
+        };
+        match Table::new(alloc, words, slots, &key) {
+            Ok((board, desk)) => Ok((Bench { board, roles }, desk)),
+            Err(Refused { slots }) => Err(slots),
+        }
+    }
+
+    /// Takes the role's job, if it is at home and its role isn't counted.
+    pub(crate) fn claim(&self, desk: &mut Desk<A>, role: u8) -> Option<Job<A>>
+        requires table { desk.old.table_id ≡ self.now.board.shared.table_id }
+        requires role { role < self.now.roles }
+        requires rests { (desk.old.me.0.held ≡ None) × (desk.old.me.1 ≡ []) × (0 < desk.old.me.0.shares) }
+        ensures table { desk.new.table_id ≡ desk.old.table_id }
+        ensures claimed { HasClaimed (Fits A.behaviour N.start role) role desk.old.me desk.new.me result }
+    {
+        let word = self
+            .board
+            .shared
+            .compare_exchange::<Claim<A, N>>(desk, role as usize, 0, 1);
+        if word != 0 {
+            return None;
+        }
+        match self.board.shared.exchange(desk, role as usize, None) {
+            Some(job) => Some(job),
+            None => unreachable!(),
+        }
+    }
+
+    /// Gives the role's job home, and tells the others whether its role was counted.
+    pub(crate) fn give_back(&self, desk: &mut Desk<A>, role: u8, job: Job<A>, counted: bool)
+        requires table { desk.old.table_id ≡ self.now.board.shared.table_id }
+        requires role { role < self.now.roles }
+        requires holds { (desk.old.me.0.held ≡ Some role) × (desk.old.me.1 ≡ (role, None) ∷ []) }
+        requires fits { Fits A.behaviour N.start role job }
+        requires over { Over (amount_in role desk.old.me.0.counted) job }
+        requires counted { (counted ≡ false → amount_in role desk.old.me.0.counted ≡ 0) × (counted ≡ true → 0 < amount_in role desk.old.me.0.counted) }
+        ensures table { desk.new.table_id ≡ desk.old.table_id }
+        ensures given { desk.new.me ≡ (freed desk.old.me.0, []) }
+    {
+        match self.board.shared.exchange(desk, role as usize, Some(job)) {
+            None => {}
+            Some(_) => unreachable!(),
+        }
+        self.board
+            .shared
+            .store::<GiveHome>(desk, role as usize, home_word(counted));
+    }
+
+    /// Counts the role whose job the seat has.
+    pub(crate) fn count_end(&self, desk: &mut Desk<A>, role: u8, amount: u64)
+        requires table { desk.old.table_id ≡ self.now.board.shared.table_id }
+        requires holds { desk.old.me.0.held ≡ Some role }
+        requires once { amount_in role desk.old.me.0.counted ≡ 0 }
+        requires amount { (amount ≡ 1) ⊎ (amount ≡ 16) }
+        ensures table { desk.new.table_id ≡ desk.old.table_id }
+        ensures counted { desk.new.me ≡ (counting role amount desk.old.me.0, desk.old.me.1) }
+    {
+        self.board
+            .shared
+            .fetch_add::<CountEnd>(desk, self.roles as usize, amount);
+    }
+
+    /// Whether as much was counted as there are roles: then all have ended, or one has stopped.
+    pub(crate) fn all_counted(&self, desk: &mut Desk<A>) -> bool
+        requires table { desk.old.table_id ≡ self.now.board.shared.table_id }
+        ensures table { desk.new.table_id ≡ desk.old.table_id }
+        ensures read { HasRead self.now.roles desk.old.me desk.new.me result }
+    {
+        let word = self
+            .board
+            .shared
+            .load::<ReadEnds>(desk, self.roles as usize);
+        word >= self.roles as u64
+    }
+
+    /// A new seat, with one share.
+    pub(crate) fn split(&self, desk: &mut Desk<A>) -> Desk<A>
+        requires table { desk.old.table_id ≡ self.now.board.shared.table_id }
+        requires shares { 2 ≤ desk.old.me.0.shares }
+        ensures tables { (desk.new.table_id ≡ desk.old.table_id) × (result.table_id ≡ desk.old.table_id) }
+        ensures old { desk.new.me ≡ (kept desk.old.me.0, desk.old.me.1) }
+        ensures new { result.me ≡ (alone desk.old.me.0, []) }
+    {
+        self.board.shared.split_seat::<SplitShare>(desk)
+    }
+
+    /// The other seat's shares come to this one.
+    pub(crate) fn join(&self, desk: &mut Desk<A>, other: Desk<A>)
+        requires table { (desk.old.table_id ≡ self.now.board.shared.table_id) × (other.table_id ≡ self.now.board.shared.table_id) }
+        requires rests { (other.me.0.held ≡ None) × (other.me.1 ≡ []) }
+        ensures table { desk.new.table_id ≡ desk.old.table_id }
+        ensures both { desk.new.me ≡ (joined desk.old.me.0 other.me.0, desk.old.me.1) }
+    {
+        self.board.shared.join_seat::<JoinShares>(desk, other);
+    }
+
+    /// Counts the role whose job the seat has, where there is something to count, and gives the job home.
+    pub(crate) fn settle(&self, desk: &mut Desk<A>, role: u8, job: Job<A>, amount: u64)
+        requires table { desk.old.table_id ≡ self.now.board.shared.table_id }
+        requires role { role < self.now.roles }
+        requires holds { (desk.old.me.0.held ≡ Some role) × (desk.old.me.1 ≡ (role, None) ∷ []) }
+        requires once { amount_in role desk.old.me.0.counted ≡ 0 }
+        requires fits { Fits A.behaviour N.start role job }
+        requires over { IsAmount amount × Over amount job }
+        ensures table { desk.new.table_id ≡ desk.old.table_id }
+        ensures rests { Rests desk.old.me.0.shares desk.new.me }
+    {
+        if amount > 0 {
+            self.count_end(desk, role, amount);
+        }
+        self.give_back(desk, role, job, amount > 0);
+    }
+
+    /// Takes each job out once, in role order, into the empty list, which has room for them. The seat has all shares.
+    pub(crate) fn collect(self, main: Desk<A>, mut jobs: Vec<Job<A>>) -> Vec<Job<A>>
+        requires table { main.table_id ≡ self.board.shared.table_id }
+        requires main { Rests self.board.shared.key.shares main.me }
+        requires over { self.roles ≤ main.me.0.seen }
+        requires room { (jobs.items ≡ []) × (self.roles ≤ vec_capacity jobs) }
+        ensures collected { Collected (Fits A.behaviour N.start) Over self.roles result.items }
+    {
+        let Bench { board, roles: _ } = self;
+        let mut closed = board.close_with(main);
+        let mut i = 0;
+        while i < closed.slot_count() {
+            match closed.take(i) {
+                Some(job) => put(&mut jobs, job),
+                None => unreachable!(),
+            }
+            i += 1;
+        }
+        closed.free();
+        jobs
+    }
+}

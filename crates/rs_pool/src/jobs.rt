@@ -1,0 +1,87 @@
+// Jobs: the tasks that lie on the bench.
+ghost use Rattle.std.specs.Prelude.{◌≡◌, true};
+ghost use Rattle.rs_exec.specs.Tasks.{IsTaskOf, TurnTells};
+ghost use Rattle.rs_pool.specs.Jobs.{amount_of, is_same, progress_after};
+
+use rs_core::Actor;
+use rs_exec::{RoleTask, Turn};
+use rs_session::Session;
+use std::alloc::Global;
+
+/// How far a task had come when it made its last turn.
+#[derive(Clone, Copy)]
+pub(crate) enum Progress {
+    /// It goes on, or has made no turn.
+    Underway,
+    /// Its role has ended.
+    Ended,
+    /// It has made as many acts as the limit, and hasn't ended.
+    AtLimit,
+    /// Memory was refused to its actor.
+    Refused,
+}
+
+/// A role's task, and how far it has come. It must be spent.
+pub(crate) struct Job<A: Drop> {
+    pub(crate) task: RoleTask<A>,
+    pub(crate) progress: Progress,
+}
+
+impl<A: Actor> Job<A> {
+    /// One turn of its task.
+    pub(crate) fn turn(&mut self, alloc: Global, session: &Session) -> Turn
+        requires of { IsTaskOf session.now self.old.task }
+        ensures of { IsTaskOf session.now self.new.task }
+        ensures tells { TurnTells session.now A.behaviour self.old.task self.new.task result }
+        ensures progress { self.new.progress ≡ progress_after result }
+    {
+        let turn = self.task.turn(alloc, session);
+        self.progress = progress_after(&turn);
+        turn
+    }
+}
+
+fn progress_after(turn: &Turn) -> Progress
+    ensures { result ≡ progress_after turn.now }
+{
+    match turn {
+        Turn::Moved => Progress::Underway,
+        Turn::Waits(_) => Progress::Underway,
+        Turn::Ended => Progress::Ended,
+        Turn::AtLimit => Progress::AtLimit,
+        Turn::NoMemory => Progress::Refused,
+    }
+}
+
+/// Whether a turn changed something.
+pub(crate) fn moves(turn: &Turn) -> bool {
+    match turn {
+        Turn::Waits(_) => false,
+        _ => true,
+    }
+}
+
+/// What is counted for a job.
+pub(crate) fn amount_of(progress: Progress) -> u64
+    ensures { result ≡ amount_of progress }
+{
+    match progress {
+        Progress::Underway => 0,
+        Progress::Ended => 1,
+        Progress::AtLimit => 16,
+        Progress::Refused => 16,
+    }
+}
+
+/// Whether two are the same.
+pub(crate) fn is_same(one: Progress, other: Progress) -> bool
+    ensures { result ≡ is_same one other }
+{
+    match (one, other) {
+        (Progress::Underway, Progress::Underway) => true,
+        (Progress::Ended, Progress::Ended) => true,
+        (Progress::AtLimit, Progress::AtLimit) => true,
+        (Progress::Refused, Progress::Refused) => true,
+        _ => false,
+    }
+}

@@ -1,0 +1,15 @@
+//! Runs of accepted sessions by several workers. The tasks of a session lie on a bench, an atomic table; each worker is a thread
+//! that takes a task, makes one turn with it, and gives it back, until all have ended or one has stopped.
+#![tactic(auto)]
+
+mod bench;
+mod gates;
+mod jobs;
+mod plays;
+mod pool;
+mod vectors;
+mod views;
+mod workers;
+
+pub use gates::{Gate, NoGate};
+pub use pool::run_pool;

@@ -1,0 +1,94 @@
+// The rule of the bench's table, and its kinds of step.
+use crate::jobs::Job;
+use crate::views::{Key, View};
+use atomic_table::{Join, Play, Split, TableRule};
+use rs_core::Actor;
+use std::marker::{Brand, PhantomData};
+
+/// What all jobs began with: the session, the limit and the actors that were given. They are there for the proof alone.
+pub(crate) trait StartName<A> {
+    ghost use Rattle.rs_pool.specs.Jobs.{Start};
+
+    ghost start: { Start A };
+}
+
+impl<A> StartName<A> for Brand {
+    ghost use Rattle.std.specs.Prelude.{[]};
+
+    ghost start = { record { session = record { table = record { words = 0; slots = 0; views_name = 0; atom = 0; block = 0; offset = 0; slot_names = [] }; roles = 0; capacity = 0; machines = [] }; limit = 0; given = [] } };
+}
+
+/// What holds between any two steps.
+pub(crate) struct BenchRule<A: Actor, N: StartName<A>> {
+    name: PhantomData<(A, N)>,
+}
+
+impl<A: Actor, N: StartName<A>> TableRule<Option<Job<A>>, View, Key> for BenchRule<A, N> {
+    ghost use Rattle.rs_pool.specs.Rule.{Shows, first_view};
+    ghost use Rattle.rs_pool.specs.Jobs.{Fits, Over};
+
+    ghost holds = { λ key s. Shows (Fits A.behaviour N.start) Over key.roles key.shares s };
+
+    ghost first = { λ key. first_view key.shares };
+}
+
+/// A compare_exchange from 0 to 1 on a role's word.
+pub(crate) struct Claim<A: Actor, N: StartName<A>> {
+    name: PhantomData<(A, N)>,
+}
+
+impl<A: Actor, N: StartName<A>> Play<Option<Job<A>>, View> for Claim<A, N> {
+    ghost use Rattle.rs_pool.specs.Plays.{ClaimTells};
+    ghost use Rattle.rs_pool.specs.Jobs.{Fits};
+
+    ghost then = { ClaimTells (Fits A.behaviour N.start) };
+}
+
+/// A store on a role's word.
+pub(crate) struct GiveHome;
+
+impl<A: Actor> Play<Option<Job<A>>, View> for GiveHome {
+    ghost use Rattle.rs_pool.specs.Plays.{GiveTells};
+
+    ghost then = { GiveTells };
+}
+
+/// A fetch_add on the word of ends.
+pub(crate) struct CountEnd;
+
+impl<A: Actor> Play<Option<Job<A>>, View> for CountEnd {
+    ghost use Rattle.rs_pool.specs.Plays.{CountTells};
+
+    ghost then = { CountTells };
+}
+
+/// A load of the word of ends.
+pub(crate) struct ReadEnds;
+
+impl<A: Actor> Play<Option<Job<A>>, View> for ReadEnds {
+    ghost use Rattle.rs_pool.specs.Plays.{ReadTells};
+
+    ghost then = { ReadTells };
+}
+
+/// A view gives a share to a new view.
+pub(crate) struct SplitShare;
+
+impl Split<View> for SplitShare {
+    ghost use Rattle.rs_pool.specs.Rule.{kept, alone};
+
+    ghost left = { kept };
+
+    ghost right = { alone };
+}
+
+/// A view takes in another.
+pub(crate) struct JoinShares;
+
+impl Join<View> for JoinShares {
+    ghost use Rattle.rs_pool.specs.Rule.{joined, spent_view};
+
+    ghost both = { joined };
+
+    ghost spent = { spent_view };
+}

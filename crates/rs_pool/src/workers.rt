@@ -1,0 +1,181 @@
+// The workers at the bench.
+ghost use Rattle.std.specs.Prelude.{◌≡◌, ◌+◌, ◌<◌, ◌≤◌, [], All, vec_len, vec_capacity};
+ghost use Rattle.rs_pool.specs.Calls.{Left, Ready, Rests};
+
+use crate::bench::{Bench, Desk};
+use crate::gates::Gate;
+use crate::jobs::{amount_of, moves};
+use crate::plays::StartName;
+use crossbeam_utils::Backoff;
+use rs_core::Actor;
+use rs_model::Role;
+use rs_session::Session;
+use std::alloc::Global;
+use std::sync::Wait;
+use std::thread;
+use std::thread::Threads;
+
+/// A worker's number and its seat.
+#[derive(Drop)]
+pub(crate) struct Chair<A: Actor> {
+    pub(crate) worker: u8,
+    pub(crate) desk: Desk<A>,
+}
+
+impl<A: Actor, N: StartName<A>> Bench<A, N> {
+    /// One turn of the role's task, if it can be taken; whether something moved.
+    fn serve<G: Gate>(
+        &self,
+        session: &Session,
+        gate: &G,
+        alloc: Global,
+        worker: u8,
+        desk: &mut Desk<A>,
+        role: u8,
+    ) -> bool
+        requires session { session.now ≡ N.start.session }
+        requires table { desk.old.table_id ≡ self.now.board.shared.table_id }
+        requires role { role < self.now.roles }
+        requires rests { Rests 1 desk.old.me }
+        ensures table { desk.new.table_id ≡ desk.old.table_id }
+        ensures rests { Rests 1 desk.new.me }
+    {
+        match self.claim(desk, role) {
+            None => false,
+            Some(mut job) => {
+                gate.before_turn(worker, Role(role));
+                let turn = job.turn(alloc, session);
+                gate.after_turn(worker, Role(role));
+                let amount = amount_of(job.progress);
+                self.settle(desk, role, job, amount);
+                moves(&turn)
+            }
+        }
+    }
+
+    /// Each role once; whether something moved.
+    fn round<G: Gate>(
+        &self,
+        session: &Session,
+        gate: &G,
+        alloc: Global,
+        worker: u8,
+        desk: &mut Desk<A>,
+    ) -> bool
+        requires session { session.now ≡ N.start.session }
+        requires table { desk.old.table_id ≡ self.now.board.shared.table_id }
+        requires rests { Rests 1 desk.old.me }
+        ensures table { desk.new.table_id ≡ desk.old.table_id }
+        ensures rests { Rests 1 desk.new.me }
+    {
+        let mut moved = false;
+        for role in 0..self.roles {
+            if self.serve(session, gate, alloc, worker, desk, role) {
+                moved = true;
+            }
+        }
+        moved
+    }
+
+    /// Rounds until as much is counted as there are roles. Where nothing moved in a round the worker pauses.
+    fn work<R: Wait, G: Gate>(
+        &self,
+        rt: &R,
+        session: &Session,
+        gate: &G,
+        alloc: Global,
+        worker: u8,
+        desk: &mut Desk<A>,
+    )
+        requires session { session.now ≡ N.start.session }
+        requires table { desk.old.table_id ≡ self.now.board.shared.table_id }
+        requires rests { Rests 1 desk.old.me }
+        ensures table { desk.new.table_id ≡ desk.old.table_id }
+        ensures rests { Rests 1 desk.new.me }
+        ensures over { self.now.roles ≤ desk.new.me.0.seen }
+    {
+        let backoff = Backoff::new();
+        for _ in rt.forever() {
+            if self.all_counted(desk) {
+                return;
+            }
+            if self.round(session, gate, alloc, worker, desk) {
+                backoff.reset();
+            } else {
+                backoff.snooze();
+            }
+        }
+        unreachable!()
+    }
+
+    /// A seat for each worker, in the empty list, which has room for them.
+    pub(crate) fn seat_workers(
+        &self,
+        main: &mut Desk<A>,
+        mut chairs: Vec<Chair<A>>,
+        workers: u8,
+    ) -> Vec<Chair<A>>
+        requires table { main.old.table_id ≡ self.now.board.shared.table_id }
+        requires main { Rests (workers + 1) main.old.me }
+        requires room { (chairs.items ≡ []) × (workers ≤ vec_capacity chairs) }
+        ensures table { main.new.table_id ≡ main.old.table_id }
+        ensures main { Rests 1 main.new.me }
+        ensures count { vec_len result ≡ workers }
+        ensures ready { All (Ready self.now.board.shared.table_id) result.items }
+    {
+        for worker in 0..workers {
+            let desk = self.split(main);
+            chairs.push(Chair { worker, desk }).unwrap();
+        }
+        chairs
+    }
+
+    /// The workers' seats come back.
+    pub(crate) fn gather(&self, main: &mut Desk<A>, mut chairs: Vec<Chair<A>>)
+        requires table { main.old.table_id ≡ self.now.board.shared.table_id }
+        requires main { Rests 1 main.old.me }
+        requires some { 0 < vec_len chairs }
+        requires left { All (Left self.now.board.shared.table_id self.now.roles) chairs.items }
+        ensures table { main.new.table_id ≡ main.old.table_id }
+        ensures main { Rests (vec_len chairs + 1) main.new.me }
+        ensures over { self.now.roles ≤ main.new.me.0.seen }
+    {
+        while let Some(chair) = chairs.pop() {
+            let Chair { worker: _, desk } = chair;
+            self.join(main, desk);
+        }
+    }
+}
+
+/// All workers at work, each in a thread of its own.
+pub(crate) fn run_all<
+    R: Threads + Wait + Sync,
+    A: Actor + Send,
+    N: StartName<A> + Send + Sync,
+    G: Gate + Sync,
+>(
+    rt: &R,
+    bench: &Bench<A, N>,
+    session: &Session,
+    gate: &G,
+    alloc: Global,
+    mut chairs: Vec<Chair<A>>,
+    workers: u8,
+) -> Vec<Chair<A>>
+    requires session { session.now ≡ N.start.session }
+    requires workers { 0 < workers }
+    requires ready { All (Ready bench.now.board.shared.table_id) chairs.items }
+    ensures count { vec_len result ≡ vec_len chairs }
+    ensures left { All (Left bench.now.board.shared.table_id bench.now.roles) result.items }
+{
+    thread::for_each_mut(
+        rt,
+        chairs.as_mut_slice(),
+        workers as usize,
+        &|_: usize, chair: &mut Chair<A>|
+            requires { (session.now ≡ N.start.session) × Ready bench.now.board.shared.table_id chair.now }
+            ensures { Left bench.entry.now.board.shared.table_id bench.entry.now.roles chair.exit.now }
+        { bench.work(rt, session, gate, alloc, chair.worker, &mut chair.desk) },
+    );
+    chairs
+}
