@@ -32,12 +32,13 @@ use Rattle.rs_graph.specs.Lists.{Among, Names, Once, concat}
 use Rattle.rs_graph.specs.Ranks.{Edge}
 use Rattle.rs_graph.specs.Walks.{Walk, Here, Further, IsRank}
 use Rattle.rs_search.proofs.Assembled.{length-map, map-at, map-of, none-ranks}
-use Rattle.rs_search.proofs.Forced.{IsForced, forced_found, place_is, places_length, places_of}
+use Rattle.rs_search.proofs.Forced.{IsForced, forced_found}
+use Rattle.rs_search.proofs.Places.{place_is, places_length}
 use Rattle.rs_search.proofs.Turning.{followed_is}
 use Rattle.rs_search.specs.Candidates.{begin}
 use Rattle.rs_search.specs.Canonical.{IsFound}
 use Rattle.rs_search.specs.Itself.{AreNamed, ArePlaced, IsOfItself, Even, Owes, even, even_nexts, nexts_itself, onward}
-use Rattle.rs_search.specs.Nodes.{AreKept, AreNodes, node_of}
+use Rattle.rs_search.specs.Nodes.{AreKept, AreNodes, node_of, places_of}
 use Rattle.rs_search.specs.Turns.{Turn_data, cut_at, is_keeping, nexts_within, no_turn, owes_more, turn_of, turn_within}
 
 among-either : (xs ys : List Spot) (x : Spot) → Among (xs ++ ys) x → Among xs x ⊎ Among ys x

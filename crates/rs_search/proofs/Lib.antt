@@ -9,6 +9,7 @@ pub mod Determined
 pub mod Discovering
 pub mod Forced
 pub mod Noding
+pub mod Places
 pub mod Removing
 pub mod Rising
 pub mod Rounds

@@ -8,7 +8,7 @@ ghost use Rattle.rs_search.specs.Candidates.{begin};
 ghost use Rattle.rs_graph.specs.Discovery.{Adds, Filed, Grown, IsDiscovery, MoreThan, Numbered};
 ghost use Rattle.rs_graph.specs.Lists.{Among, Names};
 ghost use Rattle.rs_search.specs.Turns.{nexts_within, turn_within};
-ghost use Rattle.rs_search.specs.Turns.{is_any, is_cut, is_keeping};
+ghost use Rattle.rs_search.specs.Turns.{is_any, is_choosing, is_cut, is_keeping};
 ghost use Rattle.rs_search.specs.declared.found.Fault.TheVariants.{TooLarge, Memory};
 
 use crate::turns::{Point, turn_within};
@@ -53,8 +53,8 @@ impl From<NoMemory> for Fault {
     }
 }
 
-/// The candidates, and of each the numbers of what it leads to, whether it may choose among them, and whether some
-/// candidate meets a cut.
+/// The candidates, and of each the numbers of what it leads to, whether it may choose among them, whether some
+/// candidate meets a cut, and whether some one chooses.
 #[derive(Drop, Debug)]
 pub struct Candidates {
     pub points: Vec<Point>,
@@ -62,6 +62,7 @@ pub struct Candidates {
     pub anys: Vec<bool>,
     pub keeps: Vec<bool>,
     pub cut: bool,
+    pub choosing: bool,
 }
 
 fn act_code(act: Act) -> u64
@@ -239,6 +240,7 @@ pub fn find_all(
     ensures anys { IfOk result (λ d. d.anys.items ≡ map (is_any sub.now above.now bound) d.points.items) }
     ensures keeps { IfOk result (λ d. d.keeps.items ≡ map (is_keeping sub.now above.now bound) d.points.items) }
     ensures cut { IfOk result (λ d. d.cut ≡ list_any (is_cut sub.now above.now bound) d.points.items) }
+    ensures choosing { IfOk result (λ d. d.choosing ≡ list_any (is_choosing sub.now above.now bound) d.points.items) }
     ensures large { IfErr result (λ e. e ≡ TooLarge → MoreThan limit (nexts_within sub.now above.now bound) (begin sub.now above.now)) }
 {
     let start = start_of(alloc, sub, above);
@@ -250,6 +252,7 @@ pub fn find_all(
     let mut anys = Vec::new(alloc);
     let mut keeps = Vec::new(alloc);
     let mut cut = false;
+    let mut choosing = false;
     while rows.len() < points.len() {
         let turn = turn_within(alloc, sub, above, bound, &points[rows.len()])?;
         let row = match name_all(
@@ -265,6 +268,7 @@ pub fn find_all(
         anys.push(turn.any)?;
         keeps.push(turn.keeps)?;
         cut = either(cut, turn.cut);
+        choosing = either(choosing, turn.has_choice());
         rows.push(row)?;
     }
     Ok(Candidates {
@@ -273,5 +277,6 @@ pub fn find_all(
         anys,
         keeps,
         cut,
+        choosing,
     })
 }

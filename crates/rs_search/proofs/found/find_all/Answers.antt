@@ -4,7 +4,7 @@ use Rattle.rs_derive.specs.Moves.{Spot}
 use Rattle.rs_search.specs.Buckets.{bucket_of}
 use Rattle.rs_search.specs.Candidates.{begin}
 use Rattle.rs_graph.specs.Discovery.{Grown, Filed}
-use Rattle.rs_search.specs.Turns.{is_any, is_cut, is_keeping}
+use Rattle.rs_search.specs.Turns.{has_choice, is_any, is_choosing, is_cut, is_keeping}
 use Rattle.rs_graph.specs.Lists.{Names}
 use Rattle.rs_search.specs.Turns.{Turn_data, nexts_within}
 use Rattle.rs_graph.proofs.Buckets.{filed_none}
@@ -21,7 +21,7 @@ loop-alloc-init c =
     let f = c.in_ok-file.ensures.filed [] refl (filed_none (bucket_of (length c.in_ok-buckets.buckets.items)) c.in_ok-buckets.buckets.items c.bucket_count.result c.in_ok-buckets.ensures.ok) in
     let s = c.in_ok-file.ensures.size in
     let f' : Filed (bucket_of (length c.file.new.buckets.items)) (begin c.args.sub.now c.args.above.now ∷ []) c.file.new.buckets.items = subst (λ (w : ℕ). Filed (bucket_of w) (begin c.args.sub.now c.args.above.now ∷ []) c.file.new.buckets.items) (sym s) (rw (← c.start_of-start.ensures) f) in
-    rw (e, c.new-rows.ensures.items, c.new-anys.ensures.items, c.new-keeps.ensures.items) (growing_begin (nexts_within c.args.sub.now c.args.above.now c.args.bound) (begin c.args.sub.now c.args.above.now), c.requires.some, ((let b = c.bucket_count.ensures.some in omega arith), (let b = c.bucket_count.ensures.few in omega arith)), f', refl, refl, refl, λ n. omega arith)
+    rw (e, c.new-rows.ensures.items, c.new-anys.ensures.items, c.new-keeps.ensures.items) (growing_begin (nexts_within c.args.sub.now c.args.above.now c.args.bound) (begin c.args.sub.now c.args.above.now), c.requires.some, ((let b = c.bucket_count.ensures.some in omega arith), (let b = c.bucket_count.ensures.few in omega arith)), f', refl, refl, refl, refl, λ n. omega arith)
 
 pub loop-alloc-preserved : goal.loop-alloc-preserved
 loop-alloc-preserved c =
@@ -38,10 +38,11 @@ loop-alloc-preserved c =
       map_next (is_any c.args.sub.now c.args.above.now c.args.bound) c.loop-alloc.points.items c.name_all.new.found.items (length c.loop-alloc.rows.items) (length c.push-in-loop-alloc-3.new.self.items) c.index.result.now c.loop-alloc.anys.items c.push-in-loop-alloc.new.self.items c.turn.inside.any gr.kept h m i.4 (ap (λ (t : Turn_data). t.any) (c.turn.view_is ∙ c.in_ok-turn.ensures.turn)) c.in_ok-push-2.ensures.items,
       map_next (is_keeping c.args.sub.now c.args.above.now c.args.bound) c.loop-alloc.points.items c.name_all.new.found.items (length c.loop-alloc.rows.items) (length c.push-in-loop-alloc-3.new.self.items) c.index.result.now c.loop-alloc.keeps.items c.push-in-loop-alloc-2.new.self.items c.turn.inside.keeps gr.kept h m i.5 (ap (λ (t : Turn_data). t.keeps) (c.turn.view_is ∙ c.in_ok-turn.ensures.turn)) c.in_ok-push-3.ensures.items,
       any_next (is_cut c.args.sub.now c.args.above.now c.args.bound) c.loop-alloc.points.items c.name_all.new.found.items (length c.loop-alloc.rows.items) (length c.push-in-loop-alloc-3.new.self.items) c.index.result.now c.loop-alloc.cut c.turn.inside.cut c.either-cut.result gr.kept h m i.6 (ap (λ (t : Turn_data). t.cut) (c.turn.view_is ∙ c.in_ok-turn.ensures.turn)) c.either-cut.ensures,
+      any_next (is_choosing c.args.sub.now c.args.above.now c.args.bound) c.loop-alloc.points.items c.name_all.new.found.items (length c.loop-alloc.rows.items) (length c.push-in-loop-alloc-3.new.self.items) c.index.result.now c.loop-alloc.choosing c.has_choice.result c.either-choosing.result gr.kept h m i.7 (c.has_choice.ensures ∙ ap has_choice c.in_ok-turn.ensures.turn) c.either-choosing.ensures,
       rw c.in_ok-push-4.ensures.items (rows_short c.loop-alloc.rows.items c.in-Ok.row 65536
           (let l = names_length c.name_all.new.found.items c.in-Ok.row c.as_slice.result.now c.in-Ok.ensures.names in
           let s : length c.as_slice.result.now ≡ length c.in_ok-turn.turn.spots = ap (λ (z : List Spot). length z) (c.as_slice.ensures.value ∙ ap (λ (t : Turn_data). t.spots) c.turn.view_is) in
-          let f = c.in_ok-turn.ensures.few in omega arith) i.7),
+          let f = c.in_ok-turn.ensures.few in omega arith) i.8),
     )
 
 pub returns-in-Err-clause-large : goal.returns-in-Err-clause-large

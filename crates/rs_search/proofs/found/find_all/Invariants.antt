@@ -3,7 +3,7 @@ use Rattle.std.specs.List.{list_any}
 use Rattle.rs_search.specs.Buckets.{bucket_of}
 use Rattle.rs_search.specs.Candidates.{begin}
 use Rattle.rs_graph.specs.Discovery.{Growing, Filed}
-use Rattle.rs_search.specs.Turns.{is_any, is_cut, is_keeping}
+use Rattle.rs_search.specs.Turns.{is_any, is_choosing, is_cut, is_keeping}
 use Rattle.rs_search.specs.Turns.{nexts_within}
 use Rattle.rs_search.proofs.found.find_all.Given as goal
 
@@ -13,6 +13,7 @@ invariant-loop-alloc l = Growing (nexts_within l.sub l.above l.bound) (begin l.s
     × (l.anys.items ≡ map (is_any l.sub l.above l.bound) (take (length l.rows.items) l.points.items))
     × (l.keeps.items ≡ map (is_keeping l.sub l.above l.bound) (take (length l.rows.items) l.points.items))
     × (l.cut ≡ list_any (is_cut l.sub l.above l.bound) (take (length l.rows.items) l.points.items))
+    × (l.choosing ≡ list_any (is_choosing l.sub l.above l.bound) (take (length l.rows.items) l.points.items))
     × ((n : ℕ) → length (slice_index_or l.rows.items n []) ≤ 2 ^ 16)
 
 abbrev pub decreases-loop-alloc : goal.decreases-loop-alloc
