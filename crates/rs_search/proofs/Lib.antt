@@ -2,6 +2,7 @@ pub mod Accepted
 pub mod Alike
 pub mod Assembled
 pub mod Choices
+pub mod Chains
 pub mod Chosen
 pub mod Costing
 pub mod Deciding
