@@ -32,12 +32,13 @@ use Rattle.rs_graph.specs.Lists.{Among, Names, Once, concat}
 use Rattle.rs_graph.specs.Ranks.{Edge}
 use Rattle.rs_graph.specs.Walks.{Walk, Here, Further, IsRank}
 use Rattle.rs_search.proofs.Assembled.{length-map, map-at, map-of, none-ranks}
-use Rattle.rs_search.proofs.Forced.{IsForced, forced_found, place_is, places_length, places_of}
+use Rattle.rs_search.proofs.Forced.{IsForced, forced_found}
+use Rattle.rs_search.proofs.Places.{place_is, places_length}
 use Rattle.rs_search.proofs.Turning.{followed_is}
 use Rattle.rs_search.specs.Candidates.{begin}
 use Rattle.rs_search.specs.Canonical.{IsFound}
 use Rattle.rs_search.specs.Itself.{AreNamed, ArePlaced, IsOfItself, Even, Owes, even, even_nexts, nexts_itself, onward}
-use Rattle.rs_search.specs.Nodes.{AreKept, AreNodes, node_of}
+use Rattle.rs_search.specs.Nodes.{AreKept, AreNodes, node_of, places_of}
 use Rattle.rs_search.specs.Turns.{Turn_data, cut_at, is_keeping, nexts_within, no_turn, owes_more, turn_of, turn_within}
 
 among-either : (xs ys : List Spot) (x : Spot) → Among (xs ++ ys) x → Among xs x ⊎ Among ys x
@@ -305,6 +306,25 @@ named_push old ys cur new y n row row' a adds at' known fresh longer er =
       names = subst (λ (z : List Spot). Names new (row ++ (n ∷ [])) z) all k.0;
       numbered = k.1;
       longer = (let o = a.longer in omega arith);
+    }
+
+pub among_all : (ys : List Spot) (y : Spot) (all : List Spot) → ((x : Spot) → Among ys x → Among all x) → Among all y → (x : Spot) → Among (ys ++ (y ∷ [])) x → Among all x
+among_all ys y all h one x m = elim (among-either ys (y ∷ []) x m) [
+  | inl a ↦ h x a
+  | inr a ↦ elim a [ inl e ↦ subst (λ (z : Spot). Among all z) e one | inr k ↦ absurd k ]
+]
+
+-- what grew by some of the spots grew by no others
+pub grown_all_of : (old ys cur new : List Spot) (y : Spot) (all : List Spot) → Grown old ys cur → Adds cur y new → ((x : Spot) → Among ys x → Among all x) → Among all y → Grown old all new
+grown_all_of old ys cur new y all g adds h one =
+    let ys' : List Spot = ys ++ (y ∷ []) in
+    let l = length-append ys (y ∷ []) in
+    let whole : take (length ys + 1) ys' ≡ ys' = take_all (length ys + 1) ys' (omega arith) in
+    let more = subst (λ (z : List Spot). Grown old z new) whole (grown_on old ys' cur (length ys) y new (push_new ys y) (subst (λ (z : List Spot). Grown old z cur) (sym (take-front ys y)) g) adds) in
+    record {
+      once = more.once;
+      only = λ n x e. elim (more.only n x e) [ inl a ↦ inl a | inr a ↦ inr (among_all ys y all h one x a) ];
+      kept = more.kept;
     }
 
 -- arms, one by one

@@ -19,36 +19,13 @@ use Rattle.rs_graph.specs.Removal.{IsRemoval, Leads, at, moves_at}
 use Rattle.rs_graph.specs.Walks.{IsRank}
 use Rattle.rs_search.proofs.Assembled.{is_found}
 use Rattle.rs_search.proofs.Deciding.{graph_outs, graph_pictures, graph_within, outs-at, row_at}
+use Rattle.rs_search.proofs.Places.{place_at, place_is, places_length}
 use Rattle.rs_search.proofs.Verdicts.{names_length, rows_within}
 use Rattle.rs_graph.proofs.Buckets.{got}
 use Rattle.rs_search.specs.Candidates.{begin}
 use Rattle.rs_search.specs.Canonical.{IsFound}
-use Rattle.rs_search.specs.Nodes.{AreKept, AreNodes}
+use Rattle.rs_search.specs.Nodes.{AreKept, AreNodes, places_of}
 use Rattle.rs_search.specs.Turns.{is_any, is_keeping, nexts_within}
-
--- the numbers from k on, one for each item
-abbrev pub places_of : {X : Type 0} → ℕ → List X → List ℕ
-places_of k [] = []
-places_of k (x ∷ xs) = k ∷ places_of (suc k) xs
-
-pub places_length : {X : Type 0} (k : ℕ) (xs : List X) → length (places_of k xs) ≡ length xs
-places_length k [] = refl
-places_length k (x ∷ xs) = ap suc (places_length (suc k) xs)
-
-places-from : {X : Type 0} (k : ℕ) (xs : List X) (i : ℕ) → i < length xs → slice_get (places_of k xs) i ≡ Some (k + i)
-places-from k [] i h = let bad : ⊥ = omega arith in absurd bad
-places-from k (x ∷ xs) zero h = let e : k ≡ k + 0 = omega arith in ap (λ (z : ℕ). Some z) e
-places-from k (x ∷ xs) (suc i) h = let e : suc k + i ≡ k + suc i = omega arith in places-from (suc k) xs i (omega arith) ∙ ap (λ (z : ℕ). Some z) e
-
--- each number stands at its own place
-pub place_at : {X : Type 0} (xs : List X) (i : ℕ) → i < length xs → slice_get (places_of 0 xs) i ≡ Some i
-place_at xs i h = let e : 0 + i ≡ i = omega arith in places-from 0 xs i h ∙ ap (λ (z : ℕ). Some z) e
-
-pub place_is : {X : Type 0} (xs : List X) (i n : ℕ) → slice_get (places_of 0 xs) i ≡ Some n → (i ≡ n) × (i < length xs)
-place_is xs i n e =
-    let s = at_short (places_of 0 xs) i n e in
-    let l = places_length 0 xs in
-    let h : i < length xs = omega arith in (same_Some i n (sym (place_at xs i h) ∙ e), h)
 
 -- no spot may choose among several
 pub record IsForced (sub above : Machine_data) (bound : ℕ) (found : List Spot) (rows : List (List ℕ)) : Type 0 where

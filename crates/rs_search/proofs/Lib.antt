@@ -2,6 +2,7 @@ pub mod Accepted
 pub mod Alike
 pub mod Assembled
 pub mod Choices
+pub mod Chains
 pub mod Chosen
 pub mod Costing
 pub mod Deciding
@@ -9,6 +10,7 @@ pub mod Determined
 pub mod Discovering
 pub mod Forced
 pub mod Noding
+pub mod Places
 pub mod Removing
 pub mod Rising
 pub mod Rounds

@@ -1,6 +1,7 @@
 -- Ranks along edges that all lead to greater numbers.
-use Rattle.std.proofs.Common.{◌≡◌, ◌≢◌, ◌⊎◌, inl, inr, ℕ, ◌<◌, ◌≤◌, ◌+◌, Bool, true, false, List, [], ◌∷◌, length, get_or, set, map, refl, sym, ap, ◌∙◌, subst, arith, zero, suc, Some, slice_get, if◌then◌else◌}
-use Rattle.std.proofs.lemmas.Bool.{cases_lt}
+use Rattle.std.proofs.Common.{◌≡◌, ◌≢◌, ◌⊎◌, inl, inr, ℕ, ◌<◌, ◌≤◌, ◌+◌, Bool, true, false, List, [], ◌∷◌, length, get_or, set, map, refl, sym, ap, ◌∙◌, subst, arith, zero, suc, Some, slice_get, not, eqb, ◌&&◌, ◌||◌, if◌then◌else◌}
+use Rattle.std.specs.List.{list_any}
+use Rattle.std.proofs.lemmas.Bool.{cases_lt, eqb-true, false≢true}
 use Rattle.std.proofs.lemmas.List.{get_or-set_same, get_or-set_other, length-set, get_or_past}
 use Rattle.std.proofs.lemmas.Option.{none-some, same_Some}
 use Rattle.rs_graph.proofs.Buckets.{got}
@@ -9,9 +10,20 @@ use Rattle.rs_graph.proofs.Ranking.{fit_ranks}
 use Rattle.rs_graph.specs.Lists.{Among}
 use Rattle.rs_graph.specs.Ranks.{Edge, Fits}
 use Rattle.rs_graph.specs.Walks.{IsRank, RanksFit}
-use Rattle.rs_search.proofs.Forced.{place_is, places_length, places_of}
+use Rattle.rs_search.proofs.Places.{place_is, places_length}
+use Rattle.rs_model.specs.declared.limits.TheConstants.{MOST_CANDIDATES}
+use Rattle.rs_model.specs.Data.{Machine_data}
+use Rattle.rs_derive.specs.Data.{DNode_data}
+use Rattle.rs_derive.specs.Derivations.{IsProper}
+use Rattle.rs_derive.specs.Moves.{Spot}
+use Rattle.rs_graph.specs.Discovery.{IsDiscovery}
+use Rattle.rs_search.proofs.Choices.{bool_cases}
+use Rattle.rs_search.proofs.Forced.{IsForced, forced_found}
+use Rattle.rs_search.specs.Candidates.{begin}
+use Rattle.rs_search.specs.Canonical.{IsFound}
 use Rattle.rs_search.specs.Forward.{AreForward, kept_at, kept_row}
-use Rattle.rs_search.specs.Nodes.{AreKept}
+use Rattle.rs_search.specs.Nodes.{AreKept, AreNodes, places_of}
+use Rattle.rs_search.specs.Turns.{Turn_data, has_choice, is_choosing, is_keeping, nexts_within, turn_within}
 
 pub forward_none : (keeps : List Bool) (rows : List (List ℕ)) (ranks : List ℕ) → length ranks ≡ length rows → AreForward keeps rows ranks (length rows)
 forward_none keeps rows ranks e = record {
@@ -106,3 +118,38 @@ forward_fit keeps rows ranks f = fit_ranks (Edge (kept_rows keeps rows)) (λ n. 
       | inl a ↦ a
       | inr a ↦ (let z = get_or_past (kept_rows keeps rows) i [] (let l = kept-length keeps rows in omega arith) in let bad : Among [] j = subst (λ (w : List ℕ). Among w j) z e in absurd bad)
     ]
+
+-- the answer where no spot chooses, and all edges that keep their head lead to greater numbers
+
+not-any : (f : Spot → Bool) (xs : List Spot) → list_any f xs ≡ false → (n : ℕ) (x : Spot) → slice_get xs n ≡ Some x → f x ≡ false
+not-any f [] e n x h = absurd (none-some x h)
+not-any f (y ∷ xs) e zero x h = elim (bool_cases (f y)) [
+  | inl t ↦ absurd (false≢true (sym e ∙ subst (λ (b : Bool). (b || list_any f xs) ≡ true) (sym t) refl))
+  | inr t ↦ subst (λ (z : Spot). f z ≡ false) (same_Some y x h) t
+]
+not-any f (y ∷ xs) e (suc n) x h = elim (bool_cases (f y)) [
+  | inl t ↦ absurd (false≢true (sym e ∙ subst (λ (b : Bool). (b || list_any f xs) ≡ true) (sym t) refl))
+  | inr t ↦ not-any f xs (subst (λ (b : Bool). (b || list_any f xs) ≡ false) t e) n x h
+]
+
+one-spot : (t : Turn_data) → has_choice t ≡ false → t.any ≡ true → length t.spots ≡ 1
+one-spot t e any = elim (bool_cases (eqb (length t.spots) 1)) [
+  | inl y ↦ eqb-true (length t.spots) 1 y
+  | inr n ↦ (let a : (true && not (eqb (length t.spots) 1)) ≡ false = subst (λ (b : Bool). (b && not (eqb (length t.spots) 1)) ≡ false) any e in
+      absurd (false≢true (sym (subst (λ (b : Bool). not b ≡ false) n a))))
+]
+
+pub forward_found : (sub above : Machine_data) (bound : ℕ) (found : List Spot) (rows : List (List ℕ)) (keeps : List Bool) (ranks : List ℕ) (nodes : List DNode_data) (choosing : Bool) → IsProper above
+    → IsDiscovery (nexts_within sub above bound) (begin sub above) found rows → length found ≤ MOST_CANDIDATES → keeps ≡ map (is_keeping sub above bound) found → choosing ≡ list_any (is_choosing sub above bound) found
+    → choosing ≡ false → AreForward keeps rows ranks 0 → AreNodes found (places_of 0 found) rows ranks (length found) nodes → IsFound sub above bound (record { role = sub.role; bound = bound; nodes = nodes })
+forward_found sub above bound found rows keeps ranks nodes choosing w d few ek ec none f made =
+    let forced : IsForced sub above bound found rows = record {
+      proper = w;
+      discovery = d;
+      few = few;
+      forced = λ n x e any. one-spot (turn_within sub above bound x) (not-any (is_choosing sub above bound) found (sym ec ∙ none) n x e) any;
+    } in
+    let are : AreKept (map (is_keeping sub above bound) found) (places_of 0 found) rows (length (places_of 0 found)) (kept_rows keeps rows) =
+    subst (λ (z : List Bool). AreKept z (places_of 0 found) rows (length (places_of 0 found)) (kept_rows keeps rows)) ek (rows_kept found keeps rows d.all) in
+    forced_found sub above bound found rows ranks nodes (kept_rows keeps rows) forced
+    (subst (λ (z : ℕ). AreNodes found (places_of 0 found) rows ranks z nodes) (sym (places_length 0 found)) made) are (forward_fit keeps rows ranks f)
