@@ -1,0 +1,12 @@
+pub mod Data
+pub mod Dialects
+pub mod Openings
+pub mod Trees
+pub mod Graph
+pub mod Cuts
+pub mod Scenes
+pub mod Misplaced
+pub mod Spells
+pub mod Faults
+pub mod Drafts
+pub mod Feeding
