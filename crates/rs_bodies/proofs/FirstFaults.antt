@@ -449,7 +449,7 @@ pub unfaulty : (dia : Dialect) (old : Names_data) (c : PartCut dia) (j : FaultKi
 unfaulty dia old (in_opening o) j n = unfaulty_opening dia old o j n
 unfaulty dia old (in_body x body) j n = unfaulty_by dia _ j n _
 
-next_here : (dia : Dialect) (old : Names_data) (r : Reader_data) (xs : List Sign) (t : Sign) (x : Lexeme) (u : Sign) (g : TextFault) → Next dia old r xs t x g → Here (FaultAt dia old) (xs ++ t ∷ []) x.sign x.from u g
+pub next_here : (dia : Dialect) (old : Names_data) (r : Reader_data) (xs : List Sign) (t : Sign) (x : Lexeme) (u : Sign) (g : TextFault) → Next dia old r xs t x g → Here (FaultAt dia old) (xs ++ t ∷ []) x.sign x.from u g
 next_here dia old r xs t x u g h = record {
   at_is = h.at_is;
   fault = inr (inr (h.kind, h.kind_is, record { broken_is = h.broken_is; place = h.place; stands = h.stands; reached = h.reached }));

@@ -6,3 +6,5 @@ pub mod SpeltTrees
 pub mod FaultCuts
 pub mod FaultSteps
 pub mod FirstFaults
+pub mod OneFault
+pub mod Labels
