@@ -8,3 +8,7 @@ pub mod FaultSteps
 pub mod FirstFaults
 pub mod OneFault
 pub mod Labels
+pub mod SpeltCuts
+pub mod SpeltRuns
+pub mod Answers
+pub mod SpeltLaws

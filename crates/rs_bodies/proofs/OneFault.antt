@@ -41,7 +41,7 @@ use Rattle.rs_bodies.specs.Dialects.{TurnCut, behind_arrow, behind_receiver, wan
 
 -- ---- places behind the part
 
-lone_no_part : (dia : Dialect) (arm : ArmCut) → wanted_alone dia arm ≡ wanted.PartOrEnd → ⊥
+pub lone_no_part : (dia : Dialect) (arm : ArmCut) → wanted_alone dia arm ≡ wanted.PartOrEnd → ⊥
 lone_no_part Talks at_label h = cc
 lone_no_part Acts at_label h = cc
 lone_no_part dia (behind_label l) h = cc
@@ -49,12 +49,12 @@ lone_no_part dia (behind_paren l) h = cc
 lone_no_part dia (behind_sort l s) h = cc
 lone_no_part dia (behind_head l s) h = cc
 
-turn_no_part : (dia : Dialect) (t : TurnCut dia) → wanted_in_turn dia t ≡ wanted.PartOrEnd → ⊥
+pub turn_no_part : (dia : Dialect) (t : TurnCut dia) → wanted_in_turn dia t ≡ wanted.PartOrEnd → ⊥
 turn_no_part Talks behind_arrow h = cc
 turn_no_part Talks (behind_receiver r) h = cc
 turn_no_part Acts t h = elim t [ ]
 
-opening_no_part : (dia : Dialect) (o : OpeningCut dia) → opening_wants dia o ≡ wanted.PartOrEnd → ⊥
+pub opening_no_part : (dia : Dialect) (o : OpeningCut dia) → opening_wants dia o ≡ wanted.PartOrEnd → ⊥
 opening_no_part Talks at_roles h = cc
 opening_no_part Talks at_first h = cc
 opening_no_part Talks (behind_first x) h = cc
@@ -65,7 +65,7 @@ opening_no_part Acts at_role h = cc
 opening_no_part Acts (behind_role x) h = cc
 
 mutual
-  no_part : (dia : Dialect) (c : Cut dia) (w : Wanted) → (w ≡ wanted.PartOrEnd → ⊥) → wanted_at dia c w ≡ wanted.PartOrEnd → ⊥
+  pub no_part : (dia : Dialect) (c : Cut dia) (w : Wanted) → (w ≡ wanted.PartOrEnd → ⊥) → wanted_at dia c w ≡ wanted.PartOrEnd → ⊥
   no_part dia at_body w n h = cc
   no_part dia behind_end w n h = n h
   no_part dia (behind_name x) w n h = n h
@@ -78,7 +78,7 @@ mutual
   no_part dia (in_offers x y arms) w n h = no_part_in dia arms h
   no_part dia (behind_brace x y arms) w n h = n h
 
-  no_part_in : (dia : Dialect) (a : BranchCut dia) → wanted_in dia a ≡ wanted.PartOrEnd → ⊥
+  pub no_part_in : (dia : Dialect) (a : BranchCut dia) → wanted_in dia a ≡ wanted.PartOrEnd → ⊥
   no_part_in dia (in_head arm) h = arm_not arm wanted.PartOrEnd refl h
   no_part_in dia (in_branch l s b) h = no_part dia b wanted.CommaOrCloseBrace (λ e. cc) h
   no_part_in dia (later l s b arms) h = no_part_in dia arms h

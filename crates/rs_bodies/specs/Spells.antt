@@ -82,13 +82,16 @@ own_role Acts n (of_role r) = role_of n r
 abbrev pub spelling_of : (d : Dialect) → Names_data → Tree d → Spelling_data
 spelling_of d old t = record { role = own_role d (numbering d old t) t.opening; points = points_of d (numbering d old t) t.body [] 0; ended = has_end d t.body; start = first_of d t.body [] 0 (acts_in d t.body) }
 
--- the bytes from `at` on, read with the old names, spell this tree with the new ones, and go on at `until`
-pub record Spells (d : Dialect) (bytes : List ℕ) (at : ℕ) (old : Names_data) (t : Tree d) (until : ℕ) : Type 0 where
+-- the bytes from `at` on, read with the old names, spell this with the new ones, and go on at `until`
+pub record Spells (d : Dialect) (bytes : List ℕ) (at : ℕ) (old new : Names_data) (spelling : Spelling_data) (until : ℕ) : Type 0 where
+  pub tree : Tree d
   pub lexemes : List Lexeme
   pub behind : Lexeme
   pub others : List Lexeme
   pub lexed : Lexed bytes at (lexemes ++ behind ∷ others)
-  pub spelt : signs_of lexemes ≡ tree_signs d t
-  pub settled : ends_by_name d t.body ≡ true → ends_a_name d behind.sign ≡ true
-  pub fits : Fits d old t
+  pub spelt : signs_of lexemes ≡ tree_signs d tree
+  pub settled : ends_by_name d tree.body ≡ true → ends_a_name d behind.sign ≡ true
+  pub fits : Fits d old tree
+  pub names_are : new ≡ names_of d old tree
+  pub spelling_is : spelling ≡ spelling_of d old tree
   pub goes_on : until ≡ behind.from
