@@ -42,11 +42,11 @@ is_of_talks (mode.Receiver from p) = true
 is_of_talks _ = false
 
 -- a token leads from r to a reader with its label, which is at a label where one may stand behind it
-abbrev Takes : Sign → Reader_data → Reader_data → Type 0
-Takes t r d = (d.labels ≡ grown r.labels (label_there (at_arm r.mode) t)) × (at_arm d.mode ≡ opens_arm t) × (is_of_talks d.mode ≡ false)
+abbrev pub Takes : Sign → Reader_data → Reader_data → Type 0
+Takes t r d = (d.labels ≡ grown r.labels (label_there (at_arm r.mode) t)) × (at_arm d.mode ≡ opens_arm t) × (is_of_talks d.mode ≡ false) × (d.roles ≡ r.roles)
 
 abbrev TakesAt : Mode → Sign → Reader_data → Reader_data → Type 0
-TakesAt m t r d = (d.labels ≡ grown r.labels (label_there (at_arm m) t)) × (at_arm d.mode ≡ opens_arm t) × (is_of_talks d.mode ≡ false)
+TakesAt m t r d = (d.labels ≡ grown r.labels (label_there (at_arm m) t)) × (at_arm d.mode ≡ opens_arm t) × (is_of_talks d.mode ≡ false) × (d.roles ≡ r.roles)
 
 take_if : (c : Bool) (m : Mode) (t : Sign) (r : Reader_data) (e : TextFault) (x : Fed) → IfOk x (TakesAt m t r) → IfOk (cond c (Err e) x) (TakesAt m t r)
 take_if true m t r e x h = tt
@@ -56,12 +56,12 @@ take_unless : (c : Bool) (m : Mode) (t : Sign) (r : Reader_data) (e : TextFault)
 take_unless true m t r e x h = h
 take_unless false m t r e x h = tt
 
-take_new : (c : Bool) (word : List ℕ) (at : ℕ) (r : Reader_data) (m : Mode) → at_arm m ≡ false → is_of_talks m ≡ false → r.labels ++ word ∷ [] ≡ grown r.labels (word ∷ []) → IfOk {E = TextFault} (cond c (Err (record { kind = kind.TooManyLabels; at = at })) (Ok (record r { labels = r.labels ++ word ∷ []; mode = m }))) (λ d. (d.labels ≡ grown r.labels (word ∷ [])) × (at_arm d.mode ≡ false) × (is_of_talks d.mode ≡ false))
+take_new : (c : Bool) (word : List ℕ) (at : ℕ) (r : Reader_data) (m : Mode) → at_arm m ≡ false → is_of_talks m ≡ false → r.labels ++ word ∷ [] ≡ grown r.labels (word ∷ []) → IfOk {E = TextFault} (cond c (Err (record { kind = kind.TooManyLabels; at = at })) (Ok (record r { labels = r.labels ++ word ∷ []; mode = m }))) (λ d. (d.labels ≡ grown r.labels (word ∷ [])) × (at_arm d.mode ≡ false) × (is_of_talks d.mode ≡ false) × (d.roles ≡ r.roles))
 take_new true word at r m n o e = tt
-take_new false word at r m n o e = (e, n, o)
+take_new false word at r m n o e = (e, n, o, refl)
 
-take_labelled : (found : Option ℕ) (act : ℕ) (word : List ℕ) (at : ℕ) (r : Reader_data) → place_of word r.labels ≡ found → IfOk (labelled_by found act word at r) (λ d. (d.labels ≡ grown r.labels (word ∷ [])) × (at_arm d.mode ≡ false) × (is_of_talks d.mode ≡ false))
-take_labelled (Some k) act word at r e = (sym (ap (λ z. if z then r.labels else r.labels ++ word ∷ []) (among r.labels word 0 k e)), refl, refl)
+take_labelled : (found : Option ℕ) (act : ℕ) (word : List ℕ) (at : ℕ) (r : Reader_data) → place_of word r.labels ≡ found → IfOk (labelled_by found act word at r) (λ d. (d.labels ≡ grown r.labels (word ∷ [])) × (at_arm d.mode ≡ false) × (is_of_talks d.mode ≡ false) × (d.roles ≡ r.roles))
+take_labelled (Some k) act word at r e = (sym (ap (λ z. if z then r.labels else r.labels ++ word ∷ []) (among r.labels word 0 k e)), refl, refl, refl)
 take_labelled None act word at r e = take_new (nat_le 256 (length r.labels)) word at r _ refl refl (sym (ap (λ z. if z then r.labels else r.labels ++ word ∷ []) (not_among r.labels word 0 e)))
 
 take_label : (act : ℕ) (w : Wanted) (t : Sign) (at : ℕ) (r : Reader_data) → IfOk (feed_label act w (word_text t) at r) (TakesAt (mode.AtLabel act) t r)
@@ -71,27 +71,27 @@ take_label act w (plain x) at r = take_labelled (place_of x r.labels) act x at r
 take_label act w _ at r = tt
 
 take_arms : (act : ℕ) (t : Sign) (at : ℕ) (r : Reader_data) → IfOk (feed_arms Acts act t at r) (TakesAt (mode.AtArms act) t r)
-take_arms act open_brace at r = take_if (nat_le 200 r.depth) (mode.AtArms act) open_brace r _ _ (refl, refl, refl)
+take_arms act open_brace at r = take_if (nat_le 200 r.depth) (mode.AtArms act) open_brace r _ _ (refl, refl, refl, refl)
 take_arms act rec_word at r = take_label act wanted.LabelOrBrace rec_word at r
 take_arms act end_word at r = take_label act wanted.LabelOrBrace end_word at r
 take_arms act (plain x) at r = take_label act wanted.LabelOrBrace (plain x) at r
 take_arms act _ at r = tt
 
 take_first : (t : Sign) (at : ℕ) (r : Reader_data) → IfOk (feed_machine t at r) (TakesAt mode.Machine t r)
-take_first (plain w) at r = take_unless (bytes_eq w (codes "machine")) mode.Machine (plain w) r _ _ (refl, refl, refl)
+take_first (plain w) at r = take_unless (bytes_eq w (codes "machine")) mode.Machine (plain w) r _ _ (refl, refl, refl, refl)
 take_first _ at r = tt
 
 take_role : (found : Option ℕ) (w : List ℕ) (at : ℕ) (r : Reader_data) → IfOk (role_by found at r) (TakesAt mode.AtRole (plain w) r)
 take_role None w at r = tt
-take_role (Some k) w at r = (refl, refl, refl)
+take_role (Some k) w at r = (refl, refl, refl, refl)
 
 take_met : (found : Option ℕ) (w : List ℕ) (from : Link) (at : ℕ) (r : Reader_data) → IfOk (met_by Acts found from at r) (TakesAt (mode.Body from) (plain w) r)
 take_met None w from at r = tt
-take_met (Some k) w from at r = take_if (nat_le 256 (length r.drafts)) (mode.Body from) (plain w) r _ _ (refl, refl, refl)
+take_met (Some k) w from at r = take_if (nat_le 256 (length r.drafts)) (mode.Body from) (plain w) r _ _ (refl, refl, refl, refl)
 
 take_named : (found : Option ℕ) (w : List ℕ) (from : Link) (at : ℕ) (r : Reader_data) → IfOk (named found from at r) (TakesAt (mode.Body from) (plain w) r)
 take_named None w from at r = tt
-take_named (Some k) w from at r = take_unless (nat_lt k (length r.drafts)) (mode.Body from) (plain w) r (record { kind = kind.Unguarded; at = at }) (in_mode mode.Next (linked from (Some k) r)) (refl, refl, refl)
+take_named (Some k) w from at r = take_unless (nat_lt k (length r.drafts)) (mode.Body from) (plain w) r (record { kind = kind.Unguarded; at = at }) (in_mode mode.Next (linked from (Some k) r)) (refl, refl, refl, refl)
 
 take_word : (from : Link) (w : List ℕ) (s : Sign) (at next : ℕ) (r : Reader_data) → IfOk (feed_word Acts from w s at next r) (TakesAt (mode.Body from) (plain w) r)
 take_word from w bang at next r = take_met (place_of w r.roles) w from at r
@@ -100,20 +100,20 @@ take_word from w (broken k) at next r = tt
 take_word from w _ at next r = take_named (bound_to w r.bound) w from at r
 
 take_body : (from : Link) (t : Sign) (at : ℕ) (next : Lexeme) (r : Reader_data) → IfOk (feed_body Acts from t at next r) (TakesAt (mode.Body from) t r)
-take_body from rec_word at next r = take_if (nat_le 200 r.depth) (mode.Body from) rec_word r _ _ (refl, refl, refl)
-take_body from end_word at next r = (refl, refl, refl)
+take_body from rec_word at next r = take_if (nat_le 200 r.depth) (mode.Body from) rec_word r _ _ (refl, refl, refl, refl)
+take_body from end_word at next r = (refl, refl, refl, refl)
 take_body from (plain w) at next r = take_word from w next.sign at next.from r
 take_body from _ at next r = tt
 
 take_next : (fs : List Frame) (t : Sign) (at : ℕ) (r : Reader_data) → IfOk (feed_next fs t at r) (TakesAt mode.Next t r)
 take_next [] t at r = tt
-take_next (f ∷ fs) comma at r = (refl, refl, refl)
-take_next (f ∷ fs) close_brace at r = (refl, refl, refl)
+take_next (f ∷ fs) comma at r = (refl, refl, refl, refl)
+take_next (f ∷ fs) close_brace at r = (refl, refl, refl, refl)
 take_next (f ∷ fs) _ at r = tt
 
 take_sorted : (found : Option Sort) (w : List ℕ) (act : ℕ) (l : Label) (at : ℕ) (r : Reader_data) → IfOk (sorted_by found act l at r) (TakesAt (mode.AtSort act l) (plain w) r)
 take_sorted None w act l at r = tt
-take_sorted (Some s) w act l at r = (refl, refl, refl)
+take_sorted (Some s) w act l at r = (refl, refl, refl, refl)
 
 take_at : (m : Mode) (t : Sign) (at : ℕ) (next : Lexeme) (r : Reader_data) → is_of_talks m ≡ false → IfOk (feed_at Acts m t at next r) (TakesAt m t r)
 take_at mode.Roles t at next r o = cc
@@ -125,30 +125,30 @@ take_at (mode.Receiver from p) t at next r o = cc
 take_at mode.Machine t at next r o = take_first t at r
 take_at mode.AtRole (plain w) at next r o = take_role (place_of w r.roles) w at r
 take_at mode.AtRole _ at next r o = tt
-take_at mode.AtColon colon at next r o = (refl, refl, refl)
+take_at mode.AtColon colon at next r o = (refl, refl, refl, refl)
 take_at mode.AtColon _ at next r o = tt
 take_at (mode.Body from) t at next r o = take_body from t at next r
-take_at (mode.RecName from) (plain w) at next r o = (refl, refl, refl)
+take_at (mode.RecName from) (plain w) at next r o = (refl, refl, refl, refl)
 take_at (mode.RecName from) _ at next r o = tt
-take_at (mode.RecDot from) dot at next r o = (refl, refl, refl)
+take_at (mode.RecDot from) dot at next r o = (refl, refl, refl, refl)
 take_at (mode.RecDot from) _ at next r o = tt
-take_at (mode.AtTurn from p) bang at next r o = take_if (nat_le 256 (length r.drafts)) (mode.AtTurn from p) bang r _ _ (refl, refl, refl)
-take_at (mode.AtTurn from p) question at next r o = take_if (nat_le 256 (length r.drafts)) (mode.AtTurn from p) question r _ _ (refl, refl, refl)
+take_at (mode.AtTurn from p) bang at next r o = take_if (nat_le 256 (length r.drafts)) (mode.AtTurn from p) bang r _ _ (refl, refl, refl, refl)
+take_at (mode.AtTurn from p) question at next r o = take_if (nat_le 256 (length r.drafts)) (mode.AtTurn from p) question r _ _ (refl, refl, refl, refl)
 take_at (mode.AtTurn from p) _ at next r o = tt
 take_at (mode.AtArms act) t at next r o = take_arms act t at r
 take_at (mode.AtLabel act) t at next r o = take_label act wanted.Label t at r
-take_at (mode.Paren act l) open_paren at next r o = (refl, refl, refl)
+take_at (mode.Paren act l) open_paren at next r o = (refl, refl, refl, refl)
 take_at (mode.Paren act l) _ at next r o = tt
-take_at (mode.AtSort act l) close_paren at next r o = (refl, refl, refl)
+take_at (mode.AtSort act l) close_paren at next r o = (refl, refl, refl, refl)
 take_at (mode.AtSort act l) (plain w) at next r o = take_sorted (sort_named w) w act l at r
 take_at (mode.AtSort act l) _ at next r o = tt
-take_at (mode.CloseParen act l s) close_paren at next r o = (refl, refl, refl)
+take_at (mode.CloseParen act l s) close_paren at next r o = (refl, refl, refl, refl)
 take_at (mode.CloseParen act l s) _ at next r o = tt
-take_at (mode.ArmDot act l s) dot at next r o = (refl, refl, refl)
+take_at (mode.ArmDot act l s) dot at next r o = (refl, refl, refl, refl)
 take_at (mode.ArmDot act l s) _ at next r o = tt
 take_at mode.Next t at next r o = take_next r.frames t at r
 
-take_sign : (t : Sign) (at : ℕ) (next : Lexeme) (r : Reader_data) → is_of_talks r.mode ≡ false → IfOk (feed_sign (feeding Acts) t at next r) (Takes t r)
+pub take_sign : (t : Sign) (at : ℕ) (next : Lexeme) (r : Reader_data) → is_of_talks r.mode ≡ false → IfOk (feed_sign (feeding Acts) t at next r) (Takes t r)
 take_sign (broken k) at next r o = tt
 take_sign t at next r o = take_at r.mode t at next r o
 
@@ -172,9 +172,10 @@ pub record Follows (old : Names_data) (xs : List Sign) (r : Reader_data) : Type 
   pub labels : r.labels ≡ grown old.labels (labels_among false xs)
   pub mode : at_arm r.mode ≡ opened_by false xs
   pub line : is_of_talks r.mode ≡ false
+  pub roles : r.roles ≡ old.roles
 
 pub follows_first : (old : Names_data) → Follows old [] (begin Acts old)
-follows_first old = record { labels = refl; mode = refl; line = refl }
+follows_first old = record { labels = refl; mode = refl; line = refl; roles = refl }
 
 more_labels : (old : Names_data) (xs : List Sign) (r : Reader_data) (t : Sign) → Follows old xs r → grown r.labels (label_there (at_arm r.mode) t) ≡ grown old.labels (labels_among false (xs ++ t ∷ []))
 more_labels old xs r t k = ap (λ z. grown z (label_there (at_arm r.mode) t)) k.labels ∙ ap (λ z. grown (grown old.labels (labels_among false xs)) (label_there z t)) k.mode
@@ -187,7 +188,7 @@ on_ok (Err e) d t r same h = absurd (cc same)
 pub follows_on : (old : Names_data) (xs : List Sign) (t : Sign) (at : ℕ) (n : Lexeme) (r d : Reader_data) → Follows old xs r → feed_sign (feeding Acts) t at n r ≡ Ok d → Follows old (xs ++ t ∷ []) d
 follows_on old xs t at n r d k e =
     let h = on_ok (feed_sign (feeding Acts) t at n r) d t r e (take_sign t at n r k.line) in
-    record { labels = h.0 ∙ more_labels old xs r t k; mode = h.1 ∙ sym (opened_on xs false t); line = h.2 }
+    record { labels = h.0 ∙ more_labels old xs r t k; mode = h.1 ∙ sym (opened_on xs false t); line = h.2; roles = h.3 ∙ k.roles }
 
 no_arm : (m : Mode) (fs : List Frame) → wanted_by Acts m fs ≡ wanted.Body → at_arm m ≡ false
 no_arm (mode.AtLabel act) fs h = cc

@@ -12,3 +12,6 @@ pub mod SpeltCuts
 pub mod SpeltRuns
 pub mod Answers
 pub mod SpeltLaws
+pub mod Placing
+pub mod Sounding
+pub mod Refusals

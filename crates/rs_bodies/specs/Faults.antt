@@ -14,7 +14,7 @@ use Rattle.rs_bodies.specs.Spells.{Tree, tree_signs}
 use Rattle.rs_bodies.specs.Cuts.{Cut, behind_end, behind_name, in_binds, in_acts, behind_brace, PartCut, in_body, IsBehind, part_cut_signs, wanted_of}
 use Rattle.rs_bodies.specs.Misplaced.{fault_of}
 use Rattle.rs_text.specs.FirstFaults.{IsWhole, FirstFaultBy}
-use Rattle.rs_bodies.specs.declared.dialects.Dialect.TheVariants.{Acts}
+use Rattle.rs_bodies.specs.declared.dialects.Dialect.TheVariants.{Talks, Acts}
 
 -- the tokens begin a part
 abbrev pub Begins : Dialect → List Sign → Type 0
@@ -102,3 +102,13 @@ pub record Keeps (old new : Names_data) : Type 0 where
   pub later : List (List ℕ)
   pub roles : new.roles ≡ old.roles
   pub labels : new.labels ≡ old.labels ++ later
+
+-- what the fault of a part leaves: of a machine the names with the labels before the fault
+abbrev pub LeavesBy : Dialect → (old new : Names_data) → (bytes : List ℕ) → (at : ℕ) → (kind : TextKind) → (offset : ℕ) → Type 0
+LeavesBy Talks old new bytes at kind offset = Unit {0}
+LeavesBy Acts old new bytes at kind offset = LeavesNames old new bytes at kind offset
+
+-- a machine keeps the names that were there
+abbrev pub KeepsBy : Dialect → (old new : Names_data) → Type 0
+KeepsBy Talks old new = Unit {0}
+KeepsBy Acts old new = Keeps old new

@@ -3,6 +3,10 @@
 
 mod dialects;
 mod drafts;
+mod parts;
+mod points;
 mod reading;
 
 pub use dialects::{Dialect, Head, Mark};
+pub use parts::read_part;
+pub use points::{Point, Spelling};
