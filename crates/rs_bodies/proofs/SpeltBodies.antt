@@ -62,12 +62,12 @@ received_exact : (found : Option ℕ) (y : List ℕ) (from : Link) (p : Role) (a
 received_exact None y from p at r N K Q e room h k = h.0 (not_among r.roles y 0 e)
 received_exact (Some q) y from p at r N K Q e room h k = headed_exact Talks from (head.Talk p (record { 0 = q })) at r N Q room (k (h.1 (among r.roles y 0 q e)))
 
-act_exact : (m : Mark) (x : List ℕ) (from : Link) (r : Reader_data) (p : Role) (ts : List Sign) (u : Sign) (N K : Type 0) (Q : Reader_data → Type 0) → Hangs (is_among x r.roles) N (Hangs (nat_lt (length r.drafts) 256) N (Hangs true N K)) → record { 0 = number_or (place_of x r.roles) } ≡ p
+act_exact : (m : Mark) (x : List ℕ) (from : Link) (r : Reader_data) (p : Role) (ts : List Sign) (u : Sign) (N K : Type 0) (Q : Reader_data → Type 0) → Hangs (is_among x r.roles) N (Hangs (nat_lt (length r.drafts) 256) N K) → record { 0 = number_or (place_of x r.roles) } ≡ p
     → (K → Exact (feeding Acts) ts u N Q (placed from (head.Act p m) r)) → Exact (feeding Acts) (plain x ∷ (turn_signs Acts (marked m) ++ ts)) u N Q (record r { mode = mode.Body from })
-act_exact mark.Puts x from r p ts u N K Q h e k = λ a f n. met_exact Acts (place_of x r.roles) x from a (record r { mode = mode.Body from }) N (Hangs true N K) (λ d. Exact (feeding Acts) (bang ∷ ts) u N Q d) refl h
-    (λ room ht. subst (λ (z : Role). Exact (feeding Acts) (bang ∷ ts) u N Q (record r { mode = mode.AtTurn from z })) (sym e) (λ a f n. headed_exact Acts from (head.Act p mark.Puts) a (record r { mode = mode.AtTurn from p }) N (λ d. Exact (feeding Acts) ts u N Q d) room (k (ht.1 refl))))
-act_exact mark.Takes x from r p ts u N K Q h e k = λ a f n. met_exact Acts (place_of x r.roles) x from a (record r { mode = mode.Body from }) N (Hangs true N K) (λ d. Exact (feeding Acts) (question ∷ ts) u N Q d) refl h
-    (λ room ht. subst (λ (z : Role). Exact (feeding Acts) (question ∷ ts) u N Q (record r { mode = mode.AtTurn from z })) (sym e) (λ a f n. headed_exact Acts from (head.Act p mark.Takes) a (record r { mode = mode.AtTurn from p }) N (λ d. Exact (feeding Acts) ts u N Q d) room (k (ht.1 refl))))
+act_exact mark.Puts x from r p ts u N K Q h e k = λ a f n. met_exact Acts (place_of x r.roles) x from a (record r { mode = mode.Body from }) N K (λ d. Exact (feeding Acts) (bang ∷ ts) u N Q d) refl h
+    (λ room ht. subst (λ (z : Role). Exact (feeding Acts) (bang ∷ ts) u N Q (record r { mode = mode.AtTurn from z })) (sym e) (λ a f n. headed_exact Acts from (head.Act p mark.Puts) a (record r { mode = mode.AtTurn from p }) N (λ d. Exact (feeding Acts) ts u N Q d) room (k ht)))
+act_exact mark.Takes x from r p ts u N K Q h e k = λ a f n. met_exact Acts (place_of x r.roles) x from a (record r { mode = mode.Body from }) N K (λ d. Exact (feeding Acts) (question ∷ ts) u N Q d) refl h
+    (λ room ht. subst (λ (z : Role). Exact (feeding Acts) (question ∷ ts) u N Q (record r { mode = mode.AtTurn from z })) (sym e) (λ a f n. headed_exact Acts from (head.Act p mark.Takes) a (record r { mode = mode.AtTurn from p }) N (λ d. Exact (feeding Acts) ts u N Q d) room (k ht)))
 
 -- a head is read as it is spelt
 head_exact : (dia : Dialect) (t : Turn dia) (x : List ℕ) (from : Link) (r : Reader_data) (all : List (List ℕ)) (last : ℕ) (ts : List Sign) (u : Sign) (N K : Type 0) (Q : Reader_data → Type 0) → Hangs (head_fits dia x t (scene_of r)) N K
@@ -82,8 +82,7 @@ head_exact Talks (sends_to y) x from r all last ts u N K Q h k =
 head_exact Acts (marked m) x from r all last ts u N K Q h k =
     let A : Bool = is_among x r.roles in
     let B : Bool = nat_lt (length r.drafts) 256 in
-    let h1 : Hangs A N (Hangs B N (Hangs true N K)) = hangs_both A B N (Hangs true N K) (hangs_both (A && B) true N K h) in
-    act_exact m x from r (role_of (numbered r.roles all last) x) ts u N K Q h1 refl k
+    act_exact m x from r (role_of (numbered r.roles all last) x) ts u N K Q (hangs_both A B N K h) refl k
 
 guard_exact : (c : Bool) (k : ℕ) (from : Link) (at : ℕ) (r : Reader_data) (N : Type 0) (Q : Reader_data → Type 0) → Hangs c N (Q (record (linked from (Some k) r) { mode = mode.Next })) → Tells (if c then in_mode mode.Next (linked from (Some k) r) else fault kind.Unguarded at) N Q
 guard_exact true k from at r N Q h = h.1 refl
