@@ -15,7 +15,7 @@ use Rattle.rs_text.specs.Arms.{sort_signs, arm_signs, ArmCut, at_label, behind_l
 use Rattle.rs_text.specs.Seen.{sort_named}
 use Rattle.rs_bodies.specs.Trees.{Body, ends, again, binds, acts, offers, Branches, one, more, body_signs, branch_signs}
 use Rattle.rs_bodies.specs.Cuts.{Cut, at_body, behind_end, behind_name, behind_rec, behind_rec_name, in_binds, in_turn, in_arm, in_acts, in_offers, behind_brace, BranchCut, in_head, in_branch, later, PartCut, in_opening, in_body, cut_signs, branch_cut_signs, part_cut_signs, wanted_at, wanted_in}
-use Rattle.rs_bodies.specs.Dialects.{Turn, sends_to, marked, turn_signs, lone_signs, turns, TurnCut, behind_arrow, behind_receiver, wanted_alone}
+use Rattle.rs_bodies.specs.Dialects.{Turn, sends_to, with_mark, turn_signs, lone_signs, turns, TurnCut, behind_arrow, behind_receiver, wanted_alone}
 use Rattle.rs_bodies.specs.Openings.{Opening, of_roles, of_role, further_signs, line_signs, OpeningCut, at_roles, at_first, behind_first, at_further, behind_further, at_machine, at_role, behind_role, opening_signs, opening_cut_signs}
 use Rattle.rs_bodies.specs.Spells.{Tree, tree_signs}
 use Rattle.rs_bodies.specs.Faults.{Begins}
@@ -128,8 +128,8 @@ in_an_arm dia p m arm t g = elim g [
 
 first_grows : (dia : Dialect) (p : List ℕ) (m : Turn dia) (t : Sign) → IsProper t → takes (wanted_alone dia at_label) t ≡ true → LoneGrows dia p m at_label t
 first_grows Talks p m t q h = in_an_arm Talks p m at_label t (arm_grows Talks at_label t q h)
-first_grows Acts p (marked mark.Puts) open_brace q h = (in_offers p (marked mark.Puts) (in_head at_label), refl)
-first_grows Acts p (marked mark.Takes) open_brace q h = (in_offers p (marked mark.Takes) (in_head at_label), refl)
+first_grows Acts p (with_mark mark.Puts) open_brace q h = (in_offers p (with_mark mark.Puts) (in_head at_label), refl)
+first_grows Acts p (with_mark mark.Takes) open_brace q h = (in_offers p (with_mark mark.Takes) (in_head at_label), refl)
 first_grows Acts p m rec_word q h = in_an_arm Acts p m at_label rec_word (arm_grows Acts at_label rec_word q refl)
 first_grows Acts p m end_word q h = in_an_arm Acts p m at_label end_word (arm_grows Acts at_label end_word q refl)
 first_grows Acts p m (plain text) q h = in_an_arm Acts p m at_label (plain text) (arm_grows Acts at_label (plain text) q refl)
@@ -153,8 +153,8 @@ turn_grows Acts x y t h = elim y [ ]
 
 turn_begins : (dia : Dialect) (n : List ℕ) (u : Sign) → turns dia u ≡ true → (d : Cut dia) × (cut_signs dia d ≡ plain n ∷ u ∷ [])
 turn_begins Talks n arrow h = (in_turn n behind_arrow, refl)
-turn_begins Acts n bang h = (in_arm n (marked mark.Puts) at_label, refl)
-turn_begins Acts n question h = (in_arm n (marked mark.Takes) at_label, refl)
+turn_begins Acts n bang h = (in_arm n (with_mark mark.Puts) at_label, refl)
+turn_begins Acts n question h = (in_arm n (with_mark mark.Takes) at_label, refl)
 turn_begins Talks n _ h = cc
 turn_begins Acts n _ h = cc
 

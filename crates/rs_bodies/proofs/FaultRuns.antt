@@ -29,7 +29,7 @@ use Rattle.rs_text.specs.Names.{place_of, grown, Bound, bound_to}
 use Rattle.rs_text.specs.Signs.{Sign, rec_word, end_word, plain, arrow, bang, question, dot, comma, open_brace, close_brace, open_paren, close_paren, broken, word_sign}
 use Rattle.rs_text.proofs.Naming.{among, not_among, grown_append}
 use Rattle.rs_text.specs.Arms.{sort_signs, arm_signs}
-use Rattle.rs_bodies.specs.Dialects.{Turn, sends_to, marked, turn_signs, lone_signs, turns, most}
+use Rattle.rs_bodies.specs.Dialects.{Turn, sends_to, with_mark, turn_signs, lone_signs, turns, most}
 use Rattle.rs_bodies.specs.Data.{Reader_data, Draft_data}
 use Rattle.rs_bodies.specs.Drafts.{with_arm}
 use Rattle.rs_bodies.specs.Trees.{Body, ends, again, binds, acts, offers, Branches, one, more, body_signs, branch_signs, ends_a_name}
@@ -58,9 +58,9 @@ received_lands (Some q) from p at r Q h = lands_if (nat_le 1024 (length r.drafts
 pub head_lands : (dia : Dialect) (t : Turn dia) (x : List ℕ) (from : Link) (r : Reader_data) (ts : List Sign) (u : Sign) (Q : Reader_data → Type 0) → ((h : Head) → Leads (feeding dia) ts u Q (placed from h r)) → Leads (feeding dia) (plain x ∷ (turn_signs dia t ++ ts)) u Q (record r { mode = mode.Body from })
 head_lands Talks (sends_to y) x from r ts u Q h = λ a f n. met_lands Talks (place_of x r.roles) from a (record r { mode = mode.Body from }) (λ d. Leads (feeding Talks) (arrow ∷ plain y ∷ ts) u Q d)
     (λ p _. λ a f n. λ a f n. received_lands (place_of y r.roles) from p a (record r { mode = mode.Receiver from p }) (λ d. Leads (feeding Talks) ts u Q d) h)
-head_lands Acts (marked mark.Puts) x from r ts u Q h = λ a f n. met_lands Acts (place_of x r.roles) from a (record r { mode = mode.Body from }) (λ d. Leads (feeding Acts) (bang ∷ ts) u Q d)
+head_lands Acts (with_mark mark.Puts) x from r ts u Q h = λ a f n. met_lands Acts (place_of x r.roles) from a (record r { mode = mode.Body from }) (λ d. Leads (feeding Acts) (bang ∷ ts) u Q d)
     (λ p _. λ a f n. lands_if (nat_le 256 (length r.drafts)) kind.TooManyNodes a (Ok (placed from (head.Act p mark.Puts) r)) (λ d. Leads (feeding Acts) ts u Q d) tt (h (head.Act p mark.Puts)))
-head_lands Acts (marked mark.Takes) x from r ts u Q h = λ a f n. met_lands Acts (place_of x r.roles) from a (record r { mode = mode.Body from }) (λ d. Leads (feeding Acts) (question ∷ ts) u Q d)
+head_lands Acts (with_mark mark.Takes) x from r ts u Q h = λ a f n. met_lands Acts (place_of x r.roles) from a (record r { mode = mode.Body from }) (λ d. Leads (feeding Acts) (question ∷ ts) u Q d)
     (λ p _. λ a f n. lands_if (nat_le 256 (length r.drafts)) kind.TooManyNodes a (Ok (placed from (head.Act p mark.Takes) r)) (λ d. Leads (feeding Acts) ts u Q d) tt (h (head.Act p mark.Takes)))
 
 named_if : (c : Bool) (k : ℕ) (from : Link) (at : ℕ) (r : Reader_data) (Q : Reader_data → Type 0) → Q (record (linked from (Some k) r) { mode = mode.Next }) → Lands (if c then in_mode mode.Next (linked from (Some k) r) else fault kind.Unguarded at) Q

@@ -17,7 +17,7 @@ use Rattle.rs_text.specs.Names.{place_of, is_among, grown, Bound, bound_to, numb
 use Rattle.rs_text.specs.Signs.{Sign, plain, arrow, bang, question, open_paren, close_paren, dot, comma, open_brace, close_brace}
 use Rattle.rs_text.proofs.Naming.{among, not_among, grown_append}
 use Rattle.rs_text.specs.Arms.{sort_signs, arm_signs, sort_or_unit}
-use Rattle.rs_bodies.specs.Dialects.{Turn, sends_to, marked, most, turn_signs, lone_signs}
+use Rattle.rs_bodies.specs.Dialects.{Turn, sends_to, with_mark, most, turn_signs, lone_signs}
 use Rattle.rs_bodies.specs.Data.{Reader_data, Draft_data}
 use Rattle.rs_bodies.specs.Drafts.{with_arm}
 use Rattle.rs_bodies.specs.Trees.{Body, ends, again, binds, acts, offers, Branches, one, more, body_signs, branch_signs, ends_by_name, ends_a_name}
@@ -63,7 +63,7 @@ received_exact None y from p at r N K Q e room h k = h.0 (not_among r.roles y 0 
 received_exact (Some q) y from p at r N K Q e room h k = headed_exact Talks from (head.Talk p (record { 0 = q })) at r N Q room (k (h.1 (among r.roles y 0 q e)))
 
 act_exact : (m : Mark) (x : List ℕ) (from : Link) (r : Reader_data) (p : Role) (ts : List Sign) (u : Sign) (N K : Type 0) (Q : Reader_data → Type 0) → Hangs (is_among x r.roles) N (Hangs (nat_lt (length r.drafts) 256) N K) → record { 0 = number_or (place_of x r.roles) } ≡ p
-    → (K → Exact (feeding Acts) ts u N Q (placed from (head.Act p m) r)) → Exact (feeding Acts) (plain x ∷ (turn_signs Acts (marked m) ++ ts)) u N Q (record r { mode = mode.Body from })
+    → (K → Exact (feeding Acts) ts u N Q (placed from (head.Act p m) r)) → Exact (feeding Acts) (plain x ∷ (turn_signs Acts (with_mark m) ++ ts)) u N Q (record r { mode = mode.Body from })
 act_exact mark.Puts x from r p ts u N K Q h e k = λ a f n. met_exact Acts (place_of x r.roles) x from a (record r { mode = mode.Body from }) N K (λ d. Exact (feeding Acts) (bang ∷ ts) u N Q d) refl h
     (λ room ht. subst (λ (z : Role). Exact (feeding Acts) (bang ∷ ts) u N Q (record r { mode = mode.AtTurn from z })) (sym e) (λ a f n. headed_exact Acts from (head.Act p mark.Puts) a (record r { mode = mode.AtTurn from p }) N (λ d. Exact (feeding Acts) ts u N Q d) room (k ht)))
 act_exact mark.Takes x from r p ts u N K Q h e k = λ a f n. met_exact Acts (place_of x r.roles) x from a (record r { mode = mode.Body from }) N K (λ d. Exact (feeding Acts) (question ∷ ts) u N Q d) refl h
@@ -79,7 +79,7 @@ head_exact Talks (sends_to y) x from r all last ts u N K Q h k =
     let h1 : Hangs A N (Hangs B N (Hangs C N K)) = hangs_both A B N (Hangs C N K) (hangs_both (A && B) C N K h) in
     λ a f n. met_exact Talks (place_of x r.roles) x from a (record r { mode = mode.Body from }) N (Hangs C N K) (λ d. Exact (feeding Talks) (arrow ∷ plain y ∷ ts) u N Q d) refl h1
     (λ room hc. λ a f n. λ a f n. received_exact (place_of y r.roles) y from (role_of (numbered r.roles all last) x) a (record r { mode = mode.Receiver from (role_of (numbered r.roles all last) x) }) N K (λ d. Exact (feeding Talks) ts u N Q d) refl room hc k)
-head_exact Acts (marked m) x from r all last ts u N K Q h k =
+head_exact Acts (with_mark m) x from r all last ts u N K Q h k =
     let A : Bool = is_among x r.roles in
     let B : Bool = nat_lt (length r.drafts) 256 in
     act_exact m x from r (role_of (numbered r.roles all last) x) ts u N K Q (hangs_both A B N K h) refl k

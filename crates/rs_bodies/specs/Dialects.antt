@@ -12,7 +12,7 @@ use Rattle.rs_bodies.specs.declared.dialects.Mark.TheVariants as mark
 -- what stands behind the first role of a head: an arrow and the receiver, or a mark
 pub data Turn : Dialect → Type 0 where
   sends_to : (receiver : List ℕ) → Turn Talks
-  marked : (mark : Mark) → Turn Acts
+  with_mark : (mark : Mark) → Turn Acts
 
 -- ! sends, ? receives
 abbrev pub mark_sign : Mark → Sign
@@ -22,7 +22,7 @@ mark_sign mark.Takes = question
 -- the tokens of a turn
 abbrev pub turn_signs : (d : Dialect) → Turn d → List Sign
 turn_signs Talks (sends_to r) = arrow ∷ plain r ∷ []
-turn_signs Acts (marked m) = mark_sign m ∷ []
+turn_signs Acts (with_mark m) = mark_sign m ∷ []
 
 -- what stands before a single arm
 abbrev pub lone_signs : Dialect → List Sign

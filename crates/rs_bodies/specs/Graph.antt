@@ -12,7 +12,7 @@ use Rattle.rs_bodies.specs.declared.dialects.Dialect.TheVariants.{Talks, Acts}
 use Rattle.rs_bodies.specs.declared.dialects.Head.{Head}
 use Rattle.rs_bodies.specs.declared.dialects.Head.TheVariants as head
 use Rattle.rs_bodies.specs.Data.{Point_data}
-use Rattle.rs_bodies.specs.Dialects.{Turn, sends_to, marked}
+use Rattle.rs_bodies.specs.Dialects.{Turn, sends_to, with_mark}
 use Rattle.rs_bodies.specs.Trees.{Body, ends, again, binds, acts, offers, Branches, one, more}
 
 -- the labels of a body, in order of text
@@ -88,7 +88,7 @@ arms_of d n (more l sort body arms) bound count = arm_of n l sort (first_of d bo
 -- the head that these words and this turn stand for
 abbrev pub head_of : (d : Dialect) → Numbering → List ℕ → Turn d → Head
 head_of Talks n p (sends_to r) = head.Talk (role_of n p) (role_of n r)
-head_of Acts n p (marked m) = head.Act (role_of n p) m
+head_of Acts n p (with_mark m) = head.Act (role_of n p) m
 
 -- .. with these arms
 abbrev pub point_of : (d : Dialect) → Numbering → List ℕ → Turn d → List Arm → Point_data

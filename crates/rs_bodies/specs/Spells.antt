@@ -9,7 +9,7 @@ use Rattle.rs_bodies.specs.declared.dialects.Dialect.{Dialect}
 use Rattle.rs_bodies.specs.declared.dialects.Dialect.TheVariants.{Talks, Acts}
 use Rattle.rs_model.specs.declared.graph.Role.{Role}
 use Rattle.rs_bodies.specs.Data.{Spelling_data}
-use Rattle.rs_bodies.specs.Dialects.{Turn, sends_to, marked}
+use Rattle.rs_bodies.specs.Dialects.{Turn, sends_to, with_mark}
 use Rattle.rs_bodies.specs.Openings.{Opening, of_roles, of_role, opening_signs, roles_in}
 use Rattle.rs_bodies.specs.Trees.{Body, ends, again, binds, acts, offers, Branches, one, more, body_signs, ends_by_name, ends_a_name}
 use Rattle.rs_bodies.specs.Graph.{labels_of, acts_in, has_end, points_of, first_of, Numbering, role_of}
@@ -27,7 +27,7 @@ has_room_for label s = is_among label s.labels || nat_lt (length s.labels) 256
 -- the roles of a head are known, and there is room for it
 abbrev pub head_fits : (d : Dialect) → List ℕ → Turn d → Scene → Bool
 head_fits Talks p (sends_to r) s = is_among p s.roles && nat_lt s.acts 1024 && is_among r s.roles
-head_fits Acts p (marked m) s = is_among p s.roles && nat_lt s.acts 256
+head_fits Acts p (with_mark m) s = is_among p s.roles && nat_lt s.acts 256
 
 -- each role is known, each recursion name bound and guarded, and each rec, brace, head and label within its limit
 abbrev mutual
