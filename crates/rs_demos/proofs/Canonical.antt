@@ -17,13 +17,15 @@ use Rattle.rs_global.specs.Canonical as protocol
 use Rattle.rs_global.specs.Canonical.{IsCanonicalText}
 use Rattle.rs_global.specs.Texts as protocol_texts
 use Rattle.rs_global.specs.Trees as protocol_trees
+use Rattle.rs_bodies.specs.Trees as bodies
+use Rattle.rs_bodies.specs.Dialects.{with_mark}
 use Rattle.rs_machines.specs.Canonical as machine'
 use Rattle.rs_machines.specs.Canonical.{IsCanonicalMachineText}
 use Rattle.rs_machines.specs.Machines.{state_of}
 use Rattle.rs_machines.specs.Texts as machine_texts
 use Rattle.rs_machines.specs.Trees as machine_trees
-use Rattle.rs_machines.specs.declared.marks.Mark.{Mark}
-use Rattle.rs_machines.specs.declared.marks.Mark.TheVariants as mark
+use Rattle.rs_bodies.specs.declared.dialects.Mark.{Mark}
+use Rattle.rs_bodies.specs.declared.dialects.Mark.TheVariants as mark
 use Rattle.rs_demos.specs.Sessions.{role, arm, double_protocol, double_kernel, stream_protocol, stream_source, demo_names}
 use Rattle.rs_documents.proofs.Lines.{without}
 use Rattle.rs_demos.specs.Texts.{IsDemoText}
@@ -119,14 +121,14 @@ double_tree = record {
 double_kernel_tree : machine_trees.MachineTree
 double_kernel_tree = record {
   role = codes "K";
-  body = machine_trees.acts (codes "S") mark.Puts (codes "ready") None (machine_trees.binds (codes "X1")
-      (machine_trees.acts (codes "S") mark.Puts (codes "ready") None
-      (machine_trees.acts (codes "T") mark.Takes (codes "ready") None
-      (machine_trees.offers (codes "S") mark.Takes
-      (machine_trees.more (codes "copy") (Some sort.Octets)
-      (machine_trees.acts (codes "T") mark.Puts (codes "copy") (Some sort.Octets) (machine_trees.again (codes "X1")))
-      (machine_trees.one (codes "stop") None
-      (machine_trees.acts (codes "T") mark.Puts (codes "stop") None machine_trees.ends)))))));
+  body = bodies.acts (codes "S") (with_mark mark.Puts) (codes "ready") None (bodies.binds (codes "X1")
+      (bodies.acts (codes "S") (with_mark mark.Puts) (codes "ready") None
+      (bodies.acts (codes "T") (with_mark mark.Takes) (codes "ready") None
+      (bodies.offers (codes "S") (with_mark mark.Takes)
+      (bodies.more (codes "copy") (Some sort.Octets)
+      (bodies.acts (codes "T") (with_mark mark.Puts) (codes "copy") (Some sort.Octets) (bodies.again (codes "X1")))
+      (bodies.one (codes "stop") None
+      (bodies.acts (codes "T") (with_mark mark.Puts) (codes "stop") None bodies.ends)))))));
 }
 
 -- a talk of a protocol, with names
@@ -288,11 +290,11 @@ stream_tree = record {
 stream_source_tree : machine_trees.MachineTree
 stream_source_tree = record {
   role = codes "S";
-  body = machine_trees.acts (codes "T") mark.Puts (codes "value") (Some sort.Octets) (machine_trees.binds (codes "X1")
-      (machine_trees.acts (codes "T") mark.Takes (codes "ready") None
-      (machine_trees.offers (codes "T") mark.Puts
-      (machine_trees.more (codes "value") (Some sort.Octets) (machine_trees.again (codes "X1"))
-      (machine_trees.one (codes "stop") None (machine_trees.acts (codes "T") mark.Takes (codes "ready") None machine_trees.ends))))));
+  body = bodies.acts (codes "T") (with_mark mark.Puts) (codes "value") (Some sort.Octets) (bodies.binds (codes "X1")
+      (bodies.acts (codes "T") (with_mark mark.Takes) (codes "ready") None
+      (bodies.offers (codes "T") (with_mark mark.Puts)
+      (bodies.more (codes "value") (Some sort.Octets) (bodies.again (codes "X1"))
+      (bodies.one (codes "stop") None (bodies.acts (codes "T") (with_mark mark.Takes) (codes "ready") None bodies.ends))))));
 }
 
 stream_front : protocol.IsCanonical (demo_names demo.Stream 0) stream_protocol stream_tree

@@ -29,6 +29,9 @@ use Rattle.rs_global.specs.Canonical.{IsCanonicalText}
 use Rattle.rs_global.specs.Graph as of_protocols
 use Rattle.rs_global.specs.Spells.{SpellsProtocol}
 use Rattle.rs_global.specs.Trees as protocol_trees
+use Rattle.rs_bodies.specs.Graph as graphs
+use Rattle.rs_bodies.specs.Trees as bodies
+use Rattle.rs_bodies.specs.declared.dialects.Dialect.TheVariants.{Acts}
 use Rattle.rs_machines.proofs.CanonWhole.{IsReadable, readable}
 use Rattle.rs_machines.proofs.PrintedTrees.{tree_spelt}
 use Rattle.rs_machines.specs.Canonical.{IsCanonicalMachineText, IsMachineTextShaped}
@@ -47,7 +50,7 @@ use Rattle.rs_text.specs.Signs.{Sign, plain, finish}
 use Rattle.rs_text.specs.Sound.{IsSound, differ}
 
 -- what may stand behind a line ends a recursion name
-ends_machines : (sign : Sign) (text : List ℕ) → Begins sign text → machine_trees.ends_a_name sign ≡ true
+ends_machines : (sign : Sign) (text : List ℕ) → Begins sign text → bodies.ends_a_name Acts sign ≡ true
 ends_machines finish text b = refl
 ends_machines (plain word) text b = refl
 ends_machines _ text b = absurd b
@@ -64,10 +67,10 @@ all_known labels names e l a = subst (λ (z : List (List ℕ)). is_among l z ≡
 -- ---- machines
 
 machine_is_printed : (names : Names_data) (machine : Machine_data) (line : List ℕ) → IsSound names → IsMachineTextShaped machine → AreEnoughFor names machine → (c : IsCanonicalMachineText names machine line)
-    → IsPrinted machine_parts machine_by names machine line (of_lines.labels_of c.tree.body)
+    → IsPrinted machine_parts machine_by names machine line (graphs.labels_of Acts c.tree.body)
 machine_is_printed names machine line sound shaped enough c =
     let t : machine_trees.MachineTree = c.tree in
-    let labels : List (List ℕ) = of_lines.labels_of t.body in
+    let labels : List (List ℕ) = graphs.labels_of Acts t.body in
     let w : IsReadable names machine t = readable names machine t shaped sound enough c.canonical in
     let e : line ≡ machine_text t = c.is in
     record {
@@ -75,9 +78,9 @@ machine_is_printed names machine line sound shaped enough c =
       begins = (t.role ++ (codes ": " ++ (body_text t.body ++ codes "\n")), refl, e);
       role = λ number. refl;
       reads = λ bytes at old behind sign number parts b stands roles few f.
-          let ended : machine_trees.ends_a_name (next_lexeme bytes (at + length line)).sign ≡ true = ap machine_trees.ends_a_name stands ∙ ends_machines sign behind b in
+          let ended : bodies.ends_a_name Acts (next_lexeme bytes (at + length line)).sign ≡ true = ap (bodies.ends_a_name Acts) stands ∙ ends_machines sign behind b in
           let spelt = tree_spelt bytes at old t behind w.words (fits_again old names t w.fits roles few) (subst (λ (z : List ℕ). drop at bytes ≡ z ++ behind) e parts)
-          (λ _. subst (λ (z : List ℕ). machine_trees.ends_a_name (next_lexeme bytes (at + length z)).sign ≡ true) e ended) in
+          (λ _. subst (λ (z : List ℕ). bodies.ends_a_name Acts (next_lexeme bytes (at + length z)).sign ≡ true) e ended) in
           subst (λ (z : List ℕ). SpellsMachine bytes at old (of_lines.names_of old t) (machine_by number machine) (next_lexeme bytes (at + length z)).from) (sym e)
           (subst (λ (z : Machine_data). SpellsMachine bytes at old (of_lines.names_of old t) z (next_lexeme bytes (at + length (machine_text t))).from) (sym (machine_again old names machine t number w.spells w.names_are roles f)) spelt);
     }
@@ -88,7 +91,7 @@ machines_are_printed names (None ∷ machines) text sound shown lines = machines
 machines_are_printed names (Some machine ∷ machines) text sound shown lines = (
   lines.0,
   lines.1,
-  of_lines.labels_of lines.2.tree.body,
+  graphs.labels_of Acts lines.2.tree.body,
   labels_of_lines names machines lines.1 lines.3,
   machine_is_printed names machine lines.0 sound shown.0.0 shown.0.1 lines.2,
   machines_are_printed names machines lines.1 sound shown.1 lines.3,
@@ -264,7 +267,7 @@ machines_printed_again : (names : Names_data) (others : List (List ℕ)) (number
 machines_printed_again names others number [] text lines f = lines
 machines_printed_again names others number (None ∷ machines) text lines f = machines_printed_again names others number machines text lines f
 machines_printed_again names others number (Some machine ∷ machines) text lines f =
-    let mine : List (List ℕ) = of_lines.labels_of lines.2.tree.body in
+    let mine : List (List ℕ) = graphs.labels_of Acts lines.2.tree.body in
     let more : List (List ℕ) = labels_of_lines names machines lines.1 lines.3 in (
       lines.0,
       lines.1,
@@ -313,9 +316,9 @@ as_itself d e text r c h =
 
 -- ---- where the labels stand in order
 
-machine_stays : (names : Names_data) (machine : Machine_data) (line : List ℕ) (number : ℕ → ℕ) → IsSound names → IsMachineTextShaped machine → AreEnoughFor names machine → (c : IsCanonicalMachineText names machine line) → Renumbers number names.labels names.labels (of_lines.labels_of c.tree.body) → machine_by number machine ≡ machine
+machine_stays : (names : Names_data) (machine : Machine_data) (line : List ℕ) (number : ℕ → ℕ) → IsSound names → IsMachineTextShaped machine → AreEnoughFor names machine → (c : IsCanonicalMachineText names machine line) → Renumbers number names.labels names.labels (graphs.labels_of Acts c.tree.body) → machine_by number machine ≡ machine
 machine_stays names machine line number sound shaped enough c f =
-    let labels : List (List ℕ) = of_lines.labels_of c.tree.body in
+    let labels : List (List ℕ) = graphs.labels_of Acts c.tree.body in
     let w : IsReadable names machine c.tree = readable names machine c.tree shaped sound enough c.canonical in
     let same : grown names.labels labels ≡ names.labels = ap (λ (z : Names_data). z.labels) w.names_are in
     machine_again names names machine c.tree number w.spells w.names_are refl (λ l a. f l a ∙ ap (λ (z : List (List ℕ)). number_or (place_of l z)) (sym same)) ∙ w.spells
@@ -325,7 +328,7 @@ machines_stay : (names : Names_data) (number : ℕ → ℕ) (machines : List (Op
 machines_stay names number [] text sound shown lines f = refl
 machines_stay names number (None ∷ machines) text sound shown lines f = ap (λ (z : List (Option Machine_data)). None ∷ z) (machines_stay names number machines text sound shown.1 lines f)
 machines_stay names number (Some machine ∷ machines) text sound shown lines f =
-    let mine : List (List ℕ) = of_lines.labels_of lines.2.tree.body in
+    let mine : List (List ℕ) = graphs.labels_of Acts lines.2.tree.body in
     let more : List (List ℕ) = labels_of_lines names machines lines.1 lines.3 in
     ap (λ (z : Machine_data). Some z ∷ map (option_map (machine_by number)) machines) (machine_stays names machine lines.0 number sound shown.0.0 shown.0.1 lines.2 (λ l a. f l (front_among l mine more a)))
     ∙ ap (λ (z : List (Option Machine_data)). Some machine ∷ z) (machines_stay names number machines lines.1 sound shown.1 lines.3 (λ l a. f l (back_among l mine more a)))

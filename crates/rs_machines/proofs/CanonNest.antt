@@ -309,10 +309,10 @@ mutual
       let rest : Branches Acts = canon_arms w arms bound j in
       let all : List (List ℕ) = grown labels (label_as w l ∷ []) in
       let more : LabelsKnown w all = known_grown w labels (label_as w l ∷ []) lk in
-      let p = both (has_room_for l (scene roles bound d k ls) && (body_fits Acts) b (scene roles bound d k (grown ls (l ∷ [])))) (arms_fit Acts arms (scene roles bound d (k + acts_in Acts b) (grown (grown ls (l ∷ [])) (labels_of Acts b)))) h in
+      let p = both (has_room_for l (scene roles bound d k ls) && body_fits Acts b (scene roles bound d k (grown ls (l ∷ [])))) (arms_fit Acts arms (scene roles bound d (k + acts_in Acts b) (grown (grown ls (l ∷ [])) (labels_of Acts b)))) h in
       let q = both (has_room_for l (scene roles bound d k ls)) (body_fits Acts b (scene roles bound d k (grown ls (l ∷ [])))) p.0 in
       let step : k + acts_in Acts b ≡ k + acts_in Acts form = ap (λ z. k + z) (sym (canon_acts w b bound k)) in
-      two_true (has_room_for (label_as w l) (scene known named inner k labels) && (body_fits Acts) form (scene known named inner k all)) (arms_fit Acts rest (scene known named inner (k + acts_in Acts form) (grown all (labels_of Acts form))))
+      two_true (has_room_for (label_as w l) (scene known named inner k labels) && body_fits Acts form (scene known named inner k all)) (arms_fit Acts rest (scene known named inner (k + acts_in Acts form) (grown all (labels_of Acts form))))
       (two_true (has_room_for (label_as w l) (scene known named inner k labels)) (body_fits Acts form (scene known named inner k all)) (or_first (is_among (label_as w l) labels) (nat_lt (length labels) 256) (lk l has.0))
       (canon_fits w b bound named false k d inner roles known (grown ls (l ∷ [])) all rs more has.1 du le (λ e. absurd (cc e)) q.1 recs.0 fine.0 (λ x m e bk lt. inv x m e bk) low))
       (subst (λ (z : ℕ). arms_fit Acts rest (scene known named inner z (grown all (labels_of Acts form))) ≡ true) step

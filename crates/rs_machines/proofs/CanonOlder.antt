@@ -136,12 +136,12 @@ mutual
       let all : List (List ℕ) = grown ls (l ∷ []) in
       let kts = both (kept w l) (list_all (kept w) (labels_of Acts b ++ labels_of_arms Acts arms)) kt in
       let ktp = kept_parts w (labels_of Acts b) (labels_of_arms Acts arms) kts.1 in
-      let p = both (has_room_for l (scene roles bound d k ls) && (body_fits Acts) b (scene roles bound d k all)) (arms_fit Acts arms (scene roles bound d (k + acts_in Acts b) (grown all (labels_of Acts b)))) h in
+      let p = both (has_room_for l (scene roles bound d k ls) && body_fits Acts b (scene roles bound d k all)) (arms_fit Acts arms (scene roles bound d (k + acts_in Acts b) (grown all (labels_of Acts b)))) h in
       let q = both (has_room_for l (scene roles bound d k ls)) (body_fits Acts b (scene roles bound d k all)) p.0 in
       let step : k + acts_in Acts b ≡ k + acts_in Acts form = ap (λ z. k + z) (sym (canon_acts w b bound k)) in
       let labels : labels_of Acts b ≡ labels_of Acts form = sym (canon_labels w b bound k ∙ kept_map w (labels_of Acts b) ktp.0) in
       subst (λ (z : List ℕ). arms_fit Acts (more z (sort_as sort) form rest) (scene known named inner k ls) ≡ true) (sym (stays w l kts.0))
-      (two_true (has_room_for l (scene known named inner k ls) && (body_fits Acts) form (scene known named inner k all)) (arms_fit Acts rest (scene known named inner (k + acts_in Acts form) (grown all (labels_of Acts form))))
+      (two_true (has_room_for l (scene known named inner k ls) && body_fits Acts form (scene known named inner k all)) (arms_fit Acts rest (scene known named inner (k + acts_in Acts form) (grown all (labels_of Acts form))))
       (two_true (has_room_for l (scene known named inner k ls)) (body_fits Acts form (scene known named inner k all)) q.0
       (older_fits w b bound named false k d inner roles known all rs ktp.0 has.1 du le (λ e. absurd (cc e)) q.1 recs.0 fine.0 (λ x m e bk lt. inv x m e bk) low))
       (subst (λ (z : ℕ). arms_fit Acts rest (scene known named inner z (grown all (labels_of Acts form))) ≡ true) step

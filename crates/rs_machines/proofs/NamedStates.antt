@@ -104,7 +104,7 @@ mutual
   named_arm_states : (arms : Branches Acts) (m : Numbering) (s : Scene) → s.roles ≡ m.names.roles → arms_fit Acts arms s ≡ true → Has (labels_of_arms Acts arms) m.names.labels → EachState m.names (states_of_arms m arms s.bound s.acts)
   named_arm_states (one l sort body) m s r fits h = named_states body m (with_label l s) r (and_split (has_room_for l s) (body_fits Acts body (with_label l s)) fits).1 (has_later l (labels_of Acts body) m.names.labels h)
   named_arm_states (more l sort body arms) m s r fits h =
-      let f = and_split (has_room_for l s && (body_fits Acts) body (with_label l s)) (arms_fit Acts arms (behind Acts body (with_label l s))) fits in
+      let f = and_split (has_room_for l s && body_fits Acts body (with_label l s)) (arms_fit Acts arms (behind Acts body (with_label l s))) fits in
       let g = and_split (has_room_for l s) (body_fits Acts body (with_label l s)) f.0 in
       let k : Has (labels_of Acts body ++ labels_of_arms Acts arms) m.names.labels = has_later l (labels_of Acts body ++ labels_of_arms Acts arms) m.names.labels h in
       all_append (states_of m body s.bound s.acts) (states_of_arms m arms s.bound (s.acts + acts_in Acts body)) m.names

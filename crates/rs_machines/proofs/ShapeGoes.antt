@@ -198,7 +198,7 @@ mutual
   arms_go m p g (more l sort b arms) fuel bound n k d inner ended roles ls pre post e h lt few fl du di fits recs named low free =
       let a : Arm = arm_of m l sort (first_of Acts b bound k m.last) in
       let j : ℕ = k + acts_in Acts b in
-      let q0 = both (has_room_for l (scene roles bound d k ls) && (body_fits Acts) b (scene roles bound d k (grown ls (l ∷ [])))) (arms_fit Acts arms (scene roles bound d j (grown (grown ls (l ∷ [])) (labels_of Acts b)))) fits in
+      let q0 = both (has_room_for l (scene roles bound d k ls) && body_fits Acts b (scene roles bound d k (grown ls (l ∷ [])))) (arms_fit Acts arms (scene roles bound d j (grown (grown ls (l ∷ [])) (labels_of Acts b)))) fits in
       let q = both (has_room_for l (scene roles bound d k ls)) (body_fits Acts b (scene roles bound d k (grown ls (l ∷ [])))) q0.0 in
       one_goes (visited fuel p inner) m.last (suc n) a (arms_of Acts m arms bound j) (walk k ended) (walk j (ended || has_end Acts b))
       (goes m p g b fuel bound false (suc n) k d inner ended roles (grown ls (l ∷ [])) pre (states_of_arms m arms bound j ++ post) (e ∙ ap (λ z. pre ++ z) (append_assoc (states_of m b bound k) (states_of_arms m arms bound j) post)) h (omega arith) (omega arith) (omega arith) du di (λ z. absurd (cc z)) q.1 recs.0 named.0 (low_up bound n k (omega arith) low) (λ x v i c. let z : v < n + 1 = low x v i in omega arith)

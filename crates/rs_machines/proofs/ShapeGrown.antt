@@ -267,7 +267,7 @@ more_grown p names bound depth a b bs w x u plain small g r =
       counts = omega arith;
       labels = grown_append (labels_of Acts g.body) (labels_of_arms Acts r.branches) (grown names.labels (l ∷ [])) ∙ ap (λ z. grown z (labels_of_arms Acts r.branches)) labels ∙ r.labels;
       ended = r.ended ∙ ap (λ z. z || has_end_arms Acts r.branches) g.ended ∙ or_assoc w.ended (has_end Acts g.body) (has_end_arms Acts r.branches);
-      fits = two_true (has_room_for l (scene roles bound depth w.count names.labels) && (body_fits Acts) g.body (scene roles bound depth w.count (grown names.labels (l ∷ []))))
+      fits = two_true (has_room_for l (scene roles bound depth w.count names.labels) && body_fits Acts g.body (scene roles bound depth w.count (grown names.labels (l ∷ []))))
           (arms_fit Acts r.branches (scene roles bound depth (w.count + acts_in Acts g.body) (grown (grown names.labels (l ∷ [])) (labels_of Acts g.body))))
           (two_true (has_room_for l (scene roles bound depth w.count names.labels)) (body_fits Acts g.body (scene roles bound depth w.count (grown names.labels (l ∷ []))))
           (or_first (is_among l names.labels) (nat_lt (length names.labels) 256) known) (subst (λ (z : List (List ℕ)). body_fits Acts g.body (scene roles bound depth w.count z) ≡ true) (sym same) g.fits))

@@ -95,7 +95,7 @@ first_good (offers p (with_mark m) arms) s last total fits h n k = omega arith
 arms_good : (m : Numbering) (arms : Branches Acts) (s : Scene) (total : ℕ) → arms_fit Acts arms s ≡ true → (has_end_arms Acts arms ≡ true → m.last < total) → s.acts + acts_in_arms Acts arms ≤ m.last → m.last ≤ total → NextsGood total (arms_of Acts m arms s.bound s.acts)
 arms_good m (one l sort body) s total fits h n k = (first_good body (with_label l s) m.last total (and_split (has_room_for l s) (body_fits Acts body (with_label l s)) fits).1 h n k, tt)
 arms_good m (more l sort body arms) s total fits h n k =
-    let f = and_split (has_room_for l s && (body_fits Acts) body (with_label l s)) (arms_fit Acts arms (behind Acts body (with_label l s))) fits in
+    let f = and_split (has_room_for l s && body_fits Acts body (with_label l s)) (arms_fit Acts arms (behind Acts body (with_label l s))) fits in
     let g = and_split (has_room_for l s) (body_fits Acts body (with_label l s)) f.0 in (
       first_good body (with_label l s) m.last total g.1 (λ e. h (or_left (has_end Acts body) (has_end_arms Acts arms) e)) (omega arith) k,
       arms_good m arms (behind Acts body (with_label l s)) total f.1 (λ e. h (or_right (has_end Acts body) (has_end_arms Acts arms) e)) (omega arith) k,
@@ -140,7 +140,7 @@ mutual
   arm_states_good : (arms : Branches Acts) (m : Numbering) (s : Scene) (total : ℕ) → s.roles ≡ m.names.roles → arms_fit Acts arms s ≡ true → (has_end_arms Acts arms ≡ true → m.last < total) → s.acts + acts_in_arms Acts arms ≤ m.last → m.last ≤ total → StatesGood (length m.names.roles) total (states_of_arms m arms s.bound s.acts)
   arm_states_good (one l sort body) m s total r fits h n k = states_good body m (with_label l s) total r (and_split (has_room_for l s) (body_fits Acts body (with_label l s)) fits).1 h n k
   arm_states_good (more l sort body arms) m s total r fits h n k =
-      let f = and_split (has_room_for l s && (body_fits Acts) body (with_label l s)) (arms_fit Acts arms (behind Acts body (with_label l s))) fits in
+      let f = and_split (has_room_for l s && body_fits Acts body (with_label l s)) (arms_fit Acts arms (behind Acts body (with_label l s))) fits in
       let g = and_split (has_room_for l s) (body_fits Acts body (with_label l s)) f.0 in
       good_append (states_of m body s.bound s.acts) (states_of_arms m arms s.bound (s.acts + acts_in Acts body)) (length m.names.roles) total
       (states_good body m (with_label l s) total r g.1 (λ e. h (or_left (has_end Acts body) (has_end_arms Acts arms) e)) (omega arith) k)
