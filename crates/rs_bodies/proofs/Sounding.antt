@@ -46,7 +46,10 @@ use Rattle.rs_text.specs.declared.tokens.Kind.TheVariants as kinds
 use Rattle.rs_text.specs.FirstFaults.{IsWhole}
 use Rattle.rs_bodies.proofs.FaultSteps.{whole_fed}
 use Rattle.rs_bodies.proofs.Labels.{Takes, take_sign, is_of_talks}
-use Rattle.rs_bodies.specs.Feeding.{feed_of, begin, first_roles}
+use Rattle.rs_bodies.specs.Feeding.{feed_of, begin, first_roles, Answer, answered, ReadsAs}
+use Rattle.std.proofs.Common.{Result}
+use Rattle.rs_text.specs.Readings.{Reading, read_all}
+use Rattle.rs_text.proofs.Keeping.{tokens, kept, KeptIn}
 use Rattle.rs_bodies.proofs.FaultRuns.{linked_length, placed_length}
 
 -- names that are still sound, with further labels behind the old ones
@@ -321,3 +324,31 @@ same_sound r d e h = subst IsSound (sym e) h
 
 pub same_keeps : (dia : Dialect) (old : Names_data) (r d : Reader_data) → names_read d ≡ names_read r → KeepsBy dia old (names_read r) → KeepsBy dia old (names_read d)
 same_keeps dia old r d e h = subst (λ (z : Names_data). KeepsBy dia old z) (sym e) h
+
+-- ---- what is read
+
+keep_sign : (dia : Dialect) (old : Names_data) (t : Sign) (at : ℕ) (next : Lexeme) (r : Reader_data) → IsNamed t → Good dia old r → IfOk (feed_sign (feeding dia) t at next r) (Good dia old)
+keep_sign dia old (broken k) at next r n h = tt
+keep_sign dia old t at next r n h = keep_at dia old r.mode t at next r n h
+
+good_begun : (dia : Dialect) (old : Names_data) → old.roles ≡ first_roles dia old → IsSound old → Good dia old (begin dia old)
+good_begun dia old first s =
+    let t = and_split (differ old.roles && list_all is_role_word old.roles) (differ old.labels && list_all is_word old.labels) ((decides_sound old).1 s) in
+    let u = and_split (differ old.labels) (list_all is_word old.labels) t.1 in
+    let v = and_split (differ old.roles) (list_all is_role_word old.roles) t.0 in
+    let good : GoodNames old old.roles old.labels = record { roles_differ = v.0; roles_are_words = v.1; later = []; labels_are = sym (append-nil old.labels); labels_differ = u.0; words = u.1 } in
+    (subst (λ (z : List (List ℕ)). GoodNames old z old.labels) first good, omega arith)
+
+abbrev SoundAnswer : Answer → Type 0
+SoundAnswer a = IsSound a.names
+
+on_answer : (dia : Dialect) (old : Names_data) (x : Result (Reading Reader_data) TextFault) → IfOk x (KeptIn (Good dia old)) → IfOk (answered x) SoundAnswer
+on_answer dia old (Ok x) h = (decides_sound (names_read x.reader)).0 (rw (h.0.roles_differ, h.0.roles_are_words, h.0.labels_differ, h.0.words) refl)
+on_answer dia old (Err e) h = tt
+
+-- what is read has names that texts can have
+pub is_sound : (dia : Dialect) (old : Names_data) (bytes : List ℕ) (at : ℕ) (a : Answer) → old.roles ≡ first_roles dia old → IsSound old → at ≤ length bytes → ReadsAs dia old bytes at (Ok a) → IsSound a.names
+is_sound dia old bytes at a first s h p =
+    let t = tokens bytes at h in
+    subst (λ (z : Result Answer TextFault). IfOk z SoundAnswer) (p t.0 t.1)
+    (on_answer dia old (read_all (feeding dia) (Ok (begin dia old)) t.0) (kept (feeding dia) (Good dia old) (λ t at n r name k. keep_sign dia old t at n r name k) (begin dia old) (good_begun dia old first s) bytes at t.0 t.1))

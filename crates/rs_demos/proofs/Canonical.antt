@@ -17,6 +17,7 @@ use Rattle.rs_global.specs.Canonical as protocol
 use Rattle.rs_global.specs.Canonical.{IsCanonicalText}
 use Rattle.rs_global.specs.Texts as protocol_texts
 use Rattle.rs_global.specs.Trees as protocol_trees
+use Rattle.rs_bodies.specs.Dialects.{sends_to}
 use Rattle.rs_bodies.specs.Trees as bodies
 use Rattle.rs_bodies.specs.Dialects.{with_mark}
 use Rattle.rs_machines.specs.Canonical as machine'
@@ -108,14 +109,14 @@ double_tree = record {
   first = codes "K";
   second = codes "S";
   further = codes "T" ∷ [];
-  body = protocol_trees.binds (codes "X0") (protocol_trees.talks (codes "K") (codes "S") (codes "ready") None
-      (protocol_trees.talks (codes "T") (codes "K") (codes "ready") None
-      (protocol_trees.offers (codes "S") (codes "K")
-      (protocol_trees.more (codes "copy") (Some sort.Octets)
-      (protocol_trees.talks (codes "K") (codes "T") (codes "copy") (Some sort.Octets) (protocol_trees.again (codes "X0")))
-      (protocol_trees.one (codes "stop") None
-      (protocol_trees.talks (codes "K") (codes "S") (codes "ready") None
-      (protocol_trees.talks (codes "K") (codes "T") (codes "stop") None protocol_trees.ends)))))));
+  body = bodies.binds (codes "X0") (bodies.acts (codes "K") (sends_to (codes "S")) (codes "ready") None
+      (bodies.acts (codes "T") (sends_to (codes "K")) (codes "ready") None
+      (bodies.offers (codes "S") (sends_to (codes "K"))
+      (bodies.more (codes "copy") (Some sort.Octets)
+      (bodies.acts (codes "K") (sends_to (codes "T")) (codes "copy") (Some sort.Octets) (bodies.again (codes "X0")))
+      (bodies.one (codes "stop") None
+      (bodies.acts (codes "K") (sends_to (codes "S")) (codes "ready") None
+      (bodies.acts (codes "K") (sends_to (codes "T")) (codes "stop") None bodies.ends)))))));
 }
 
 double_kernel_tree : machine_trees.MachineTree
@@ -281,10 +282,10 @@ stream_tree = record {
   first = codes "S";
   second = codes "T";
   further = [];
-  body = protocol_trees.binds (codes "X0") (protocol_trees.talks (codes "T") (codes "S") (codes "ready") None
-      (protocol_trees.offers (codes "S") (codes "T")
-      (protocol_trees.more (codes "value") (Some sort.Octets) (protocol_trees.again (codes "X0"))
-      (protocol_trees.one (codes "stop") None protocol_trees.ends))));
+  body = bodies.binds (codes "X0") (bodies.acts (codes "T") (sends_to (codes "S")) (codes "ready") None
+      (bodies.offers (codes "S") (sends_to (codes "T"))
+      (bodies.more (codes "value") (Some sort.Octets) (bodies.again (codes "X0"))
+      (bodies.one (codes "stop") None bodies.ends))));
 }
 
 stream_source_tree : machine_trees.MachineTree

@@ -13,8 +13,9 @@ use Rattle.rs_model.specs.declared.values.Sort.TheVariants as sort
 use Rattle.rs_global.specs.Canonical as protocol
 use Rattle.rs_global.specs.Texts as protocol_texts
 use Rattle.rs_global.specs.Trees as protocol_trees
+use Rattle.rs_bodies.specs.Dialects.{sends_to}
 use Rattle.rs_bodies.specs.Trees as bodies
-use Rattle.rs_bodies.specs.declared.dialects.Dialect.TheVariants.{Acts}
+use Rattle.rs_bodies.specs.declared.dialects.Dialect.TheVariants.{Talks, Acts}
 use Rattle.rs_bodies.specs.Dialects.{with_mark}
 use Rattle.rs_machines.specs.Canonical as machine'
 use Rattle.rs_machines.specs.Canonical.{IsCanonicalMachineText}
@@ -36,9 +37,9 @@ use Rattle.rs_demos.proofs.Ranges.{mapped-at}
 
 -- texts
 
-abbrev body_of : List Exchange → protocol_trees.Body
-body_of [] = protocol_trees.ends
-body_of (x ∷ xs) = protocol_trees.talks (role_name x.0) (role_name x.1) (codes "v") (Some sort.Whole) (body_of xs)
+abbrev body_of : List Exchange → bodies.Body Talks
+body_of [] = bodies.ends
+body_of (x ∷ xs) = bodies.acts (role_name x.0) (sends_to (role_name x.1)) (codes "v") (Some sort.Whole) (body_of xs)
 
 abbrev acts_of : List Exchange → bodies.Body Acts
 acts_of [] = bodies.ends

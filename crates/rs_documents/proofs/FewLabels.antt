@@ -1,7 +1,6 @@
 -- A text has at most 256 labels, as far as a protocol or a machine goes.
 use Rattle.std.proofs.Common.{◌≡◌, ℕ, ◌≤◌, List, [], ◌∷◌, ◌++◌, length, Bool, true, false, if◌then◌else◌, sym, subst, arith, length-append}
 use Rattle.rs_global.proofs.CanonNest.{few_labels, fits_labels}
-use Rattle.rs_global.specs.Scenes as scenes
 use Rattle.rs_global.specs.Spells.{SpellsProtocol}
 use Rattle.rs_global.specs.Trees.{roles_of}
 use Rattle.rs_machines.specs.Spells.{SpellsMachine}
@@ -46,7 +45,7 @@ mutual
 -- a protocol's labels
 pub protocol_few : (bytes : List ℕ) (at : ℕ) (names : Names_data) (protocol : Protocol_data) (until : ℕ) → SpellsProtocol bytes at names protocol until → length names.labels ≤ MOST_LABELS
 protocol_few bytes at names protocol until s =
-    subst (λ (z : Names_data). length z.labels ≤ MOST_LABELS) (sym s.names_are) (fits_labels s.tree.body (scenes.first_scene (roles_of s.tree)) s.fits.body (omega arith))
+    subst (λ (z : Names_data). length z.labels ≤ MOST_LABELS) (sym s.names_are) (fits_labels s.tree.body (first_scene (roles_of s.tree) []) s.fits.body (omega arith))
 
 -- .. and those behind a machine
 pub machine_few : (bytes : List ℕ) (at : ℕ) (old new : Names_data) (machine : Machine_data) (until : ℕ) → length old.labels ≤ MOST_LABELS → SpellsMachine bytes at old new machine until → length new.labels ≤ MOST_LABELS

@@ -21,8 +21,6 @@ use Rattle.rs_documents.proofs.CanShow.{can_show, kept}
 use Rattle.rs_documents.proofs.OneDocument.{front_few}
 use Rattle.rs_documents.proofs.PartKinds.{of_derivations, of_machines}
 use Rattle.rs_documents.proofs.Parts.{good, keeps, keeps_few, none_there, row_of, size_of_none}
-use Rattle.rs_global.proofs.Sounding.{is_sound}
-use Rattle.rs_global.proofs.SpeltRuns.{complete}
 use Rattle.rs_machines.proofs.CanonNumbers.{sound_parts}
 use Rattle.rs_machines.specs.Spells.{SpellsMachine}
 use Rattle.rs_machines.specs.Trees.{machine_signs}
@@ -46,6 +44,7 @@ use Rattle.rs_bodies.specs.declared.dialects.Dialect.TheVariants.{Acts}
 use Rattle.rs_bodies.specs.Graph.{labels_of, labels_of_arms}
 use Rattle.rs_bodies.specs.Trees.{Body, ends, again, binds, acts, offers, Branches, one, more, body_signs, branch_signs}
 use Rattle.rs_bodies.specs.Dialects.{with_mark}
+use Rattle.rs_global.proofs.Spelt.{complete, is_sound}
 
 -- ---- tokens
 

@@ -21,6 +21,9 @@ use Rattle.rs_bodies.specs.Spells as parts
 use Rattle.rs_bodies.specs.Spells.{Tree, Spells, spelling_of, tree_signs}
 use Rattle.rs_bodies.specs.Trees.{Body, ends, again, binds, acts, offers, Branches, one, more, body_signs, ends_by_name, ends_a_name}
 use Rattle.rs_text.proofs.Keeping.{tokens}
+use Rattle.rs_text.specs.Sound.{IsSound}
+use Rattle.rs_text.proofs.Naming.{decides_sound}
+use Rattle.rs_bodies.proofs.Sounding as sounding
 use Rattle.rs_bodies.proofs.Answers as answers
 use Rattle.rs_bodies.proofs.OneFault as faults
 use Rattle.rs_bodies.proofs.SpeltLaws as laws
@@ -205,3 +208,16 @@ begins_before bytes at k offset f = faults.begins_before Talks no_names bytes at
 
 pub expected : (bytes : List ℕ) (at : ℕ) (w : Wanted) (offset : ℕ) (f : FirstFault bytes at (kind.Expected w) offset) → IsUnexpected Talks (signs_of f.before) f.token.sign w
 expected bytes at w offset f = faults.expected Talks no_names bytes at w offset f
+
+-- ---- names
+
+none_sound : IsSound no_names
+none_sound = (decides_sound no_names).0 refl
+
+-- what is read has names that texts can have
+pub is_sound : (bytes : List ℕ) (at : ℕ) (a : Answer) → at ≤ length bytes → ReadsAs bytes at (Ok a) → IsSound a.names
+is_sound bytes at a within h =
+    let p = part_read bytes at (Ok a) within h in
+    let b = of_ok p.0 a p.2 in
+    let read : bodies.ReadsAs Talks no_names bytes at (Ok b.0) = subst (λ (z : Result bodies.Answer TextFault). bodies.ReadsAs Talks no_names bytes at z) b.1 p.1 in
+    subst (λ (z : Answer). IsSound z.names) b.2 (sounding.is_sound Talks no_names bytes at b.0 refl none_sound within read)
