@@ -1,9 +1,9 @@
+-- Every text has one answer.
 use Rattle.std.proofs.Common.{◌≡◌, ◌≤◌, ℕ, List, Result, length, sym, ap, ◌∙◌}
 use Rattle.rs_model.specs.Data.{Names_data}
 use Rattle.rs_text.specs.declared.faults.TextFault.{TextFault}
 use Rattle.std.specs.Prelude.{Ok}
 use Rattle.rs_bodies.specs.declared.dialects.Dialect.{Dialect}
-use Rattle.rs_bodies.specs.declared.dialects.Dialect.TheVariants.{Talks, Acts}
 use Rattle.rs_text.proofs.Nexts.{one_list}
 use Rattle.rs_bodies.specs.Feeding.{Answer, ReadsAs, answered, begin, feeding}
 use Rattle.rs_text.specs.Readings.{read_all}

@@ -1,9 +1,8 @@
--- A place of the grammar goes on by each token that it takes, and can be completed to a machine.
-use Rattle.std.proofs.Common.{◌≡◌, ℕ, List, [], ◌∷◌, ◌++◌, codes, Bool, true, false, if◌then◌else◌, ◌&&◌, not, Option, Some, None, is_some, refl, sym, ap, ◌∙◌, subst, ◌⊎◌, inl, inr, append_assoc, append-nil}
+-- A place of the grammar goes on by each token that it takes, and can be completed to a part.
+use Rattle.std.proofs.Common.{◌≡◌, ℕ, List, [], ◌∷◌, ◌++◌, codes, Bool, true, false, Option, Some, None, is_some, refl, sym, ap, ◌∙◌, subst, ◌⊎◌, inl, inr, append_assoc, append-nil}
 use Rattle.std.proofs.lemmas.Slice.Eq.{bytes_eq-Decides}
 use Rattle.std.specs.Str.{bytes_eq}
 use Rattle.rs_model.specs.declared.values.Sort.{Sort}
-use Rattle.rs_model.specs.declared.values.Sort.TheVariants as sort
 use Rattle.rs_text.specs.declared.faults.Wanted.{Wanted}
 use Rattle.rs_text.specs.declared.faults.Wanted.TheVariants as wanted
 use Rattle.rs_bodies.specs.declared.dialects.Dialect.{Dialect}
@@ -15,8 +14,10 @@ use Rattle.rs_text.specs.Arms.{sort_signs, arm_signs, ArmCut, at_label, behind_l
 use Rattle.rs_text.specs.Seen.{sort_named}
 use Rattle.rs_bodies.specs.Trees.{Body, ends, again, binds, acts, offers, Branches, one, more, body_signs, branch_signs}
 use Rattle.rs_bodies.specs.Cuts.{Cut, at_body, behind_end, behind_name, behind_rec, behind_rec_name, in_binds, in_turn, in_arm, in_acts, in_offers, behind_brace, BranchCut, in_head, in_branch, later, PartCut, in_opening, in_body, cut_signs, branch_cut_signs, part_cut_signs, wanted_at, wanted_in}
-use Rattle.rs_bodies.specs.Dialects.{Turn, sends_to, with_mark, turn_signs, lone_signs, turns, TurnCut, behind_arrow, behind_receiver, wanted_alone}
-use Rattle.rs_bodies.specs.Openings.{Opening, of_roles, of_role, further_signs, line_signs, OpeningCut, at_roles, at_first, behind_first, at_further, behind_further, at_machine, at_role, behind_role, opening_signs, opening_cut_signs}
+use Rattle.rs_bodies.specs.Dialects.{Turn, sends_to, with_mark, turn_signs, lone_signs, turns}
+use Rattle.rs_bodies.specs.Cuts.{TurnCut, behind_arrow, behind_receiver, wanted_alone}
+use Rattle.rs_bodies.specs.Openings.{Opening, of_roles, of_role, further_signs, line_signs, opening_signs}
+use Rattle.rs_bodies.specs.Cuts.{OpeningCut, at_roles, at_first, behind_first, at_further, behind_further, at_machine, at_role, behind_role, opening_cut_signs}
 use Rattle.rs_bodies.specs.Spells.{Tree, tree_signs}
 use Rattle.rs_bodies.specs.Faults.{Begins}
 use Rattle.rs_bodies.proofs.FaultPlaces.{is_named, is_named_in, is_named_of, opening_wants, place_wants}
@@ -297,9 +298,13 @@ simple dia o = record { opening = o; body = ends }
 
 line_ends : (x : List ℕ) (xs : List (List ℕ)) → Begins Talks (line_signs x xs ++ comma ∷ [])
 line_ends x [] = (simple Talks (of_roles x (codes "x") []), plain (codes "x") ∷ plain (codes "protocol") ∷ end_word ∷ [], refl)
-line_ends x (y ∷ xs) = (simple Talks (of_roles x y (xs ++ codes "x" ∷ [])), plain (codes "x") ∷ plain (codes "protocol") ∷ end_word ∷ [], ap (λ z. (plain (codes "roles") ∷ plain x ∷ comma ∷ plain y ∷ z ++ plain (codes "protocol") ∷ []) ++ end_word ∷ []) (line_on xs (codes "x"))
-    ∙ ap (λ z. plain (codes "roles") ∷ plain x ∷ comma ∷ plain y ∷ z) (append_assoc (flat_map further_signs xs ++ comma ∷ plain (codes "x") ∷ []) (plain (codes "protocol") ∷ []) (end_word ∷ [])
-    ∙ append_assoc (flat_map further_signs xs) (comma ∷ plain (codes "x") ∷ []) (plain (codes "protocol") ∷ end_word ∷ []) ∙ sym (append_assoc (flat_map further_signs xs) (comma ∷ []) (plain (codes "x") ∷ plain (codes "protocol") ∷ end_word ∷ []))))
+line_ends x (y ∷ xs) = (
+  simple Talks (of_roles x y (xs ++ codes "x" ∷ [])),
+  plain (codes "x") ∷ plain (codes "protocol") ∷ end_word ∷ [],
+  ap (λ z. (plain (codes "roles") ∷ plain x ∷ comma ∷ plain y ∷ z ++ plain (codes "protocol") ∷ []) ++ end_word ∷ []) (line_on xs (codes "x"))
+      ∙ ap (λ z. plain (codes "roles") ∷ plain x ∷ comma ∷ plain y ∷ z) (append_assoc (flat_map further_signs xs ++ comma ∷ plain (codes "x") ∷ []) (plain (codes "protocol") ∷ []) (end_word ∷ [])
+      ∙ append_assoc (flat_map further_signs xs) (comma ∷ plain (codes "x") ∷ []) (plain (codes "protocol") ∷ end_word ∷ []) ∙ sym (append_assoc (flat_map further_signs xs) (comma ∷ []) (plain (codes "x") ∷ plain (codes "protocol") ∷ end_word ∷ []))),
+)
 
 opening_begins : (dia : Dialect) (o : OpeningCut dia) → Begins dia (opening_cut_signs dia o)
 opening_begins Talks at_roles = (simple Talks (of_roles (codes "x") (codes "y") []), tree_signs Talks (simple Talks (of_roles (codes "x") (codes "y") [])), refl)

@@ -1,5 +1,5 @@
 -- At every place of the grammar that stands behind the tokens read so far, the reader wants what the place wants and sees its faults.
-use Rattle.std.proofs.Common.{◌≡◌, ℕ, suc, ◌+◌, List, [], ◌∷◌, ◌++◌, length, codes, Bool, true, false, if◌then◌else◌, nat_le, Option, Some, None, Ok, Err, refl, sym, ap, ◌∙◌, subst, append-nil}
+use Rattle.std.proofs.Common.{◌≡◌, ℕ, suc, ◌+◌, List, [], ◌∷◌, ◌++◌, length, codes, Bool, true, false, if◌then◌else◌, nat_le, Option, Some, None, Ok, refl, sym, ap, ◌∙◌, subst, append-nil}
 use Rattle.rs_model.specs.declared.graph.Role.{Role}
 use Rattle.rs_model.specs.declared.graph.Label.{Label}
 use Rattle.rs_model.specs.declared.values.Sort.{Sort}
@@ -16,7 +16,6 @@ use Rattle.rs_bodies.specs.declared.reading.Mode.TheVariants as mode
 use Rattle.rs_model.specs.Data.{Names_data}
 use Rattle.rs_bodies.specs.declared.dialects.Dialect.{Dialect}
 use Rattle.rs_bodies.specs.declared.dialects.Dialect.TheVariants.{Talks, Acts}
-use Rattle.rs_bodies.specs.declared.dialects.Head.{Head}
 use Rattle.rs_text.specs.declared.faults.Wanted.{Wanted}
 use Rattle.rs_text.specs.declared.faults.Wanted.TheVariants as wanted
 use Rattle.rs_text.specs.Names.{place_of, is_among, grown, Bound, bound_to}
@@ -25,8 +24,10 @@ use Rattle.rs_text.specs.Arms.{sort_text, sort_signs, arm_signs, ArmCut, at_labe
 use Rattle.rs_text.specs.Seen.{sort_named}
 use Rattle.rs_bodies.specs.Data.{Reader_data}
 use Rattle.rs_bodies.specs.Graph.{acts_in}
-use Rattle.rs_bodies.specs.Dialects.{lone_signs, turns, most, TurnCut, behind_arrow, behind_receiver, wanted_alone}
-use Rattle.rs_bodies.specs.Openings.{Opening, of_roles, of_role, further_signs, line_signs, OpeningCut, at_roles, at_first, behind_first, at_further, behind_further, at_machine, at_role, behind_role, opening_signs, opening_cut_signs, roles_in}
+use Rattle.rs_bodies.specs.Dialects.{lone_signs, turns, most}
+use Rattle.rs_bodies.specs.Cuts.{TurnCut, behind_arrow, behind_receiver, wanted_alone}
+use Rattle.rs_bodies.specs.Openings.{Opening, of_roles, of_role, further_signs, line_signs, opening_signs, roles_in}
+use Rattle.rs_bodies.specs.Cuts.{OpeningCut, at_roles, at_first, behind_first, at_further, behind_further, at_machine, at_role, behind_role, opening_cut_signs}
 use Rattle.rs_bodies.specs.Spells.{Tree, tree_signs}
 use Rattle.rs_bodies.specs.Feeding.{Fed, begin, feed_word, placed, opened, met_by, named, new_role, role_by, sorted_by, feeding}
 use Rattle.rs_text.specs.Readings.{fault}
@@ -37,7 +38,7 @@ use Rattle.rs_bodies.specs.Misplaced.{scene_at, scene_in, fault_of_depth, fault_
 use Rattle.rs_text.proofs.Leading.{Lands, Leads, lands_if}
 use Rattle.rs_bodies.proofs.FaultRuns.{met_lands, received_lands, head_lands, lone_lands, Follower, a_turn, a_broken, a_name, follower, by_name, faulty_calm, named_lands, placed_length, label_lands, arm_passes, frame_at, restored_bound, passes, branches_pass}
 
--- what a mode wants; a machine's first word is wanted as `Roles` here, so that it differs from what is wanted behind a machine
+-- what a mode wants; a machine's first word is wanted as `DerivationOrEnd` here, so that it differs from what is wanted behind a part
 abbrev pub wanted_behind : List Frame → Wanted
 wanted_behind [] = wanted.PartOrEnd
 wanted_behind (f ∷ fs) = wanted.CommaOrCloseBrace

@@ -1,5 +1,5 @@
 -- Where the tokens of a body lead the reader, if at all: no token of it is unexpected.
-use Rattle.std.proofs.Common.{◌≡◌, ℕ, suc, ◌+◌, ◌-◌, List, [], ◌∷◌, ◌++◌, length, drop, codes, Bool, true, false, if◌then◌else◌, nat_le, nat_lt, Option, Some, None, Ok, Err, refl, sym, ap, ◌∙◌, subst, arith, append_assoc, length-append, slice_get}
+use Rattle.std.proofs.Common.{◌≡◌, ℕ, suc, ◌+◌, ◌-◌, List, [], ◌∷◌, ◌++◌, length, drop, codes, Bool, true, false, if◌then◌else◌, nat_le, nat_lt, Option, Some, None, Ok, refl, sym, ap, ◌∙◌, subst, arith, append_assoc, length-append, slice_get}
 use Rattle.std.proofs.lemmas.List.{length-set}
 use Rattle.std.proofs.Math.Seq.{drop-append_seam}
 use Rattle.std.proofs.lemmas.Slice.Eq.{bytes_eq-Decides}
@@ -16,7 +16,6 @@ use Rattle.rs_bodies.specs.declared.dialects.Dialect.{Dialect}
 use Rattle.rs_bodies.specs.declared.dialects.Dialect.TheVariants.{Talks, Acts}
 use Rattle.rs_bodies.specs.declared.dialects.Head.{Head}
 use Rattle.rs_bodies.specs.declared.dialects.Head.TheVariants as head
-use Rattle.rs_bodies.specs.declared.dialects.Mark.{Mark}
 use Rattle.rs_bodies.specs.declared.dialects.Mark.TheVariants as mark
 use Rattle.rs_bodies.specs.declared.reading.Frame.{Frame}
 use Rattle.rs_bodies.specs.declared.reading.Link.{Link}
@@ -79,6 +78,7 @@ unless false x y h = refl
 pub by_name : (dia : Dialect) (v : Sign) (from : Link) (word : List ℕ) (at next : ℕ) (r : Reader_data) → ends_a_name dia v ≡ true → feed_word dia from word v at next r ≡ named (bound_to word r.bound) from at r
 by_name dia (broken k) from word at next r h = cc
 by_name dia v from word at next r h = unless (turns dia v) (met_by dia (place_of word r.roles) from at r) (named (bound_to word r.bound) from at r) h
+
 pub faulty_calm : (k : FaultKind) → NotExpected (kind_of k)
 faulty_calm faulty.BadByte = tt
 faulty_calm faulty.NumberTooLarge = tt

@@ -1,5 +1,5 @@
 -- The fault that the reader tells is the first fault of the text.
-use Rattle.std.proofs.Common.{codes, ◌≡◌, ℕ, ◌≤◌, List, [], ◌∷◌, ◌++◌, length, Bool, true, false, if◌then◌else◌, nat_le, Option, Some, None, Result, Ok, Err, refl, sym, ap, ◌∙◌, subst, ◌⊎◌, inl, inr, append_assoc, append-nil, arith}
+use Rattle.std.proofs.Common.{◌≡◌, ℕ, List, [], ◌∷◌, ◌++◌, length, Bool, true, false, if◌then◌else◌, nat_le, Option, Some, None, Ok, Err, refl, sym, ap, ◌∙◌, subst, ◌⊎◌, inl, inr, append_assoc}
 use Rattle.rs_text.specs.declared.tokens.FaultKind.{FaultKind}
 use Rattle.rs_text.specs.declared.faults.TextFault.{TextFault}
 use Rattle.rs_text.specs.declared.faults.TextKind.{TextKind}
@@ -19,8 +19,10 @@ use Rattle.rs_text.specs.Lexemes.{Lexeme}
 use Rattle.rs_text.specs.Signs.{Sign, rec_word, plain, arrow, bang, question, dot, comma, open_brace, broken, finish}
 use Rattle.rs_text.specs.Arms.{arm_signs, wanted_in_arm, ArmCut, at_label, behind_label, behind_paren, behind_sort, behind_head}
 use Rattle.rs_bodies.specs.Data.{Reader_data}
-use Rattle.rs_bodies.specs.Dialects.{turns, most, turn_signs, lone_signs, wanted_alone, TurnCut, behind_arrow, behind_receiver, wanted_in_turn}
-use Rattle.rs_bodies.specs.Openings.{OpeningCut, at_roles, at_first, behind_first, at_further, behind_further, at_machine, at_role, behind_role, opening_signs, wanted_in_opening}
+use Rattle.rs_bodies.specs.Dialects.{turns, most, turn_signs, lone_signs}
+use Rattle.rs_bodies.specs.Cuts.{wanted_alone, TurnCut, behind_arrow, behind_receiver, wanted_in_turn}
+use Rattle.rs_bodies.specs.Cuts.{OpeningCut, at_roles, at_first, behind_first, at_further, behind_further, at_machine, at_role, behind_role, wanted_in_opening}
+use Rattle.rs_bodies.specs.Openings.{opening_signs}
 use Rattle.rs_bodies.specs.Spells.{tree_signs}
 use Rattle.rs_bodies.specs.Trees.{body_signs}
 use Rattle.rs_bodies.specs.Cuts.{Cut, at_body, behind_end, behind_name, behind_rec, behind_rec_name, in_binds, in_turn, in_arm, in_acts, in_offers, behind_brace, BranchCut, in_head, in_branch, later, PartCut, in_opening, in_body, cut_signs, branch_cut_signs, part_cut_signs, wanted_at, wanted_in, wanted_of, IsBehind}
@@ -29,7 +31,7 @@ use Rattle.rs_bodies.specs.Misplaced.{fault_by, fault_of}
 use Rattle.rs_bodies.specs.Faults.{Begins, IsWithin, EndsByName, IsInReach, FaultAt}
 use Rattle.rs_text.specs.FirstFaults.{IsWhole, IsClear}
 use Rattle.rs_bodies.specs.Feeding.{Fed, begin, feed_at, feed_turn, feed_next, is_read, no_frames, behind_body, feeding}
-use Rattle.rs_text.specs.Readings.{fault, feed_sign}
+use Rattle.rs_text.specs.Readings.{feed_sign}
 use Rattle.rs_text.proofs.Leading.{NotExpected, Lands, sign_behind, lexeme, Leads, leads_split, Reached}
 use Rattle.rs_bodies.proofs.FaultPlaces.{place_wants, opening_wants, wanted_behind_head, wanted_by, fault_seen, is_named, is_named_in, is_named_of, NamedBy, PlaceAgrees, place_passes, tree_passes}
 use Rattle.rs_bodies.proofs.FaultCuts.{takes, Grows, place_grows, word_grows, place_begins, acts_tail, offers_tail}
@@ -200,7 +202,6 @@ opening_says Acts at_machine = refl
 opening_says Acts at_role = refl
 opening_says Acts (behind_role x) = refl
 
-
 pub place_says : (dia : Dialect) (c : PartCut dia) → said (place_wants dia c) ≡ wanted_of dia c
 place_says dia (in_opening o) = opening_says dia o
 place_says dia (in_body x body) = says dia body wanted.PartOrEnd refl
@@ -239,7 +240,7 @@ no_landing dia (Err e) w seen t at n Q s h l = elim s [
   | inr (inr b) ↦ absurd (cc (sym (ap (λ z. takes z (plain b.text)) b.body) ∙ ap (λ z. takes w z) (sym b.word) ∙ h))
 ]
 
--- with an unexpected token the tokens begin no machine
+-- with an unexpected token the tokens begin no part
 stops_there : (dia : Dialect) (old : Names_data) (xs : List Sign) (t : Sign) (r : Reader_data) (w : Wanted) (seen : Sign → Option TextKind) → Reached (feeding dia) (begin dia old) xs t r → IsWhole t → takes w t ≡ false → ((n : Lexeme) → Steps dia w (seen n.sign) t 0 n (feed_at dia r.mode t 0 n r)) → Begins dia (xs ++ t ∷ []) → ⊥
 stops_there dia old xs t r w seen reach whole h s b =
     let rest : List Sign = b.1 in
@@ -249,7 +250,7 @@ stops_there dia old xs t r w seen reach whole h s b =
     let n : Lexeme = lexeme (sign_behind rest finish) 0 0 in
     no_landing dia (feed_at dia r.mode t 0 n r) w (seen n.sign) t 0 n (λ d. Leads (feeding dia) rest finish (λ d. Unit {0}) d) (s n) h (subst (λ (x : Fed). Lands x (λ d. Leads (feeding dia) rest finish (λ d. Unit {0}) d)) (whole_fed dia t 0 n r whole) (k 0 0 0))
 
--- the reader isn't behind the machine
+-- the reader isn't behind the part
 arms_no_part : (dia : Dialect) → wanted_behind_head dia ≡ wanted.PartOrEnd → ⊥
 arms_no_part Talks h = cc
 arms_no_part Acts h = cc
@@ -362,7 +363,6 @@ whole_verdict dia old xs t at n r reach there proper whole unread =
 unseen_arms : (dia : Dialect) (j : FaultKind) (u : Sign) (r : Reader_data) → fault_seen dia (mode.AtArms 0) (broken j) u r ≡ None
 unseen_arms Talks j u r = refl
 unseen_arms Acts j u r = refl
-
 
 broken_unseen : (dia : Dialect) (m : Mode) (j : FaultKind) (u : Sign) (r : Reader_data) → fault_seen dia m (broken j) u r ≡ None
 broken_unseen dia (mode.AtArms act) j u r = unseen_arms dia j u r

@@ -20,7 +20,7 @@ use Rattle.rs_text.specs.Arms.{ArmCut, at_label, behind_label, behind_paren, beh
 use Rattle.rs_bodies.specs.Data.{Reader_data}
 use Rattle.rs_bodies.specs.Trees.{ends_a_name}
 use Rattle.rs_bodies.specs.Cuts.{Cut, at_body, behind_end, behind_name, behind_rec, behind_rec_name, in_binds, in_arm, in_acts, in_offers, behind_brace, BranchCut, in_head, in_branch, later, PartCut, in_body, wanted_at, wanted_in, IsBehind, in_opening, in_turn}
-use Rattle.rs_bodies.specs.Openings.{at_role, behind_role, at_roles, at_first, behind_first, at_further, behind_further, at_machine, OpeningCut}
+use Rattle.rs_bodies.specs.Cuts.{at_role, behind_role, at_roles, at_first, behind_first, at_further, behind_further, at_machine, OpeningCut}
 use Rattle.rs_text.specs.Names.{is_among, bound_to, grown}
 use Rattle.rs_bodies.specs.Scenes.{Scene}
 use Rattle.rs_bodies.specs.Faults.{Begins, IsWithin, EndsByName, IsInReach, IsUnexpected, FaultAt, FirstFault, LeavesNames, names_behind, labels_among}
@@ -37,7 +37,8 @@ use Rattle.rs_text.specs.FirstFaults.{IsWhole, next_of}
 use Rattle.rs_text.proofs.Arms.{arm_not}
 use Rattle.rs_bodies.specs.Misplaced.{fault_by, fault_of, fault_of_name, fault_of_word, fault_of_label, fault_of_first, fault_of_new_role, fault_of_opening}
 use Rattle.rs_bodies.proofs.Labels.{Follows, follows_first, follows_on, follows_word}
-use Rattle.rs_bodies.specs.Dialects.{TurnCut, behind_arrow, behind_receiver, wanted_alone, wanted_in_turn, most}
+use Rattle.rs_bodies.specs.Cuts.{TurnCut, behind_arrow, behind_receiver, wanted_alone, wanted_in_turn}
+use Rattle.rs_bodies.specs.Dialects.{most}
 
 -- ---- places behind the part
 
@@ -117,7 +118,7 @@ named_place : (dia : Dialect) (c : PartCut dia) → place_wants dia c ≡ wanted
 named_place dia (in_body x body) h e = part_named dia body h e
 named_place dia (in_opening o) h e = absurd (opening_no_part dia o h)
 
--- ---- behind the machine there is no fault
+-- ---- behind the part there is no fault
 
 pub read_facts : (m : Mode) (fs : List Frame) → (if no_frames fs then behind_body m else false) ≡ true → (m ≡ mode.Next) × (fs ≡ [])
 read_facts mode.Next [] h = (refl, refl)

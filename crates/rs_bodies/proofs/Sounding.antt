@@ -1,5 +1,5 @@
 -- The names of the reader stay sound, and there are never too many heads.
-use Rattle.std.proofs.Common.{◌≡◌, ◌∙◌, ℕ, suc, ◌+◌, ◌≤◌, List, [], ◌∷◌, ◌++◌, length, Bool, true, false, ◌&&◌, Option, Some, None, Ok, Err, IfOk, IfErr, cond, nat_le, nat_lt, refl, sym, ap, subst, arith, append-nil, append_assoc}
+use Rattle.std.proofs.Common.{◌≡◌, ◌∙◌, ℕ, suc, ◌≤◌, List, [], ◌∷◌, ◌++◌, length, Bool, true, false, ◌&&◌, Option, Some, None, Ok, Err, IfOk, cond, nat_le, nat_lt, refl, sym, ap, subst, arith, append-nil, append_assoc}
 use Rattle.std.specs.Prelude.{codes}
 use Rattle.rs_model.specs.declared.graph.Role.{Role}
 use Rattle.rs_model.specs.declared.graph.Label.{Label}
@@ -22,7 +22,7 @@ use Rattle.rs_bodies.specs.declared.reading.Mode.{Mode}
 use Rattle.rs_bodies.specs.declared.reading.Mode.TheVariants as mode
 use Rattle.rs_bodies.specs.Data.{Reader_data, Draft_data}
 use Rattle.rs_bodies.specs.Dialects.{most, turns}
-use Rattle.rs_bodies.specs.Feeding.{Fed, in_mode, linked, placed, opened, headed, met_by, role_by, new_role, feed_role, feed_line, feed_at, feed_turn, feed_word, feed_body, received_by, feed_receiver, named, feed_next, feed_arms, feed_single, feed_label, labelled_by, sorted_by, feeding}
+use Rattle.rs_bodies.specs.Feeding.{Fed, in_mode, linked, placed, headed, met_by, role_by, new_role, feed_role, feed_line, feed_at, feed_turn, feed_word, feed_body, received_by, feed_receiver, named, feed_next, feed_arms, feed_single, feed_label, labelled_by, sorted_by, feeding}
 use Rattle.rs_bodies.specs.declared.reading.Link.TheVariants as link
 use Rattle.std.specs.List.{list_all}
 use Rattle.std.proofs.lemmas.Bool.{leb-false}

@@ -21,9 +21,10 @@ use Rattle.rs_bodies.specs.Dialects.{Turn, sends_to, with_mark, most, turn_signs
 use Rattle.rs_bodies.specs.Data.{Reader_data, Draft_data}
 use Rattle.rs_bodies.specs.Drafts.{with_arm}
 use Rattle.rs_bodies.specs.Trees.{Body, ends, again, binds, acts, offers, Branches, one, more, body_signs, branch_signs, ends_by_name, ends_a_name}
-use Rattle.rs_bodies.specs.Graph.{labels_of, labels_of_arms, acts_in, acts_in_arms, has_end, has_end_arms, Numbering, role_of, label_of, head_of}
+use Rattle.rs_bodies.specs.Graph.{labels_of, labels_of_arms, acts_in, acts_in_arms, has_end, has_end_arms, Numbering, role_of, label_of}
+use Rattle.rs_bodies.specs.Points.{head_of}
 use Rattle.rs_bodies.specs.Scenes.{Scene, with_label, in_act, in_braces, in_rec, behind}
-use Rattle.rs_bodies.specs.Spells.{is_guarded, has_room_for, body_fits, arms_fit, head_fits}
+use Rattle.rs_bodies.specs.Fits.{is_guarded, has_room_for, body_fits, arms_fit, head_fits}
 use Rattle.rs_bodies.specs.Feeding.{Fed, in_mode, linked, linked_start, linked_drafts, met_by, headed, received_by, named, placed, opened, feeding}
 use Rattle.rs_text.specs.Readings.{fault}
 use Rattle.rs_text.proofs.Leading.{sign_behind, Tells, Exact, Hangs, hangs_both, tells_if, full, roomy, fits_in}

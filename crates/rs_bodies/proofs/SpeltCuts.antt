@@ -1,8 +1,7 @@
 -- A place behind a whole part is a tree.
-use Rattle.std.proofs.Common.{◌≡◌, ◌∷◌, ◌++◌, codes, refl, ap}
+use Rattle.std.proofs.Common.{◌≡◌, ◌∷◌, ◌++◌, refl, ap}
 use Rattle.rs_text.specs.declared.faults.Wanted.TheVariants as wanted
 use Rattle.rs_bodies.specs.declared.dialects.Dialect.{Dialect}
-use Rattle.rs_bodies.specs.declared.dialects.Dialect.TheVariants.{Talks, Acts}
 use Rattle.rs_text.specs.Signs.{rec_word, plain, dot}
 use Rattle.rs_text.specs.Arms.{arm_signs}
 use Rattle.rs_bodies.specs.Trees.{Body, ends, again, binds, acts, offers, body_signs, ends_by_name}

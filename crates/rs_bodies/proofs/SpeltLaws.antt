@@ -1,10 +1,9 @@
 -- What spelling and reading say of each other.
-use Rattle.std.proofs.Common.{◌≡◌, ℕ, ◌≤◌, ◌⊎◌, List, ◌∷◌, ◌++◌, length, Result, Ok, Err, inl, inr, sym, ap, ◌∙◌, subst}
+use Rattle.std.proofs.Common.{◌≡◌, ℕ, ◌≤◌, ◌⊎◌, List, ◌∷◌, ◌++◌, length, Result, Ok, Err, inl, inr, sym, ap, ◌∙◌}
 use Rattle.rs_model.specs.Data.{Names_data}
 use Rattle.rs_text.specs.declared.faults.TextFault.{TextFault}
 use Rattle.rs_text.specs.declared.faults.TextKind.{TextKind}
 use Rattle.rs_bodies.specs.declared.dialects.Dialect.{Dialect}
-use Rattle.rs_bodies.specs.declared.dialects.Dialect.TheVariants.{Talks, Acts}
 use Rattle.rs_bodies.specs.Data.{Spelling_data}
 use Rattle.rs_bodies.specs.Faults.{FirstFault}
 use Rattle.rs_bodies.specs.Feeding.{Answer, ReadsAs}

@@ -1,5 +1,5 @@
 -- A text is read as a part exactly where it spells it.
-use Rattle.std.proofs.Common.{◌≡◌, ℕ, ◌≤◌, List, [], ◌∷◌, ◌++◌, length, Bool, true, false, if◌then◌else◌, Result, Ok, Err, refl, sym, ap, ◌∙◌, subst}
+use Rattle.std.proofs.Common.{◌≡◌, ℕ, ◌≤◌, List, [], ◌∷◌, ◌++◌, length, Bool, true, Result, Ok, Err, refl, sym, ap, ◌∙◌, subst}
 use Rattle.rs_model.specs.Data.{Names_data}
 use Rattle.rs_text.specs.declared.faults.TextFault.{TextFault}
 use Rattle.rs_text.specs.declared.faults.Wanted.TheVariants as wanted
@@ -7,7 +7,6 @@ use Rattle.rs_bodies.specs.declared.reading.Frame.{Frame}
 use Rattle.rs_bodies.specs.declared.reading.Mode.{Mode}
 use Rattle.rs_bodies.specs.declared.reading.Mode.TheVariants as mode
 use Rattle.rs_bodies.specs.declared.dialects.Dialect.{Dialect}
-use Rattle.rs_bodies.specs.declared.dialects.Dialect.TheVariants.{Talks, Acts}
 use Rattle.rs_bodies.specs.Data.{Spelling_data, Reader_data}
 use Rattle.rs_text.specs.Lexemes.{Lexeme, Lexed, signs_of}
 use Rattle.rs_text.specs.Signs.{Sign, broken}

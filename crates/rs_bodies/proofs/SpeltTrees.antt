@@ -22,7 +22,8 @@ use Rattle.rs_bodies.specs.Data.{Reader_data, Draft_data}
 use Rattle.rs_bodies.specs.Drafts.{settled, settled_arm, settled_target, spelling_read, names_read}
 use Rattle.rs_bodies.specs.Openings.{Opening, of_roles, of_role, further_signs, line_signs, opening_signs, roles_in}
 use Rattle.rs_bodies.specs.Trees.{Body, ends, again, binds, acts, offers, Branches, one, more, body_signs, ends_by_name, ends_a_name}
-use Rattle.rs_bodies.specs.Graph.{labels_of, acts_in, has_end, Numbering, first_of, arm_of, arms_of, point_of, points_of, points_of_arms}
+use Rattle.rs_bodies.specs.Graph.{labels_of, acts_in, has_end, Numbering, first_of, arm_of, arms_of}
+use Rattle.rs_bodies.specs.Points.{point_of, points_of, points_of_arms}
 use Rattle.rs_bodies.specs.Spells.{Tree, tree_signs, own_role, OpeningFits, Fits, names_of, numbering, spelling_of}
 use Rattle.rs_bodies.specs.Feeding.{begin, new_role, role_by, is_read, feeding}
 use Rattle.rs_text.specs.Readings.{fault}

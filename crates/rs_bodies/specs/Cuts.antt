@@ -1,14 +1,75 @@
 -- Believed: the places of the grammar, and what is wanted there.
-use Rattle.std.specs.Prelude.{ℕ, List, [], ◌∷◌, ◌++◌, Option}
+use Rattle.std.specs.Prelude.{ℕ, List, [], ◌∷◌, ◌++◌, codes, Option}
 use Rattle.rs_model.specs.declared.values.Sort.{Sort}
-use Rattle.rs_text.specs.Signs.{Sign, rec_word, end_word, plain, dot, comma, open_brace, close_brace}
+use Rattle.rs_text.specs.Signs.{Sign, rec_word, end_word, plain, arrow, dot, comma, open_brace, close_brace}
 use Rattle.rs_text.specs.declared.faults.Wanted.{Wanted}
 use Rattle.rs_text.specs.declared.faults.Wanted.TheVariants as wanted
-use Rattle.rs_text.specs.Arms.{arm_signs, ArmCut, arm_cut_signs, wanted_in_arm}
+use Rattle.rs_text.specs.Arms.{arm_signs, ArmCut, at_label, arm_cut_signs, wanted_in_arm}
 use Rattle.rs_bodies.specs.declared.dialects.Dialect.{Dialect}
-use Rattle.rs_bodies.specs.Dialects.{Turn, turn_signs, lone_signs, TurnCut, turn_cut_signs, wanted_in_turn, wanted_alone}
-use Rattle.rs_bodies.specs.Openings.{Opening, opening_signs, OpeningCut, opening_cut_signs, wanted_in_opening}
+use Rattle.rs_bodies.specs.declared.dialects.Dialect.TheVariants.{Talks, Acts}
+use Rattle.rs_bodies.specs.Dialects.{Turn, turn_signs, lone_signs}
+use Rattle.rs_bodies.specs.Openings.{Opening, line_signs, opening_signs}
 use Rattle.rs_bodies.specs.Trees.{Body, Branches, body_signs, branch_signs}
+
+-- a turn cut off at a place: behind the arrow, and behind the receiver
+pub data TurnCut : Dialect → Type 0 where
+  behind_arrow : TurnCut Talks
+  behind_receiver : (receiver : List ℕ) → TurnCut Talks
+
+-- the tokens before the place
+abbrev pub turn_cut_signs : (d : Dialect) → TurnCut d → List Sign
+turn_cut_signs Talks behind_arrow = arrow ∷ []
+turn_cut_signs Talks (behind_receiver r) = arrow ∷ plain r ∷ []
+turn_cut_signs Acts x = elim x [ ]
+
+-- what is wanted there
+abbrev pub wanted_in_turn : (d : Dialect) → TurnCut d → Wanted
+wanted_in_turn Talks behind_arrow = wanted.Role
+wanted_in_turn Talks (behind_receiver r) = wanted.ColonOrBrace
+wanted_in_turn Acts x = elim x [ ]
+
+-- where a single arm begins: behind its colon a label, behind a mark a label or the brace of several arms
+abbrev pub wanted_first : Dialect → Wanted
+wanted_first Talks = wanted.Label
+wanted_first Acts = wanted.LabelOrBrace
+
+-- in a single arm
+abbrev pub wanted_alone : Dialect → ArmCut → Wanted
+wanted_alone d at_label = wanted_first d
+wanted_alone d arm = wanted_in_arm arm
+
+-- an opening cut off at a place
+pub data OpeningCut : Dialect → Type 0 where
+  at_roles : OpeningCut Talks
+  at_first : OpeningCut Talks
+  behind_first : (first : List ℕ) → OpeningCut Talks
+  at_further : (first : List ℕ) → (further : List (List ℕ)) → OpeningCut Talks
+  behind_further : (first second : List ℕ) → (further : List (List ℕ)) → OpeningCut Talks
+  at_machine : OpeningCut Acts
+  at_role : OpeningCut Acts
+  behind_role : (role : List ℕ) → OpeningCut Acts
+
+-- the tokens before the place
+abbrev pub opening_cut_signs : (d : Dialect) → OpeningCut d → List Sign
+opening_cut_signs Talks at_roles = []
+opening_cut_signs Talks at_first = plain (codes "roles") ∷ []
+opening_cut_signs Talks (behind_first x) = plain (codes "roles") ∷ plain x ∷ []
+opening_cut_signs Talks (at_further x xs) = line_signs x xs ++ comma ∷ []
+opening_cut_signs Talks (behind_further x y xs) = line_signs x (y ∷ xs)
+opening_cut_signs Acts at_machine = []
+opening_cut_signs Acts at_role = plain (codes "machine") ∷ []
+opening_cut_signs Acts (behind_role x) = plain (codes "machine") ∷ plain x ∷ []
+
+-- what is wanted there; a machine's first word is one of the things that may stand behind a protocol
+abbrev pub wanted_in_opening : (d : Dialect) → OpeningCut d → Wanted
+wanted_in_opening Talks at_roles = wanted.Roles
+wanted_in_opening Talks at_first = wanted.Role
+wanted_in_opening Talks (behind_first x) = wanted.Comma
+wanted_in_opening Talks (at_further x xs) = wanted.Role
+wanted_in_opening Talks (behind_further x y xs) = wanted.CommaOrProtocol
+wanted_in_opening Acts at_machine = wanted.PartOrEnd
+wanted_in_opening Acts at_role = wanted.Role
+wanted_in_opening Acts (behind_role x) = wanted.Colon
 
 -- a body cut off at a place: a tree of the grammar with what stands before the place
 mutual
@@ -80,7 +141,7 @@ abbrev pub part_cut_signs : (d : Dialect) → PartCut d → List Sign
 part_cut_signs d (in_opening o) = opening_cut_signs d o
 part_cut_signs d (in_body o b) = opening_signs d o ++ cut_signs d b
 
--- a machine's first word is one of the things that may stand behind a protocol
+-- what is wanted there; behind the body a further part or the end
 abbrev pub wanted_of : (d : Dialect) → PartCut d → Wanted
 wanted_of d (in_opening o) = wanted_in_opening d o
 wanted_of d (in_body o b) = wanted_at d b wanted.PartOrEnd

@@ -13,7 +13,6 @@ use Rattle.rs_model.specs.Data.{Names_data}
 use Rattle.rs_text.specs.Lexemes.{Lexeme, Lexed}
 use Rattle.rs_text.specs.Names.{place_of, is_among, bound_to}
 use Rattle.rs_text.specs.Seen.{plain_text, word_text, is_text, sort_named}
-use Rattle.rs_bodies.specs.declared.dialects.Mark.{Mark}
 use Rattle.rs_bodies.specs.declared.dialects.Mark.TheVariants as mark
 use Rattle.rs_text.specs.Signs.{Sign, rec_word, end_word, plain, arrow, bang, question, colon, dot, comma, open_brace, close_brace, open_paren, close_paren, broken}
 use Rattle.rs_bodies.specs.declared.dialects.Dialect.{Dialect}
@@ -64,7 +63,7 @@ abbrev pub linked_drafts : Link → Option ℕ → List Draft_data → List Draf
 linked_drafts link.Start target drafts = drafts
 linked_drafts (link.OfArm act label sort) target drafts = with_arm (record { label = label; sort = sort; next = target }) (slice_get drafts act) drafts act
 
--- .. be it that of an arm or of the whole machine
+-- .. be it that of an arm or of the whole part
 abbrev pub linked : Link → Option ℕ → Reader_data → Reader_data
 linked from target r = record r { start = linked_start from target r.start; drafts = linked_drafts from target r.drafts }
 

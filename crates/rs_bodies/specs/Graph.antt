@@ -8,11 +8,6 @@ use Rattle.rs_model.specs.declared.values.Sort.{Sort}
 use Rattle.rs_text.specs.Arms.{sort_or_unit}
 use Rattle.rs_text.specs.Names.{number_or, place_of, Bound, bound_to}
 use Rattle.rs_bodies.specs.declared.dialects.Dialect.{Dialect}
-use Rattle.rs_bodies.specs.declared.dialects.Dialect.TheVariants.{Talks, Acts}
-use Rattle.rs_bodies.specs.declared.dialects.Head.{Head}
-use Rattle.rs_bodies.specs.declared.dialects.Head.TheVariants as head
-use Rattle.rs_bodies.specs.Data.{Point_data}
-use Rattle.rs_bodies.specs.Dialects.{Turn, sends_to, with_mark}
 use Rattle.rs_bodies.specs.Trees.{Body, ends, again, binds, acts, offers, Branches, one, more}
 
 -- the labels of a body, in order of text
@@ -84,25 +79,3 @@ arm_of n l sort next = record { label = label_of n l; sort = sort_or_unit sort; 
 abbrev pub arms_of : (d : Dialect) → Numbering → Branches d → Bound → ℕ → List Arm
 arms_of d n (one l sort body) bound count = arm_of n l sort (first_of d body bound count n.last) ∷ []
 arms_of d n (more l sort body arms) bound count = arm_of n l sort (first_of d body bound count n.last) ∷ arms_of d n arms bound (count + acts_in d body)
-
--- the head that these words and this turn stand for
-abbrev pub head_of : (d : Dialect) → Numbering → List ℕ → Turn d → Head
-head_of Talks n p (sends_to r) = head.Talk (role_of n p) (role_of n r)
-head_of Acts n p (with_mark m) = head.Act (role_of n p) m
-
--- .. with these arms
-abbrev pub point_of : (d : Dialect) → Numbering → List ℕ → Turn d → List Arm → Point_data
-point_of d n p t arms = record { head = head_of d n p t; arms = arms }
-
--- the heads of a body, in order of text
-abbrev mutual
-  pub points_of : (d : Dialect) → Numbering → Body d → Bound → ℕ → List Point_data
-  points_of d n ends bound count = []
-  points_of d n (again name) bound count = []
-  points_of d n (binds name body) bound count = points_of d n body ((name, count) ∷ bound) count
-  points_of d n (acts p t l sort body) bound count = point_of d n p t (arm_of n l sort (first_of d body bound (suc count) n.last) ∷ []) ∷ points_of d n body bound (suc count)
-  points_of d n (offers p t arms) bound count = point_of d n p t (arms_of d n arms bound (suc count)) ∷ points_of_arms d n arms bound (suc count)
-
-  pub points_of_arms : (d : Dialect) → Numbering → Branches d → Bound → ℕ → List Point_data
-  points_of_arms d n (one l sort body) bound count = points_of d n body bound count
-  points_of_arms d n (more l sort body arms) bound count = points_of d n body bound count ++ points_of_arms d n arms bound (count + acts_in d body)

@@ -6,6 +6,8 @@ pub mod Graph
 pub mod Cuts
 pub mod Scenes
 pub mod Misplaced
+pub mod Points
+pub mod Fits
 pub mod Spells
 pub mod Faults
 pub mod Drafts

@@ -10,7 +10,8 @@ use Rattle.rs_text.specs.Names.{bound_to, is_among}
 use Rattle.rs_bodies.specs.declared.dialects.Dialect.{Dialect}
 use Rattle.rs_bodies.specs.declared.dialects.Dialect.TheVariants.{Talks, Acts}
 use Rattle.rs_bodies.specs.Dialects.{turns, most}
-use Rattle.rs_bodies.specs.Openings.{roles_in, OpeningCut, at_first, at_further, at_role}
+use Rattle.rs_bodies.specs.Openings.{roles_in}
+use Rattle.rs_bodies.specs.Cuts.{OpeningCut, at_first, at_further, at_role}
 use Rattle.rs_bodies.specs.Cuts.{Cut, in_binds, in_arm, in_acts, in_offers, BranchCut, in_head, in_branch, later, PartCut, in_opening, in_body, wanted_at}
 use Rattle.rs_bodies.specs.Scenes.{Scene, with_label, in_act, in_braces, in_rec, behind, first_scene}
 

@@ -3,6 +3,7 @@
 
 mod dialects;
 mod drafts;
+pub mod laws;
 mod parts;
 mod points;
 mod reading;

@@ -12,7 +12,7 @@ use Rattle.rs_text.specs.Names.{grown, is_among}
 use Rattle.rs_bodies.specs.declared.dialects.Dialect.TheVariants.{Acts}
 use Rattle.rs_bodies.specs.Graph.{labels_of, labels_of_arms}
 use Rattle.rs_bodies.specs.Scenes.{Scene, with_label, in_act, in_braces, in_rec, behind, first_scene}
-use Rattle.rs_bodies.specs.Spells.{body_fits, arms_fit}
+use Rattle.rs_bodies.specs.Fits.{body_fits, arms_fit}
 use Rattle.rs_bodies.specs.Trees.{Body, ends, again, binds, acts, offers, Branches, one, more}
 use Rattle.rs_bodies.specs.Dialects.{with_mark}
 

@@ -27,7 +27,7 @@ use Rattle.rs_text.specs.Names.{Bound, grown, is_among, number_or, place_of}
 use Rattle.rs_bodies.specs.declared.dialects.Dialect.TheVariants.{Acts}
 use Rattle.rs_bodies.specs.Graph.{Numbering, acts_in, arms_of, first_of, has_end, labels_of, labels_of_arms}
 use Rattle.rs_bodies.specs.Scenes.{Scene, behind, first_scene, in_act, in_braces, in_rec, with_label}
-use Rattle.rs_bodies.specs.Spells.{arms_fit, body_fits, has_room_for}
+use Rattle.rs_bodies.specs.Fits.{arms_fit, body_fits, has_room_for}
 use Rattle.rs_bodies.specs.Trees.{Body, ends, again, binds, acts, offers, Branches, one, more}
 use Rattle.rs_bodies.specs.Dialects.{with_mark}
 

@@ -23,7 +23,7 @@ use Rattle.rs_bodies.specs.declared.dialects.Dialect.TheVariants.{Talks}
 use Rattle.rs_bodies.specs.Trees.{Body, ends, again, binds, acts, offers, Branches, one, more}
 use Rattle.rs_bodies.specs.Graph.{labels_of, labels_of_arms, acts_in, acts_in_arms, Numbering, first_of, arm_of, arms_of}
 use Rattle.rs_bodies.specs.Scenes.{Scene, with_label, in_act, in_braces, in_rec, behind}
-use Rattle.rs_bodies.specs.Spells.{is_guarded, has_room_for, body_fits, arms_fit}
+use Rattle.rs_bodies.specs.Fits.{is_guarded, has_room_for, body_fits, arms_fit}
 
 -- ---- a rec stands right in front of each talk that is gone back to
 

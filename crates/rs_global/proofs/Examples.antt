@@ -8,7 +8,8 @@ use Rattle.rs_text.specs.declared.faults.TextKind.TheVariants as kind
 use Rattle.rs_text.specs.declared.faults.Wanted.TheVariants as wanted
 use Rattle.rs_global.specs.Faults.{FirstFault}
 use Rattle.rs_bodies.specs.Cuts.{in_opening}
-use Rattle.rs_bodies.specs.Openings.{at_roles, Opening, of_roles, opening_signs}
+use Rattle.rs_bodies.specs.Cuts.{at_roles}
+use Rattle.rs_bodies.specs.Openings.{Opening, of_roles, opening_signs}
 use Rattle.rs_bodies.specs.Trees.{Body, body_signs}
 use Rattle.rs_bodies.specs.Spells.{Tree, tree_signs}
 use Rattle.rs_bodies.specs.declared.dialects.Dialect.TheVariants.{Talks}

@@ -20,7 +20,7 @@ use Rattle.rs_bodies.specs.Dialects.{sends_to}
 use Rattle.rs_bodies.specs.declared.dialects.Dialect.TheVariants.{Talks}
 use Rattle.rs_bodies.specs.Trees.{Body, ends, again, binds, acts, offers, Branches, one, more}
 use Rattle.rs_bodies.specs.Graph.{acts_in, acts_in_arms, has_end, has_end_arms, Numbering, role_of, label_of, first_of, arm_of, arms_of}
-use Rattle.rs_bodies.specs.Spells.{is_guarded}
+use Rattle.rs_bodies.specs.Fits.{is_guarded}
 use Rattle.rs_bodies.specs.Scenes.{first_scene}
 
 mutual

@@ -32,7 +32,7 @@ use Rattle.rs_text.proofs.Basics.{some_is, both, seam}
 use Rattle.rs_bodies.specs.declared.dialects.Dialect.TheVariants.{Talks}
 use Rattle.rs_bodies.specs.Graph.{labels_of, acts_in, has_end, Numbering, first_of}
 use Rattle.rs_bodies.specs.Scenes.{first_scene}
-use Rattle.rs_bodies.specs.Spells.{body_fits}
+use Rattle.rs_bodies.specs.Fits.{body_fits}
 
 -- ---- the end of a graph
 

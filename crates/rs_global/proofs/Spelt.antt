@@ -15,7 +15,8 @@ use Rattle.rs_bodies.specs.Data.{Point_data, Spelling_data}
 use Rattle.rs_bodies.specs.Dialects.{sends_to}
 use Rattle.rs_bodies.specs.Faults.{Begins, IsUnexpected}
 use Rattle.rs_bodies.specs.Feeding as bodies
-use Rattle.rs_bodies.specs.Graph.{acts_in, has_end, first_of, Numbering, role_of, arm_of, arms_of, points_of, points_of_arms}
+use Rattle.rs_bodies.specs.Graph.{acts_in, has_end, first_of, Numbering, role_of, arm_of, arms_of}
+use Rattle.rs_bodies.specs.Points.{points_of, points_of_arms}
 use Rattle.rs_bodies.specs.Openings.{Opening, of_roles, line_signs}
 use Rattle.rs_bodies.specs.Spells as parts
 use Rattle.rs_bodies.specs.Spells.{Tree, Spells, spelling_of, tree_signs}
@@ -30,9 +31,11 @@ use Rattle.rs_bodies.proofs.SpeltLaws as laws
 use Rattle.rs_bodies.proofs.SpeltRuns as runs
 use Rattle.rs_global.specs.Answers.{Answer, of_protocol, ReadsAs}
 use Rattle.rs_global.specs.Faults.{FirstFault, no_names}
-use Rattle.rs_global.specs.Graph.{talk_of, nodes_of, nodes_of_arms, numbering, finish_of, graph_of, node_at, graph_spelt}
+use Rattle.rs_global.specs.Graph.{talk_of, nodes_of, nodes_of_arms, numbering, finish_of, graph_of}
+use Rattle.rs_global.specs.Parts.{node_at, graph_spelt}
 use Rattle.rs_global.specs.Spells.{Fits, SpellsProtocol}
-use Rattle.rs_global.specs.Trees.{ProtocolTree, part_of, protocol_signs, roles_of}
+use Rattle.rs_global.specs.Trees.{ProtocolTree, protocol_signs, roles_of}
+use Rattle.rs_global.specs.Parts.{part_of}
 
 -- ---- heads are states
 

@@ -7,7 +7,7 @@ use Rattle.rs_text.specs.Readings.{read_all}
 use Rattle.rs_bodies.specs.declared.dialects.Dialect.TheVariants.{Talks}
 use Rattle.rs_bodies.specs.Feeding as bodies
 use Rattle.rs_global.specs.Faults.{no_names}
-use Rattle.rs_global.specs.Graph.{graph_spelt}
+use Rattle.rs_global.specs.Parts.{graph_spelt}
 
 -- names, protocol and the offset behind them
 pub record Answer : Type 0 where

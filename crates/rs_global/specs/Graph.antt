@@ -1,14 +1,11 @@
 -- Believed: the names and the graph that a tree spells.
-use Rattle.std.specs.Prelude.{ℕ, suc, ◌+◌, List, [], ◌∷◌, ◌++◌, length, map, Bool, true, false}
+use Rattle.std.specs.Prelude.{ℕ, suc, ◌+◌, List, [], ◌∷◌, ◌++◌, length, Bool, true, false}
 use Rattle.rs_model.specs.Data.{Protocol_data, Names_data}
 use Rattle.rs_model.specs.declared.graph.Arm.{Arm}
 use Rattle.rs_model.specs.declared.graph.Node.{Node}
 use Rattle.rs_model.specs.declared.graph.Node.TheVariants as node
 use Rattle.rs_text.specs.Names.{grown, Bound}
 use Rattle.rs_bodies.specs.declared.dialects.Dialect.TheVariants.{Talks}
-use Rattle.rs_bodies.specs.declared.dialects.Head.{Head}
-use Rattle.rs_bodies.specs.declared.dialects.Head.TheVariants as head
-use Rattle.rs_bodies.specs.Data.{Point_data, Spelling_data}
 use Rattle.rs_bodies.specs.Dialects.{sends_to}
 use Rattle.rs_bodies.specs.Graph.{labels_of, acts_in, has_end, first_of, Numbering, role_of, arm_of, arms_of}
 use Rattle.rs_bodies.specs.Trees.{Body, ends, again, binds, acts, offers, Branches, one, more}
@@ -51,16 +48,3 @@ graph_of t = record {
   nodes = nodes_of (numbering t) t.body [] 0 ++ finish_of (has_end Talks t.body);
   root = first_of Talks t.body [] 0 (acts_in Talks t.body);
 }
-
--- the node of a head; a protocol has talks alone
-abbrev pub node_by : Head → List Arm → Node
-node_by (head.Talk sender receiver) arms = node.Talk sender receiver arms
-node_by (head.Act peer m) arms = node.Finished
-
--- .. with its arms
-abbrev pub node_at : Point_data → Node
-node_at p = node_by p.head p.arms
-
--- the graph of what a part spells, with so many roles
-abbrev pub graph_spelt : (roles : ℕ) → Spelling_data → Protocol_data
-graph_spelt roles s = record { roles = roles; nodes = map node_at s.points ++ finish_of s.ended; root = s.start }

@@ -5,7 +5,7 @@ use Rattle.rs_text.specs.Lexemes.{Lexeme, Lexed, signs_of}
 use Rattle.rs_text.specs.Sound.{differ}
 use Rattle.rs_bodies.specs.declared.dialects.Dialect.TheVariants.{Talks}
 use Rattle.rs_bodies.specs.Scenes.{first_scene}
-use Rattle.rs_bodies.specs.Spells.{body_fits}
+use Rattle.rs_bodies.specs.Fits.{body_fits}
 use Rattle.rs_bodies.specs.Trees.{ends_by_name, ends_a_name}
 use Rattle.rs_global.specs.Trees.{ProtocolTree, protocol_signs, roles_of}
 use Rattle.rs_global.specs.Graph.{graph_of, names_of}

@@ -2,7 +2,8 @@ ghost use Rattle.std.specs.Prelude.{◌≡◌, ◌≤◌, ◌+◌, ◌++◌, len
 ghost use Rattle.rs_text.specs.declared.faults.TextKind.TheVariants as kind;
 ghost use Rattle.rs_text.specs.Sound.{IsSound};
 ghost use Rattle.rs_global.specs.Faults.{FirstFault};
-ghost use Rattle.rs_global.specs.Graph.{finish_of, graph_spelt, node_at, node_by};
+ghost use Rattle.rs_global.specs.Graph.{finish_of};
+ghost use Rattle.rs_global.specs.Parts.{graph_spelt, node_at, node_by};
 ghost use Rattle.rs_global.specs.Spells.{SpellsProtocol};
 
 use rs_bodies::{Dialect, Head, Point, Spelling, read_part};

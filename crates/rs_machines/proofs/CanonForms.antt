@@ -21,7 +21,7 @@ use Rattle.rs_bodies.specs.declared.dialects.Dialect.TheVariants.{Acts}
 use Rattle.rs_bodies.specs.Trees.{Body, ends, again, binds, acts, offers, Branches, one, more}
 use Rattle.rs_bodies.specs.Graph.{acts_in, Numbering, role_of, label_of}
 use Rattle.rs_bodies.specs.Scenes.{Scene, with_label, in_act, in_braces, in_rec, behind}
-use Rattle.rs_bodies.specs.Spells.{is_guarded, body_fits, arms_fit}
+use Rattle.rs_bodies.specs.Fits.{is_guarded, body_fits, arms_fit}
 use Rattle.rs_bodies.specs.Dialects.{with_mark}
 
 -- ---- what stands in a list

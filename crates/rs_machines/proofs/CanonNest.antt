@@ -24,7 +24,7 @@ use Rattle.rs_bodies.specs.declared.dialects.Dialect.TheVariants.{Acts}
 use Rattle.rs_bodies.specs.Trees.{Body, ends, again, binds, acts, offers, Branches, one, more}
 use Rattle.rs_bodies.specs.Graph.{role_of, labels_of, labels_of_arms, acts_in, acts_in_arms, Numbering, first_of, arm_of, arms_of}
 use Rattle.rs_bodies.specs.Scenes.{Scene, with_label, in_act, in_braces, in_rec, behind}
-use Rattle.rs_bodies.specs.Spells.{is_guarded, has_room_for, body_fits, arms_fit}
+use Rattle.rs_bodies.specs.Fits.{is_guarded, has_room_for, body_fits, arms_fit}
 use Rattle.rs_bodies.specs.Dialects.{with_mark}
 
 -- ---- a rec stands right in front of each act that is gone back to

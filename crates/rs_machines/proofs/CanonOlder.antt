@@ -32,7 +32,7 @@ use Rattle.rs_text.proofs.Basics.{two_true, both}
 use Rattle.rs_bodies.specs.declared.dialects.Dialect.TheVariants.{Acts}
 use Rattle.rs_bodies.specs.Graph.{labels_of, labels_of_arms, acts_in, has_end, role_of, first_of}
 use Rattle.rs_bodies.specs.Scenes.{first_scene}
-use Rattle.rs_bodies.specs.Spells.{has_room_for, body_fits, arms_fit}
+use Rattle.rs_bodies.specs.Fits.{has_room_for, body_fits, arms_fit}
 use Rattle.rs_bodies.specs.Trees.{Body, ends, again, binds, acts, offers, Branches, one, more}
 use Rattle.rs_bodies.specs.Dialects.{with_mark}
 

@@ -9,7 +9,8 @@ use Rattle.rs_text.specs.declared.faults.TextKind.TheVariants as kind
 use Rattle.rs_text.specs.declared.faults.Wanted.TheVariants as wanted
 use Rattle.rs_machines.specs.Faults.{FirstFault}
 use Rattle.rs_bodies.specs.Cuts.{in_opening}
-use Rattle.rs_bodies.specs.Openings.{at_machine, Opening, of_role, opening_signs}
+use Rattle.rs_bodies.specs.Cuts.{at_machine}
+use Rattle.rs_bodies.specs.Openings.{Opening, of_role, opening_signs}
 use Rattle.rs_bodies.specs.Trees.{Body, body_signs}
 use Rattle.rs_bodies.specs.Spells.{Tree, tree_signs}
 use Rattle.rs_bodies.specs.declared.dialects.Dialect.TheVariants.{Acts}

@@ -20,7 +20,7 @@ use Rattle.rs_text.proofs.Basics.{or_first}
 use Rattle.rs_bodies.specs.declared.dialects.Dialect.TheVariants.{Acts}
 use Rattle.rs_bodies.specs.Graph.{labels_of, labels_of_arms, acts_in, has_end, Numbering, role_of, first_of, arm_of, arms_of}
 use Rattle.rs_bodies.specs.Scenes.{Scene, with_label, in_act, in_braces, in_rec, behind, first_scene}
-use Rattle.rs_bodies.specs.Spells.{has_room_for, body_fits, arms_fit}
+use Rattle.rs_bodies.specs.Fits.{has_room_for, body_fits, arms_fit}
 use Rattle.rs_bodies.specs.Trees.{Body, ends, again, binds, acts, offers, Branches, one, more}
 use Rattle.rs_bodies.specs.Dialects.{with_mark}
 

@@ -22,7 +22,7 @@ use Rattle.rs_text.proofs.Basics.{both, or_true, or_false, or_assoc, false_or, a
 use Rattle.rs_bodies.specs.declared.dialects.Dialect.TheVariants.{Acts}
 use Rattle.rs_bodies.specs.Trees.{Body, ends, again, binds, acts, offers, Branches, one, more}
 use Rattle.rs_bodies.specs.Graph.{labels_of, acts_in, acts_in_arms, has_end, has_end_arms, Numbering, role_of, first_of, arm_of, arms_of}
-use Rattle.rs_bodies.specs.Spells.{is_guarded, has_room_for, body_fits, arms_fit}
+use Rattle.rs_bodies.specs.Fits.{is_guarded, has_room_for, body_fits, arms_fit}
 use Rattle.rs_bodies.specs.Dialects.{with_mark}
 
 abbrev walk : ℕ → Bool → Walk

@@ -14,7 +14,8 @@ use Rattle.rs_bodies.specs.Data.{Point_data, Spelling_data}
 use Rattle.rs_bodies.specs.Dialects.{with_mark}
 use Rattle.rs_bodies.specs.Faults.{Begins, IsUnexpected}
 use Rattle.rs_bodies.specs.Feeding as bodies
-use Rattle.rs_bodies.specs.Graph.{acts_in, has_end, first_of, Numbering, role_of, arm_of, arms_of, points_of, points_of_arms}
+use Rattle.rs_bodies.specs.Graph.{acts_in, has_end, first_of, Numbering, role_of, arm_of, arms_of}
+use Rattle.rs_bodies.specs.Points.{points_of, points_of_arms}
 use Rattle.rs_bodies.specs.Openings.{Opening, of_role}
 use Rattle.rs_bodies.specs.Spells as parts
 use Rattle.rs_bodies.specs.Spells.{Tree, Spells, spelling_of, tree_signs}
@@ -26,9 +27,11 @@ use Rattle.rs_bodies.proofs.SpeltLaws as laws
 use Rattle.rs_bodies.proofs.SpeltRuns as runs
 use Rattle.rs_machines.specs.Answers.{Answer, of_machine, ReadsAs}
 use Rattle.rs_machines.specs.Faults.{FirstFault}
-use Rattle.rs_machines.specs.Machines.{act_of, states_of, states_of_arms, numbering, done_of, machine_of, state_at, machine_spelt}
+use Rattle.rs_machines.specs.Machines.{act_of, states_of, states_of_arms, numbering, done_of, machine_of}
+use Rattle.rs_machines.specs.Parts.{state_at, machine_spelt}
 use Rattle.rs_machines.specs.Spells.{Fits, SpellsMachine}
-use Rattle.rs_machines.specs.Trees.{MachineTree, part_of}
+use Rattle.rs_machines.specs.Trees.{MachineTree}
+use Rattle.rs_machines.specs.Parts.{part_of}
 
 -- ---- heads are states
 

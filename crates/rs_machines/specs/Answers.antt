@@ -6,7 +6,7 @@ use Rattle.rs_text.specs.Lexemes.{Lexeme, Lexed}
 use Rattle.rs_text.specs.Readings.{read_all}
 use Rattle.rs_bodies.specs.declared.dialects.Dialect.TheVariants.{Acts}
 use Rattle.rs_bodies.specs.Feeding as bodies
-use Rattle.rs_machines.specs.Machines.{machine_spelt}
+use Rattle.rs_machines.specs.Parts.{machine_spelt}
 
 -- names, machine and the offset behind them
 pub record Answer : Type 0 where

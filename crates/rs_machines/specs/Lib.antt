@@ -2,6 +2,7 @@ pub mod Trees
 pub mod Machines
 pub mod Spells
 pub mod Faults
+pub mod Parts
 pub mod Answers
 pub mod Tables
 pub mod Examples

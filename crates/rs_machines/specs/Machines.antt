@@ -1,5 +1,5 @@
 -- Believed: the names and the machine that a tree spells.
-use Rattle.std.specs.Prelude.{ℕ, suc, ◌+◌, List, [], ◌∷◌, ◌++◌, map, Bool, true, false}
+use Rattle.std.specs.Prelude.{ℕ, suc, ◌+◌, List, [], ◌∷◌, ◌++◌, Bool, true, false}
 use Rattle.rs_model.specs.Data.{Machine_data, Names_data}
 use Rattle.rs_model.specs.declared.graph.Arm.{Arm}
 use Rattle.rs_model.specs.declared.machines.State.{State}
@@ -7,11 +7,8 @@ use Rattle.rs_model.specs.declared.machines.State.TheVariants as state
 use Rattle.rs_model.specs.declared.graph.Role.{Role}
 use Rattle.rs_text.specs.Names.{grown, Bound}
 use Rattle.rs_bodies.specs.declared.dialects.Dialect.TheVariants.{Acts}
-use Rattle.rs_bodies.specs.declared.dialects.Head.{Head}
-use Rattle.rs_bodies.specs.declared.dialects.Head.TheVariants as head
 use Rattle.rs_bodies.specs.declared.dialects.Mark.{Mark}
 use Rattle.rs_bodies.specs.declared.dialects.Mark.TheVariants as mark
-use Rattle.rs_bodies.specs.Data.{Point_data, Spelling_data}
 use Rattle.rs_bodies.specs.Dialects.{with_mark}
 use Rattle.rs_bodies.specs.Graph.{labels_of, acts_in, has_end, first_of, Numbering, role_of, arm_of, arms_of}
 use Rattle.rs_bodies.specs.Trees.{Body, ends, again, binds, acts, offers, Branches, one, more}
@@ -58,21 +55,4 @@ machine_of old t = record {
   role = role_of (numbering old t) t.role;
   states = states_of (numbering old t) t.body [] 0 ++ done_of (has_end Acts t.body);
   start = first_of Acts t.body [] 0 (acts_in Acts t.body);
-}
-
--- the state of a head; a machine has acts alone
-abbrev pub state_by : Head → List Arm → State
-state_by (head.Act peer m) arms = state_of m peer arms
-state_by (head.Talk sender receiver) arms = state.Done
-
--- .. with its arms
-abbrev pub state_at : Point_data → State
-state_at p = state_by p.head p.arms
-
--- the machine of what a part spells
-abbrev pub machine_spelt : Spelling_data → Machine_data
-machine_spelt s = record {
-  role = s.role;
-  states = map state_at s.points ++ done_of s.ended;
-  start = s.start;
 }

@@ -5,7 +5,7 @@ use Rattle.rs_text.specs.Lexemes.{Lexeme, Lexed, signs_of}
 use Rattle.rs_text.specs.Names.{is_among}
 use Rattle.rs_bodies.specs.declared.dialects.Dialect.TheVariants.{Acts}
 use Rattle.rs_bodies.specs.Scenes.{first_scene}
-use Rattle.rs_bodies.specs.Spells.{body_fits}
+use Rattle.rs_bodies.specs.Fits.{body_fits}
 use Rattle.rs_bodies.specs.Trees.{ends_by_name, ends_a_name}
 use Rattle.rs_machines.specs.Trees.{MachineTree, machine_signs}
 use Rattle.rs_machines.specs.Machines.{machine_of, names_of}

@@ -2,7 +2,8 @@ ghost use Rattle.std.specs.Prelude.{◌≡◌, ◌≤◌, ◌+◌, ◌++◌, len
 ghost use Rattle.rs_text.specs.declared.faults.TextKind.TheVariants as kind;
 ghost use Rattle.rs_text.specs.Sound.{IsSound};
 ghost use Rattle.rs_machines.specs.Faults.{FirstFault, Keeps, LeavesNames};
-ghost use Rattle.rs_machines.specs.Machines.{done_of, machine_spelt, state_at, state_by, state_of};
+ghost use Rattle.rs_machines.specs.Machines.{done_of, state_of};
+ghost use Rattle.rs_machines.specs.Parts.{machine_spelt, state_at, state_by};
 ghost use Rattle.rs_machines.specs.Spells.{SpellsMachine};
 
 use rs_bodies::{Dialect, Head, Mark, Point, Spelling, read_part};

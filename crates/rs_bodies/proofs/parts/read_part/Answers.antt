@@ -1,6 +1,6 @@
-use Rattle.std.proofs.Common.{rules, ◌≡◌, ap, subst}
+use Rattle.std.proofs.Common.{rules, ◌≡◌, subst}
 use Rattle.rs_bodies.specs.Feeding.{begin, feeding}
-use Rattle.rs_bodies.proofs.Refusals.{begins_with, begun, left, reads_spelt}
+use Rattle.rs_bodies.proofs.Refusals.{begins_with, left, reads_spelt}
 use Rattle.rs_bodies.proofs.parts.read_part.Goals as goal
 use Rattle.rs_text.proofs.Keeping.{told_within, refused}
 use Rattle.rs_bodies.proofs.OneFault.{judges, begins}

@@ -1,5 +1,5 @@
 use Rattle.std.proofs.Common.{◌≡◌, map}
-use Rattle.rs_global.specs.Graph.{node_at}
+use Rattle.rs_global.specs.Parts.{node_at}
 use Rattle.rs_global.proofs.protocols.talks.Given as goal
 
 abbrev pub invariant-loop-point : goal.invariant-loop-point

@@ -1,5 +1,5 @@
 use Rattle.std.proofs.Common.{◌≡◌, map}
-use Rattle.rs_machines.specs.Machines.{state_at}
+use Rattle.rs_machines.specs.Parts.{state_at}
 use Rattle.rs_machines.proofs.machines.acts.Given as goal
 
 abbrev pub invariant-loop-point : goal.invariant-loop-point
