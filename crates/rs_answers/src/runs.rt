@@ -132,13 +132,14 @@ fn run_accepted(
     let actors = actors_of(alloc, accepted.machines().len(), options.seed)?;
     let capacity = capacity_of(options.ring, accepted.room());
     match run_inline(alloc, accepted, actors, capacity, options.limit) {
-        Ok(Ran {
-            run: Run { outcome, .. },
-            ..
-        }) => match outcome {
-            Outcome::Ended(transcripts) => ended_answer(alloc, names, &transcripts),
-            Outcome::Stopped(role) => stopped_answer(alloc, names, role),
-        },
+        Ok(ran) => {
+            let Ran { run, closed: _ } = ran;
+            let Run { outcome, .. } = run;
+            match outcome {
+                Outcome::Ended(transcripts) => ended_answer(alloc, names, &transcripts),
+                Outcome::Stopped(role) => stopped_answer(alloc, names, role),
+            }
+        }
         Err(
             ExecFault::Full {
                 sender,

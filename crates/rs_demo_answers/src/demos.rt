@@ -72,13 +72,14 @@ fn run_session(
     ensures { IfOk result (TellsRun kind actors.items names.now accepted.now.machines capacity) }
 {
     match run_inline(alloc, accepted, actors, capacity, DEMO_LIMIT) {
-        Ok(Ran {
-            run: Run { outcome, actors },
-            ..
-        }) => match outcome {
-            Outcome::Ended(_) => ended_answer(alloc, kind, actors.as_slice()),
-            Outcome::Stopped(role) => stopped_answer(alloc, names, role),
-        },
+        Ok(ran) => {
+            let Ran { run, closed: _ } = ran;
+            let Run { outcome, actors } = run;
+            match outcome {
+                Outcome::Ended(_) => ended_answer(alloc, kind, actors.as_slice()),
+                Outcome::Stopped(role) => stopped_answer(alloc, names, role),
+            }
+        }
         Err(ExecFault::Full { .. }) => unreachable!(),
         Err(ExecFault::NoMemory) => Err(NoMemory),
     }

@@ -28,17 +28,15 @@ fn printed_by(
         return None;
     }
     match run_inline(alloc, accepted, actors, room as u16, 4_096) {
-        Ok(
-            Ran {
-                run:
-                    Run {
-                        outcome: Outcome::Ended(_),
-                        actors,
-                    },
-                ..
-            },
-        ) => demo_output(alloc, kind, actors.as_slice()).ok(),
-        _ => None,
+        Ok(ran) => {
+            let Ran { run, closed: _ } = ran;
+            let Run { outcome, actors } = run;
+            match outcome {
+                Outcome::Ended(_) => demo_output(alloc, kind, actors.as_slice()).ok(),
+                Outcome::Stopped(_) => None,
+            }
+        }
+        Err(_) => None,
     }
 }
 

@@ -9,7 +9,7 @@ use crate::counting::CountingActor;
 use crate::session::{Session, session_of};
 use rs_core::{Outcome, Run, SeededActor, run_plain};
 use rs_documents::read_document;
-use rs_exec::{ExecFault, run_inline};
+use rs_exec::{ExecFault, Ran, run_inline};
 use rs_model::{Machine, NoMemory, Role};
 use rs_safety::{Accepted, accept};
 use std::alloc::Global;
@@ -82,7 +82,8 @@ fn run_session(
     match capacity {
         Some(capacity) => {
             let ran = run_inline(alloc, accepted, actors, capacity, limit)?;
-            Ok(end_of(ran.run))
+            let Ran { run, closed: _ } = ran;
+            Ok(end_of(run))
         }
         None => {
             let machines = copies_of(alloc, accepted.machines())?;

@@ -11,15 +11,15 @@ use Rattle.rs_answers.proofs.runs.run_accepted.Goals as goal
 
 pub returns-in-Ended : goal.returns-in-Ended
 returns-in-Ended c =
-    let P : ℕ → Outcome → Type 0 = λ n x. (o : Ending ℕ) × IsPlain c.args.accepted.now.machines by_draws (actor_of c.args.options.seed) c.args.options.limit (Some n) o × IsShown (length c.args.accepted.now.machines) o x c.in-Ok.field-0.actors.items in
-    tells_run_ended c.args.options c.args.names.now c.args.accepted.now.machines c.args.accepted.now.derivations c.in-Ended.transcripts c.in-Ok.field-0.actors.items c.ended_answer.result
+    let P : ℕ → Outcome → Type 0 = λ n x. (o : Ending ℕ) × IsPlain c.args.accepted.now.machines by_draws (actor_of c.args.options.seed) c.args.options.limit (Some n) o × IsShown (length c.args.accepted.now.machines) o x c.in-Ok.ran.run.actors.items in
+    tells_run_ended c.args.options c.args.names.now c.args.accepted.now.machines c.args.accepted.now.derivations c.in-Ended.transcripts c.in-Ok.ran.run.actors.items c.ended_answer.result
     (subst₂ P (c.capacity_of-capacity.ensures ∙ ap (capacity_of c.args.options.ring) c.room.ensures) c.in-Ended.is (c.in-Ok.ensures.plain (actor_of c.args.options.seed) c.in_ok-actors.ensures.each))
     c.ended_answer.ensures
 
 pub returns-in-Ok : goal.returns-in-Ok
 returns-in-Ok c =
-    let P : ℕ → Outcome → Type 0 = λ n x. (o : Ending ℕ) × IsPlain c.args.accepted.now.machines by_draws (actor_of c.args.options.seed) c.args.options.limit (Some n) o × IsShown (length c.args.accepted.now.machines) o x c.in-Ok.field-0.actors.items in
-    tells_run_stopped c.args.options c.args.names.now c.args.accepted.now.machines c.args.accepted.now.derivations c.in-Stopped.role c.in-Ok.field-0.actors.items c.stopped_answer.result
+    let P : ℕ → Outcome → Type 0 = λ n x. (o : Ending ℕ) × IsPlain c.args.accepted.now.machines by_draws (actor_of c.args.options.seed) c.args.options.limit (Some n) o × IsShown (length c.args.accepted.now.machines) o x c.in-Ok.ran.run.actors.items in
+    tells_run_stopped c.args.options c.args.names.now c.args.accepted.now.machines c.args.accepted.now.derivations c.in-Stopped.role c.in-Ok.ran.run.actors.items c.stopped_answer.result
     (subst₂ P (c.capacity_of-capacity.ensures ∙ ap (capacity_of c.args.options.ring) c.room.ensures) c.in-Stopped.is (c.in-Ok.ensures.plain (actor_of c.args.options.seed) c.in_ok-actors.ensures.each))
     c.stopped_answer.ensures
 

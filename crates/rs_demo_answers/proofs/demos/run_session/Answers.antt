@@ -11,12 +11,12 @@ use Rattle.rs_demo_answers.proofs.demos.run_session.Goals as goal
 
 pub returns-in-Ended : goal.returns-in-Ended
 returns-in-Ended c =
-    let P : Outcome → Type 0 = λ x. (o : Ending DemoActor) × IsPlain c.args.accepted.now.machines by_demo (actor_at c.args.actors.items) DEMO_LIMIT (Some c.args.capacity) o × IsShown (length c.args.accepted.now.machines) o x c.in-Ok.field-0.actors.items in
-    told_ended c.args.kind c.args.actors.items c.args.names.now c.args.accepted.now.machines c.args.capacity c.in-Ended.field-0 c.in-Ok.field-0.actors.items c.ended_answer.result
+    let P : Outcome → Type 0 = λ x. (o : Ending DemoActor) × IsPlain c.args.accepted.now.machines by_demo (actor_at c.args.actors.items) DEMO_LIMIT (Some c.args.capacity) o × IsShown (length c.args.accepted.now.machines) o x c.in-Ok.ran.run.actors.items in
+    told_ended c.args.kind c.args.actors.items c.args.names.now c.args.accepted.now.machines c.args.capacity c.in-Ended.field-0 c.in-Ok.ran.run.actors.items c.ended_answer.result
     (subst P c.in-Ended.is (c.in-Ok.ensures.plain (actor_at c.args.actors.items) (given c.args.actors.items))) (rw c.as_slice.ensures.value at c.ended_answer.ensures)
 
 pub returns-in-Ok : goal.returns-in-Ok
 returns-in-Ok c =
-    let P : Outcome → Type 0 = λ x. (o : Ending DemoActor) × IsPlain c.args.accepted.now.machines by_demo (actor_at c.args.actors.items) DEMO_LIMIT (Some c.args.capacity) o × IsShown (length c.args.accepted.now.machines) o x c.in-Ok.field-0.actors.items in
-    told_stopped c.args.kind c.args.actors.items c.args.names.now c.args.accepted.now.machines c.args.capacity c.in-Stopped.role c.in-Ok.field-0.actors.items c.stopped_answer.result
+    let P : Outcome → Type 0 = λ x. (o : Ending DemoActor) × IsPlain c.args.accepted.now.machines by_demo (actor_at c.args.actors.items) DEMO_LIMIT (Some c.args.capacity) o × IsShown (length c.args.accepted.now.machines) o x c.in-Ok.ran.run.actors.items in
+    told_stopped c.args.kind c.args.actors.items c.args.names.now c.args.accepted.now.machines c.args.capacity c.in-Stopped.role c.in-Ok.ran.run.actors.items c.stopped_answer.result
     (subst P c.in-Stopped.is (c.in-Ok.ensures.plain (actor_at c.args.actors.items) (given c.args.actors.items))) c.stopped_answer.ensures
