@@ -10,7 +10,7 @@ ghost use Rattle.rs_rings.specs.Views.{state_in};
 use rs_core::{Actor, Entry};
 use rs_model::{Arm, NoMemory, Role, State, Value};
 use rs_rings::{Got, Put};
-use rs_session::{Ensemble, Session, place_of};
+use rs_session::{Ensemble, Session, place_by_label};
 use rs_slots::Parcel;
 use std::alloc::Global;
 
@@ -132,7 +132,7 @@ impl<A: Actor> Member<A> {
             Got::Empty { .. } => Ok(Went::Waits),
             Got::One(parcel) => {
                 let Parcel { label, value } = parcel;
-                let place = place_of(arms, label);
+                let place = place_by_label(arms, label);
                 self.actor.take(alloc, arms, place, &value)?;
                 self.state = arms[place as usize].next;
                 self.entries.push(Entry::Got { peer, label, value })?;

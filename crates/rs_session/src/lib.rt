@@ -15,6 +15,6 @@ mod standing;
 pub use ends::CloseFault;
 pub use ensembles::Ensemble;
 pub use leaving::{LeftFault, LeftOver};
-pub use places::place_of;
+pub use places::place_by_label;
 pub use sessions::Session;
 pub use stages::{Ended, Left, Receiving, Sending, Sent, Stage, Taken};

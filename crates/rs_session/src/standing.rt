@@ -7,7 +7,7 @@ ghost use Rattle.rs_rings.specs.Acts.{MayPut};
 ghost use Rattle.rs_rings.specs.Views.{SpeaksFor, part_of, state_in, history_in};
 ghost use Rattle.rs_session.specs.Standing.{FoundTells, PutTells, seen_by};
 
-use crate::places::place_of;
+use crate::places::place_by_label;
 use rs_model::{Arm, Role, Value};
 use rs_rings::{Got, Pass, Put, Rings};
 use rs_slots::Parcel;
@@ -125,7 +125,7 @@ impl Standing {
     {
         match rings.look_take(&mut self.pass, self.role, peer) {
             Got::One(parcel) => {
-                let arm = place_of(arms, parcel.label);
+                let arm = place_by_label(arms, parcel.label);
                 self.state = arms[arm as usize].next;
                 self.acts += 1;
                 Found::One {

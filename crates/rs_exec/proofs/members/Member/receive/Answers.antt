@@ -16,14 +16,14 @@ pub returns-in_ok-push-in-One-clause-tells : goal.returns-in_ok-push-in-One-clau
 returns-in_ok-push-in-One-clause-tells g c =
     let r = c.requires.ready in
     (got_turn g.A.Actor.behaviour c.args.session.now c.args.role.0 c.args.all.now.view c.look_take.new.self.view c.args.self.now
-    record { state = (get_or c.args.arms.now c.place_of-place.result blank).next; actor = c.take.new.self; kept = c.args.self.now.kept; entries = c.push.new.self }
-    c.args.peer c.args.arms.now c.place_of-place.result c.in-One.parcel blank r.well_formed r.hold.speaks r.there r.member c.requires.stands c.place_of-place.ensures c.in-One.ensures.told
+    record { state = (get_or c.args.arms.now c.place_by_label-place.result blank).next; actor = c.take.new.self; kept = c.args.self.now.kept; entries = c.push.new.self }
+    c.args.peer c.args.arms.now c.place_by_label-place.result c.in-One.parcel blank r.well_formed r.hold.speaks r.there r.member c.requires.stands c.place_by_label-place.ensures c.in-One.ensures.told
     (sym c.in_ok-take-in-One.ensures.becomes) refl c.in_ok-push-in-One.ensures.items refl).tells
 
 pub returns-in_ok-push-in-One-clause-turned : goal.returns-in_ok-push-in-One-clause-turned
 returns-in_ok-push-in-One-clause-turned g c =
     let r = c.requires.ready in
     (got_turn g.A.Actor.behaviour c.args.session.now c.args.role.0 c.args.all.now.view c.look_take.new.self.view c.args.self.now
-    record { state = (get_or c.args.arms.now c.place_of-place.result blank).next; actor = c.take.new.self; kept = c.args.self.now.kept; entries = c.push.new.self }
-    c.args.peer c.args.arms.now c.place_of-place.result c.in-One.parcel blank r.well_formed r.hold.speaks r.there r.member c.requires.stands c.place_of-place.ensures c.in-One.ensures.told
+    record { state = (get_or c.args.arms.now c.place_by_label-place.result blank).next; actor = c.take.new.self; kept = c.args.self.now.kept; entries = c.push.new.self }
+    c.args.peer c.args.arms.now c.place_by_label-place.result c.in-One.parcel blank r.well_formed r.hold.speaks r.there r.member c.requires.stands c.place_by_label-place.ensures c.in-One.ensures.told
     (sym c.in_ok-take-in-One.ensures.becomes) refl c.in_ok-push-in-One.ensures.items refl).turned

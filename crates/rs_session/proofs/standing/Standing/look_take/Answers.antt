@@ -8,24 +8,24 @@ use Rattle.rs_session.proofs.standing.Standing.look_take.Goals as goal
 pub look_take-requires-clause-can : goal.look_take-requires-clause-can
 look_take-requires-clause-can c = can_take c.args.rings.now c.args.peer c.args.arms.now c.args.self.now c.self.inside.role c.self.inside.pass c.self.view_is c.requires.stands
 
-pub place_of-arm-requires-clause-once : goal.place_of-arm-requires-clause-once
-place_of-arm-requires-clause-once c = labels_once c.args.rings.now.machines c.args.self.now.role.0 c.args.self.now.part.state c.args.peer c.args.arms.now c.requires.well_formed c.requires.stands
+pub place_by_label-arm-requires-clause-once : goal.place_by_label-arm-requires-clause-once
+place_by_label-arm-requires-clause-once c = labels_once c.args.rings.now.machines c.args.self.now.role.0 c.args.self.now.part.state c.args.peer c.args.arms.now c.requires.well_formed c.requires.stands
 
 pub bounds-arms-arm : goal.bounds-arms-arm
 bounds-arms-arm c =
-    let at = arm_of_label (slice_get c.args.arms.now c.place_of-arm.result) c.in-One.parcel.label c.place_of-arm.ensures in
-    slice_get_within c.args.arms.now c.place_of-arm.result at.0 at.1
+    let at = arm_of_label (slice_get c.args.arms.now c.place_by_label-arm.result) c.in-One.parcel.label c.place_by_label-arm.ensures in
+    slice_get_within c.args.arms.now c.place_by_label-arm.result at.0 at.1
 
 pub invariant_of-self : goal.invariant_of-self
 invariant_of-self c =
-    let at = arm_of_label (slice_get c.args.arms.now c.place_of-arm.result) c.in-One.parcel.label c.place_of-arm.ensures in
-    let took = look_one c.args.rings.now c.args.peer c.args.arms.now c.in-One.parcel c.place_of-arm.result c.self.inside.state c.self.inside.acts c.args.self.now c.self.inside.role c.self.inside.pass c.look_take.new.pass at.0 c.self.view_is c.requires.well_formed c.requires.stands
+    let at = arm_of_label (slice_get c.args.arms.now c.place_by_label-arm.result) c.in-One.parcel.label c.place_by_label-arm.ensures in
+    let took = look_one c.args.rings.now c.args.peer c.args.arms.now c.in-One.parcel c.place_by_label-arm.result c.self.inside.state c.self.inside.acts c.args.self.now c.self.inside.role c.self.inside.pass c.look_take.new.pass at.0 c.self.view_is c.requires.well_formed c.requires.stands
     at.1 at.2 c.self.invariant c.in-One.ensures.told c.look_take.ensures.table in
-    subst (λ (z : Arm). IsOne c.look_take.new.pass.view c.self.inside.role z.next (c.self.inside.acts + 1)) (sym (get_or_from_slice_get c.args.arms.now c.place_of-arm.result at.0 _ at.1)) took.one
+    subst (λ (z : Arm). IsOne c.look_take.new.pass.view c.self.inside.role z.next (c.self.inside.acts + 1)) (sym (get_or_from_slice_get c.args.arms.now c.place_by_label-arm.result at.0 _ at.1)) took.one
 
 pub returns-in-One : goal.returns-in-One
 returns-in-One c =
-    let at = arm_of_label (slice_get c.args.arms.now c.place_of-arm.result) c.in-One.parcel.label c.place_of-arm.ensures in
-    let took = look_one c.args.rings.now c.args.peer c.args.arms.now c.in-One.parcel c.place_of-arm.result c.self.inside.state c.self.inside.acts c.args.self.now c.self.inside.role c.self.inside.pass c.look_take.new.pass at.0 c.self.view_is c.requires.well_formed c.requires.stands
+    let at = arm_of_label (slice_get c.args.arms.now c.place_by_label-arm.result) c.in-One.parcel.label c.place_by_label-arm.ensures in
+    let took = look_one c.args.rings.now c.args.peer c.args.arms.now c.in-One.parcel c.place_by_label-arm.result c.self.inside.state c.self.inside.acts c.args.self.now c.self.inside.role c.self.inside.pass c.look_take.new.pass at.0 c.self.view_is c.requires.well_formed c.requires.stands
     at.1 at.2 c.self.invariant c.in-One.ensures.told c.look_take.ensures.table in
     record { told = took.got }
