@@ -1,7 +1,6 @@
 -- The six kinds of step keep the rule.
-use Rattle.std.proofs.Common.{◌≡◌, ◌≢◌, ◌⊎◌, ℕ, zero, suc, ◌+◌, ◌-◌, ◌*◌, ◌%◌, ◌^◌, ◌<◌, ◌≤◌, eqb, if◌then◌else◌, ◌==◌, List, [], ◌∷◌, ◌++◌, length, sum_by, set, get_or, slice_index, refl, sym, ap, ap₂, ◌∙◌, subst, inl, inr, ⊎_elim, arith, Bool, true, false, length-set, get_or-set_same, get_or-set_other, eq-eqb, ne_eqb, Option, Some, None, le_refl}
+use Rattle.std.proofs.Common.{◌≡◌, ◌≢◌, ◌⊎◌, ℕ, zero, suc, ◌+◌, ◌%◌, ◌^◌, ◌<◌, ◌≤◌, if◌then◌else◌, ◌==◌, List, [], ◌∷◌, length, sum_by, set, slice_index, refl, sym, ap, ap₂, ◌∙◌, subst, inl, inr, ⊎_elim, arith, Bool, true, false, length-set, get_or-set_same, get_or-set_other, eq-eqb, ne_eqb, Option, Some, None, le_refl}
 use Rattle.std.proofs.Math.Nat.{mod-eq_of_lt}
-use Rattle.std.proofs.lemmas.Bool.Decides.{eqb_tells}
 use Rattle.std.proofs.lemmas.List.Sums.{sum_by-cons, sum_by-append}
 use prog.Atomic.{either}
 use mathlib.Core.Option.{some, none, some-injective}
@@ -10,12 +9,12 @@ use native.Mathlib.Decide.{ℕ_discrete}
 use mathlib.Core.Logic.{dite}
 use lib.ListN.{get_elem?}
 use lib.Seq.{set-get_or}
-use Rattle.atomic_table.specs.Table.{State, Me, step, keeps, takes, gives, put_back, Allows, Splits, Joins, Seen, rest}
-use Rattle.atomic_table.proofs.Lists.{set_here, set_else, set_again, exchanged}
+use Rattle.atomic_table.specs.Table.{State, Me, step, keeps, takes, gives, put_back, Allows, Splits, Joins}
+use Rattle.atomic_table.proofs.Lists.{set_here, set_else, set_again}
 use Rattle.rs_pool.specs.declared.views.View.{View}
-use Rattle.rs_pool.specs.Rule.{Facts, Place, Places, facts, Shows, Held, Counts, Ends, IsAmount, word_of, amount_in, counted_by, total, holding, freed, counting, seeing, kept, alone, joined, spent_view}
+use Rattle.rs_pool.specs.Rule.{Place, Places, facts, Shows, Ends, IsAmount, word_of, amount_in, holding, freed, counting, seeing, kept, alone, joined, spent_view}
 use Rattle.rs_pool.specs.Plays.{ClaimTells, GiveTells, CountTells, ReadTells}
-use Rattle.rs_pool.proofs.Sums.{at_below, at_put, put_case, sum_set, total_le}
+use Rattle.rs_pool.proofs.Sums.{at_put, put_case, sum_set, total_le}
 use Rattle.rs_pool.proofs.Known.{some_same, some_none, held_snoc, held_same, held_claim, held_free, counts_snoc, counts_same, counts_add, counts_join, ends_snoc, ends_same, ends_add, ends_join}
 
 word_zero : (h : Option ℕ) (a : ℕ) → word_of h a ≡ 0 → (h ≡ None) × (a ≡ 0)

@@ -1,29 +1,26 @@
 -- Jobs that have just been made are what the bench begins with.
-use Rattle.std.proofs.Common.{◌≡◌, ◌≢◌, ℕ, zero, suc, ◌+◌, ◌<◌, ◌≤◌, List, [], ◌∷◌, length, map, slice_get, All, IfSome, Option, Some, None, refl, sym, ap, ◌∙◌, subst, arith, zero-le}
+use Rattle.std.proofs.Common.{◌≡◌, ℕ, ◌<◌, ◌≤◌, List, length, map, slice_get, All, IfSome, Option, Some, sym, ap, ◌∙◌, subst, arith, zero-le}
 use Rattle.std.proofs.lemmas.Option.{same_Some, slice_get_within}
 use mathlib.Core.Option.{some}
 use lib.ListN.{get_elem?, length-map}
 use Rattle.atomic_table.proofs.Lists.{at_map}
-use Rattle.rs_model.specs.declared.graph.Role.{Role}
 use Rattle.rs_core.specs.Actors.{Behaviour, Choice}
 use Rattle.rs_core.specs.declared.transcripts.Entry.{Entry}
 use Rattle.rs_core.proofs.Ends.{get-there}
 use Rattle.rs_exec.proofs.PlayedOn.{plays_nothing}
-use Rattle.rs_exec.specs.Data.{Task_data}
-use Rattle.rs_exec.specs.Tasks.{IsTaskOf, PlaysTask}
+use Rattle.rs_exec.specs.Tasks.{PlaysTask}
 use Rattle.rs_rings.specs.Passes.{Rings_data}
 use Rattle.rs_session.specs.Acts.{SendsBy}
 use Rattle.rs_session.specs.Data.{Stage_data}
 use Rattle.rs_session.specs.Ends.{AreAllThere, AreOf}
 use Rattle.rs_session.specs.Stages.{AreFirst, IsOf, first_stage, shown}
 use Rattle.rs_session.specs.declared.stages.Stage.{Stage}
-use Rattle.rs_pool.proofs.Lists.{elem_of, of_elem, get_map, map_back, all_at, all_from}
-use Rattle.rs_pool.proofs.Bounds.{map_at, some_task}
-use Rattle.rs_pool.specs.Calls.{Begun}
-use Rattle.rs_pool.specs.Jobs.{Start, Fits, HasDoneNothing, IsNew, PlaysGiven, Stands, actors_of, stages_of}
+use Rattle.rs_pool.proofs.Lists.{elem_of, of_elem, get_map, all_at, all_from}
+use Rattle.rs_pool.proofs.Bounds.{map_at}
+use Rattle.rs_pool.specs.Calls.{AreSeated}
+use Rattle.rs_pool.specs.Jobs.{Start, Fits, HasDoneNothing, IsNew, Stands, actors_of, stages_of}
 use Rattle.rs_pool.specs.declared.jobs.Job.{Job}
 use Rattle.rs_pool.specs.declared.jobs.Progress.{Progress}
-use Rattle.rs_pool.specs.declared.jobs.Progress.TheVariants.{Underway}
 
 -- first stages have done nothing, and are stages of the session, one of each role
 pub first_nothing : (session : Rings_data) (stages : List Stage) → AreFirst session stages → All HasDoneNothing stages
@@ -74,7 +71,7 @@ module _ {A : Type 0} (b : Behaviour A) where
       }
 
   pub begun : (session : Rings_data) (stages : List Stage) (most : ℕ) (jobs : List (Job A)) → AreFirst session stages → stages_of jobs ≡ stages → All (IsNew most) jobs
-      → Begun (Fits b (start_of session most jobs)) (length session.machines) (map Some jobs)
+      → AreSeated (Fits b (start_of session most jobs)) (length session.machines) (map Some jobs)
   begun session stages most jobs first same news =
       let many : length jobs ≡ length session.machines = sym (length-map jobs (λ (j : Job A). j.task.stage)) ∙ ap length same ∙ first.count in record {
         count = length-map jobs Some ∙ many;
@@ -83,10 +80,10 @@ module _ {A : Type 0} (b : Behaviour A) where
       }
 
 -- the jobs in the slots at the start
-pub begun_count : {T : Type 0} (Fits : ℕ → T → Type 0) (n : ℕ) (xs : List (Option T)) (js : List T) → Begun Fits n xs → xs ≡ map Some js → length js ≡ n
+pub begun_count : {T : Type 0} (Fits : ℕ → T → Type 0) (n : ℕ) (xs : List (Option T)) (js : List T) → AreSeated Fits n xs → xs ≡ map Some js → length js ≡ n
 begun_count Fits n xs js begins is = sym (length-map js Some) ∙ ap length (sym is) ∙ begins.count
 
-pub begun_fits : {T : Type 0} (Fits : ℕ → T → Type 0) (n : ℕ) (xs : List (Option T)) (js : List T) → Begun Fits n xs → xs ≡ map Some js → (r : ℕ) (t : T) → slice_get js r ≡ Some t → Fits r t
+pub begun_fits : {T : Type 0} (Fits : ℕ → T → Type 0) (n : ℕ) (xs : List (Option T)) (js : List T) → AreSeated Fits n xs → xs ≡ map Some js → (r : ℕ) (t : T) → slice_get js r ≡ Some t → Fits r t
 begun_fits {T} Fits n xs js begins is r t at =
     let l = slice_get_within js r t at in
     let c = begun_count Fits n xs js begins is in

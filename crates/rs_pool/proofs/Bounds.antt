@@ -1,15 +1,15 @@
 -- How the bench starts, and what its end says.
-use Rattle.std.proofs.Common.{◌≡◌, ◌≢◌, ◌⊎◌, ℕ, zero, suc, ◌+◌, ◌*◌, ◌<◌, ◌≤◌, List, [], ◌∷◌, ◌++◌, length, map, replicate, sum_by, take, take_all, get_or, set, Bool, true, false, get_or-set_same, get_or-set_other, slice_index, refl, sym, ap, ◌∙◌, subst, inl, inr, ⊎_elim, arith, Option, Some, None, zero-le}
+use Rattle.std.proofs.Common.{◌≡◌, ℕ, zero, suc, ◌+◌, ◌<◌, ◌≤◌, List, [], ◌∷◌, ◌++◌, length, map, replicate, take, take_all, get_or, set, Bool, true, false, get_or-set_same, get_or-set_other, slice_index, refl, sym, ap, ◌∙◌, subst, inl, inr, ⊎_elim, arith, Option, Some, None, zero-le}
 use Rattle.std.proofs.lemmas.List.Sums.{sum_by-cons}
-use mathlib.Core.Option.{some, none, some-injective, some-ne-none}
+use mathlib.Core.Option.{some, some-injective, some-ne-none}
 use native.Mathlib.Decide.{ℕ_discrete}
 use mathlib.Core.Logic.{dite}
 use lib.ListN.{get_elem?, length-map, length-replicate}
 use Rattle.atomic_table.specs.Table.{State, Seen, Final, opening}
 use Rattle.atomic_table.proofs.Lists.{at_map}
 use Rattle.rs_pool.specs.declared.views.View.{View}
-use Rattle.rs_pool.specs.Rule.{Shows, Place, facts, first_view, total, amount_in}
-use Rattle.rs_pool.specs.Calls.{Standing, Collected, Begun}
+use Rattle.rs_pool.specs.Rule.{Shows, first_view, total, amount_in}
+use Rattle.rs_pool.specs.Calls.{AreSettled, AreCollected, AreSeated}
 use Rattle.rs_pool.proofs.Sums.{at_below, two_le, all_or_some}
 use Rattle.rs_pool.proofs.Known.{some_none}
 
@@ -66,7 +66,7 @@ now_empty fs gs i e near h k lt = ap (λ l. get_or l k false) e ∙ dite (ℕ_di
     (λ ne. get_or-set_other fs i k false false ne ∙ h k (omega arith))
 
 module _ {T : Type 0} (Fits : ℕ → T → Type 0) (Over : ℕ → T → Type 0) (n shares : ℕ) where
-  pub begins : (words : ℕ) (xs : List (Option T)) → n ≤ 16 → words ≡ n + 1 → ((t : T) → Over 0 t) → Begun Fits n xs → Shows Fits Over n shares (opening (replicate words 0) xs (first_view shares))
+  pub begins : (words : ℕ) (xs : List (Option T)) → n ≤ 16 → words ≡ n + 1 → ((t : T) → Over 0 t) → AreSeated Fits n xs → Shows Fits Over n shares (opening (replicate words 0) xs (first_view shares))
   begins words xs few w none' b = record {
     holder = λ _. None;
     counter = λ _. 0;
@@ -106,7 +106,7 @@ module _ {T : Type 0} (Fits : ℕ → T → Type 0) (Over : ℕ → T → Type 0
           (λ is. absurd (some_none r v.held (ap (λ (u : View). u.held) (some-injective v h.0 (sym at ∙ ap (get_elem? s.views) is ∙ h.1)) ∙ h.2) rests))
           (λ ne. let t = two_le {A = View} (λ d. d.shares) s.views id j v h.0 ne at h.1 in let w = sh.shared in absurd (omega arith))
 
-  pub closes : (id : ℕ) (v : View) (ws : List ℕ) (xs : List (Option T)) → v.held ≡ None → v.shares ≡ shares → n ≤ v.seen → Final (Seen (Shows Fits Over n shares) id v) ws xs → Standing Fits Over n xs
+  pub closes : (id : ℕ) (v : View) (ws : List ℕ) (xs : List (Option T)) → v.held ≡ None → v.shares ≡ shares → n ≤ v.seen → Final (Seen (Shows Fits Over n shares) id v) ws xs → AreSettled Fits Over n xs
   closes id v ws xs rests whole over f = let s = f.0 in let sh = f.1.0 in let at = f.1.1 in let same : length s.homes ≡ length xs = f.3 in
       let home = λ (r : ℕ) (l : r < n). (sh.places r l).home (all_home s sh id v at rests whole r l) in
       let there = λ (r : ℕ) (l : r < n). f.4 r (Some (home r l).0) (home r l).1 in
@@ -119,7 +119,7 @@ module _ {T : Type 0} (Fits : ℕ → T → Type 0) (Over : ℕ → T → Type 0
             (all_or_some sh.amount n (λ r l. (sh.places r l).amount_is) (omega arith));
       }
 
-  pub collected : (k : ℕ) (ts : List T) (xs : List (Option T)) → map Some ts ≡ take k xs → n ≤ k → Standing Fits Over n xs → Collected Fits Over n ts
+  pub collected : (k : ℕ) (ts : List T) (xs : List (Option T)) → map Some ts ≡ take k xs → n ≤ k → AreSettled Fits Over n xs → AreCollected Fits Over n ts
   collected k ts xs e le st = let c = st.count in let whole : map Some ts ≡ xs = e ∙ take_all k xs (omega arith) in
       let up = λ (r : ℕ) (t : T) (at : get_elem? ts r ≡ some t). sym (ap (λ l. get_elem? l r) whole) ∙ at_map Some ts r t at in
       let long : length ts ≡ n = sym (length-map ts Some) ∙ ap length whole ∙ c in

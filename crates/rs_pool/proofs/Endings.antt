@@ -1,18 +1,18 @@
 -- What the jobs that come back say of the run: its stages are all of one session, and what they did is a run of the actors.
-use Rattle.std.proofs.Common.{◌≡◌, ◌≢◌, ◌⊎◌, ℕ, zero, suc, ◌+◌, ◌<◌, ◌≤◌, List, [], ◌∷◌, length, map, get_or, slice_get, All, IfSome, Option, Some, None, refl, sym, ap, ◌∙◌, subst, inl, inr, ⊎_elim, arith}
+use Rattle.std.proofs.Common.{◌≡◌, ◌≢◌, ℕ, ◌<◌, List, length, map, get_or, slice_get, All, Some, refl, sym, ap, ◌∙◌, subst, arith}
 use Rattle.std.proofs.lemmas.Option.{get_or_from_slice_get, same_Some, slice_get_within}
 use lib.ListN.{length-map}
 use Rattle.rs_model.specs.Data.{Machine_data}
 use Rattle.rs_model.specs.declared.graph.Role.{Role}
-use Rattle.rs_model.specs.declared.machines.State.TheVariants.{Done, Puts, Takes}
-use Rattle.rs_core.specs.Actors.{Behaviour, Choice, ChoosesWell, Plays}
+use Rattle.rs_model.specs.declared.machines.State.TheVariants.{Done}
+use Rattle.rs_core.specs.Actors.{Behaviour, ChoosesWell, Plays}
 use Rattle.rs_core.specs.Choices.{AreWellFormed}
-use Rattle.rs_core.specs.Configurations.{Configuration, state_at, state_of}
-use Rattle.rs_core.specs.Determined.{IsRun, EndsWith, PlainIs, WasStopped}
+use Rattle.rs_core.specs.Configurations.{Configuration, state_of}
+use Rattle.rs_core.specs.Determined.{IsRun, EndsWith}
 use Rattle.rs_core.specs.Histories.{History, IsLegal, transcript_of, entry_of}
 use Rattle.rs_core.specs.Plain as plain
 use Rattle.rs_core.specs.Plain.{Ending, IsStoppedEventually}
-use Rattle.rs_core.specs.Runs.{HasActors, HasTranscripts, IsGiven, IsShown}
+use Rattle.rs_core.specs.Runs.{HasTranscripts, IsGiven, IsShown}
 use Rattle.rs_core.specs.Safety.{AllEnded, IsSafe}
 use Rattle.rs_core.specs.declared.runs.Outcome.{Outcome}
 use Rattle.rs_core.specs.declared.runs.Outcome.TheVariants as outcome
@@ -21,15 +21,14 @@ use Rattle.rs_core.proofs.Determined.{determined-ended, determined-stopped}
 use Rattle.rs_core.proofs.Ends.{get-there}
 use Rattle.rs_exec.proofs.PlayedOn.{plays_history}
 use Rattle.rs_exec.specs.Data.{Task_data}
-use Rattle.rs_exec.specs.Runs.{HavePlayed, IsOutcomeOf, IsSessionOfRun, IsStoppedAt}
+use Rattle.rs_exec.specs.Runs.{IsOutcomeOf, IsSessionOfRun}
 use Rattle.rs_exec.specs.Tasks.{HasEnded, PlaysTask}
-use Rattle.rs_rings.specs.Acts.{numbered}
 use Rattle.rs_rings.specs.Closed.{Closed_data, IsLeft, IsOver}
 use Rattle.rs_rings.specs.Passes.{Rings_data}
-use Rattle.rs_rings.specs.Views.{history_in, part_of, state_in}
+use Rattle.rs_rings.specs.Views.{history_in, part_of}
 use Rattle.rs_rings.specs.declared.views.Part.{Part}
 use Rattle.rs_session.specs.Data.{Stage_data}
-use Rattle.rs_session.specs.Ends.{AreAll, AreAllThere, AreOf, IsThere, KnowsFrom}
+use Rattle.rs_session.specs.Ends.{AreAll, AreAllThere, AreOf, KnowsFrom}
 use Rattle.rs_session.specs.Stages.{IsEnded, IsOf, shown}
 use Rattle.rs_session.specs.declared.stages.Stage.{Stage}
 use Rattle.rs_session.specs.declared.stages.Stage.TheVariants.{Sending, Receiving, Ended}

@@ -1,16 +1,16 @@
 -- What the views say: who holds which task, who counted which role, and what they know of the word of ends.
-use Rattle.std.proofs.Common.{◌≡◌, ◌≢◌, ◌⊎◌, ℕ, zero, suc, ◌+◌, ◌*◌, ◌<◌, ◌≤◌, eqb, if◌then◌else◌, ◌==◌, List, [], ◌∷◌, ◌++◌, length, sum_by, set, get_or, refl, sym, ap, ◌∙◌, subst, inl, inr, ⊎_elim, arith, length-set, eq-eqb, ne_eqb, Option, Some, None, max}
+use Rattle.std.proofs.Common.{◌≡◌, ◌≢◌, ℕ, ◌+◌, ◌<◌, ◌≤◌, if◌then◌else◌, ◌==◌, List, [], ◌∷◌, ◌++◌, sum_by, set, refl, sym, ap, ◌∙◌, subst, inl, inr, ⊎_elim, arith, eq-eqb, ne_eqb, Option, Some, None}
 use Rattle.std.proofs.lemmas.Bool.Decides.{eqb_tells}
 use Rattle.std.proofs.lemmas.List.Sums.{sum_by-cons, sum_by-append}
 use Rattle.std.proofs.Math.Nat.{max-le}
-use mathlib.Core.Option.{some, none, some-injective, some-ne-none}
+use mathlib.Core.Option.{some, some-injective}
 use native.Mathlib.Decide.{ℕ_discrete}
 use mathlib.Core.Logic.{dite}
 use lib.ListN.{get_elem?}
-use Rattle.atomic_table.proofs.Lists.{at_set, set_here, set_else, at_longer, at_last}
+use Rattle.atomic_table.proofs.Lists.{at_set, set_here, set_else, at_longer}
 use Rattle.rs_pool.specs.declared.views.Count.{Count}
 use Rattle.rs_pool.specs.declared.views.View.{View}
-use Rattle.rs_pool.specs.Rule.{Held, Counts, Ends, amount_in, counted_by, total, holding, freed, counting, seeing, joined, spent_view}
+use Rattle.rs_pool.specs.Rule.{Held, Counts, Ends, amount_in, counted_by, holding, freed, counting, joined, spent_view}
 use Rattle.rs_pool.proofs.Sums.{at_below, at_snoc_where, at_put, put_case, sum_set, total_put}
 
 pub some_same : {A : Type 0} (x y : A) → Some x ≡ Some y → x ≡ y

@@ -1,13 +1,10 @@
 -- What the progress of the jobs that come back says of the outcome.
-use Rattle.std.proofs.Common.{◌≡◌, ◌≢◌, ◌⊎◌, ℕ, zero, suc, ◌+◌, ◌<◌, ◌≤◌, Bool, true, false, true≢false, if◌then◌else◌, List, [], ◌∷◌, length, map, slice_get, All, Option, Some, None, refl, sym, ap, ◌∙◌, subst, inl, inr, ⊎_elim, arith}
+use Rattle.std.proofs.Common.{◌≡◌, ◌≢◌, ◌⊎◌, ℕ, zero, suc, ◌+◌, Bool, true, false, true≢false, if◌then◌else◌, List, [], ◌∷◌, slice_get, All, Some, None, refl, sym, ap, ◌∙◌, subst, inl, inr, ⊎_elim, arith}
 use Rattle.std.proofs.lemmas.Option.{same_Some}
-use mathlib.Core.Option.{some}
-use lib.ListN.{get_elem?}
 use Rattle.rs_core.specs.Actors.{Behaviour}
 use Rattle.rs_exec.specs.Tasks.{HasEnded}
-use Rattle.rs_session.specs.declared.stages.Stage.{Stage}
 use Rattle.rs_pool.proofs.Lists.{elem_of, of_elem, map_back, all_from}
-use Rattle.rs_pool.specs.Calls.{Collected}
+use Rattle.rs_pool.specs.Calls.{AreCollected}
 use Rattle.rs_pool.specs.Jobs.{Start, Fits, Over, Stands, first_with, is_same, stages_of}
 use Rattle.rs_pool.specs.declared.jobs.Job.{Job}
 use Rattle.rs_pool.specs.declared.jobs.Progress.{Progress}
@@ -66,7 +63,7 @@ module _ {A : Type 0} (p : Progress) where
   pub none_at : (jobs : List (Job A)) → first_with p 0 jobs ≡ None → (r : ℕ) (job : Job A) → slice_get jobs r ≡ Some job → job.progress ≢ p
   none_at = none_from 0
 
-module _ {A : Type 0} (b : Behaviour A) (start : Start A) (n : ℕ) (jobs : List (Job A)) (c : Collected (Fits b start) Over n jobs) where
+module _ {A : Type 0} (b : Behaviour A) (start : Start A) (n : ℕ) (jobs : List (Job A)) (c : AreCollected (Fits b start) Over n jobs) where
   pub fits_at : (r : ℕ) (job : Job A) → slice_get jobs r ≡ Some job → Fits b start r job
   fits_at r job at = c.tasks r job (elem_of jobs r job at)
 

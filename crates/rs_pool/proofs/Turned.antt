@@ -1,5 +1,5 @@
 -- What a turn leaves of a job.
-use Rattle.std.proofs.Common.{◌≡◌, ◌≢◌, ◌⊎◌, ℕ, zero, suc, ◌+◌, ◌<◌, ◌≤◌, Bool, true, false, true≢false, List, slice_get, length, [], ◌∷◌, ◌++◌, IfSome, Option, Some, None, refl, sym, ap, ◌∙◌, subst, inl, inr, ⊎_elim, arith}
+use Rattle.std.proofs.Common.{◌≡◌, ◌≢◌, ℕ, ◌+◌, ◌<◌, ◌≤◌, true, false, true≢false, List, slice_get, length, [], ◌∷◌, ◌++◌, IfSome, Option, Some, None, refl, sym, ap, ◌∙◌, subst, inl, inr, ⊎_elim, arith}
 use Rattle.std.proofs.Common.{length-append}
 use Rattle.rs_core.specs.Actors.{Behaviour}
 use Rattle.rs_core.specs.declared.transcripts.Entry.{Entry}
@@ -10,12 +10,9 @@ use Rattle.rs_exec.specs.declared.tasks.Turn.{Turn}
 use Rattle.rs_exec.specs.declared.tasks.Turn.TheVariants as turn
 use Rattle.rs_exec.specs.declared.tasks.Why.TheVariants as why
 use Rattle.rs_exec.proofs.PlayedOn.{plays_on}
-use Rattle.rs_rings.specs.Acts.{numbered}
-use Rattle.rs_rings.specs.Passes.{Rings_data}
 use Rattle.rs_session.specs.Data.{Stage_data}
 use Rattle.rs_session.specs.Stages.{shown}
 use Rattle.rs_session.specs.declared.stages.Stage.{Stage}
-use Rattle.rs_session.specs.declared.stages.Stage.TheVariants.{Sending, Receiving}
 use Rattle.rs_pool.specs.declared.jobs.Job.{Job}
 use Rattle.rs_pool.specs.declared.jobs.Progress.{Progress}
 use Rattle.rs_pool.specs.declared.jobs.Progress.TheVariants.{Underway, Ended, AtLimit, Refused}

@@ -1,5 +1,5 @@
 -- Steps: what the calls on the bench say.
-use Rattle.std.specs.Prelude.{◌≡◌, ◌≢◌, ◌⊎◌, ℕ, ◌+◌, ◌<◌, ◌≤◌, Bool, true, false, List, [], ◌∷◌, length, Option, Some, None}
+use Rattle.std.specs.Prelude.{◌≡◌, ◌⊎◌, ℕ, ◌<◌, ◌≤◌, Bool, true, false, List, [], ◌∷◌, length, Option, Some, None}
 use mathlib.Core.Option.{some}
 use lib.ListN.{get_elem?}
 use Rattle.atomic_table.specs.Table.{Me}
@@ -23,26 +23,26 @@ abbrev pub Rests : {T : Type 0} → ℕ → Me (Option T) View → Type 0
 Rests shares m = (m.0.held ≡ None) × (m.1 ≡ []) × (m.0.shares ≡ shares)
 
 -- what the slots hold in the end: each role's job, and all have ended or one has stopped
-pub record Standing {T : Type 0} (Fits : ℕ → T → Type 0) (Over : ℕ → T → Type 0) (n : ℕ) (xs : List (Option T)) : Type 0 where
+pub record AreSettled {T : Type 0} (Fits : ℕ → T → Type 0) (Over : ℕ → T → Type 0) (n : ℕ) (xs : List (Option T)) : Type 0 where
   pub count : length xs ≡ n
   pub tasks : (r : ℕ) → r < n → (t : T) × (get_elem? xs r ≡ some (Some t)) × Fits r t
   pub over : ((r : ℕ) (t : T) → r < n → get_elem? xs r ≡ some (Some t) → Over 1 t) ⊎ ((r : ℕ) × (t : T) × (r < n) × (get_elem? xs r ≡ some (Some t)) × Over 16 t)
 
 -- the jobs that were taken out, each once, in role order
-pub record Collected {T : Type 0} (Fits : ℕ → T → Type 0) (Over : ℕ → T → Type 0) (n : ℕ) (ts : List T) : Type 0 where
+pub record AreCollected {T : Type 0} (Fits : ℕ → T → Type 0) (Over : ℕ → T → Type 0) (n : ℕ) (ts : List T) : Type 0 where
   pub count : length ts ≡ n
   pub tasks : (r : ℕ) (t : T) → get_elem? ts r ≡ some t → Fits r t
   pub over : ((r : ℕ) (t : T) → get_elem? ts r ≡ some t → Over 1 t) ⊎ ((r : ℕ) × (t : T) × (get_elem? ts r ≡ some t) × Over 16 t)
 
 -- what the slots hold at the start
-pub record Begun {T : Type 0} (Fits : ℕ → T → Type 0) (n : ℕ) (xs : List (Option T)) : Type 0 where
+pub record AreSeated {T : Type 0} (Fits : ℕ → T → Type 0) (n : ℕ) (xs : List (Option T)) : Type 0 where
   pub count : length xs ≡ n
   pub tasks : (r : ℕ) → r < n → (t : T) × (get_elem? xs r ≡ some (Some t)) × Fits r t
 
 -- a worker's seat before its work
-abbrev pub Ready : {A : Type 0} → TableId → Chair A → Type 0
-Ready table c = (c.desk.table_id ≡ table) × Rests 1 c.desk.me
+abbrev pub IsSeated : {A : Type 0} → TableId → Chair A → Type 0
+IsSeated table c = (c.desk.table_id ≡ table) × Rests 1 c.desk.me
 
 -- .. and after it: it has read that as much was counted as there are roles
-abbrev pub Left : {A : Type 0} → TableId → ℕ → Chair A → Type 0
-Left table n c = (c.desk.table_id ≡ table) × Rests 1 c.desk.me × (n ≤ c.desk.me.0.seen)
+abbrev pub HasFinished : {A : Type 0} → TableId → ℕ → Chair A → Type 0
+HasFinished table n c = (c.desk.table_id ≡ table) × Rests 1 c.desk.me × (n ≤ c.desk.me.0.seen)

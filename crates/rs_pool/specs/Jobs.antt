@@ -1,5 +1,5 @@
 -- Steps: jobs, what a job on the bench is known to be, and what is counted for it.
-use Rattle.std.specs.Prelude.{◌≡◌, ◌⊎◌, ℕ, zero, suc, ◌+◌, ◌≤◌, ◌==◌, Bool, true, false, if◌then◌else◌, List, [], ◌∷◌, length, map, slice_get, IfSome, Option, Some, None}
+use Rattle.std.specs.Prelude.{◌≡◌, ◌⊎◌, ℕ, zero, suc, ◌+◌, ◌≤◌, Bool, true, false, if◌then◌else◌, List, [], ◌∷◌, length, map, slice_get, IfSome, Option, Some, None}
 use Rattle.rs_core.specs.Actors.{Behaviour}
 use Rattle.rs_core.specs.Histories.{transcript_of}
 use Rattle.rs_core.specs.declared.transcripts.Entry.{Entry}

@@ -1,5 +1,5 @@
 -- Steps: what each kind of step on the bench tells.
-use Rattle.std.specs.Prelude.{◌≡◌, ◌≢◌, ℕ, ◌≤◌, List, [], ◌∷◌, Option, Some, None}
+use Rattle.std.specs.Prelude.{◌≡◌, ◌≢◌, ℕ, ◌≤◌, ◌∷◌, Option, Some}
 use Rattle.atomic_table.specs.Table.{Step, Me, rest}
 use Rattle.rs_pool.specs.declared.views.View.{View}
 use Rattle.rs_pool.specs.Rule.{amount_in, holding, freed, counting, seeing}

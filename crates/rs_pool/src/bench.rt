@@ -1,6 +1,6 @@
 // The bench: a table with a word and a slot for each role, and one word more, the word of ends.
 ghost use Rattle.std.specs.Prelude.{◌≡◌, ◌⊎◌, ◌+◌, ◌<◌, ◌≤◌, [], ◌∷◌, true, false, Some, None, IfOk, IfErr, map, replicate, vec_len, vec_capacity};
-ghost use Rattle.rs_pool.specs.Calls.{Begun, Collected, HasClaimed, HasRead, Rests};
+ghost use Rattle.rs_pool.specs.Calls.{AreSeated, AreCollected, HasClaimed, HasRead, Rests};
 ghost use Rattle.rs_pool.specs.Jobs.{Fits, Over};
 ghost use Rattle.rs_pool.specs.Rule.{IsAmount, alone, amount_in, counting, first_view, freed, joined, kept};
 
@@ -44,7 +44,7 @@ impl<A: Actor, N: StartName<A>> Bench<A, N> {
     ) -> Result<(Bench<A, N>, Desk<A>), Vec<Option<Job<A>>>>
         requires few { vec_len slots ≤ 16 }
         requires words { words.now ≡ replicate (vec_len slots + 1) 0 }
-        requires begun { Begun (Fits A.behaviour N.start) (vec_len slots) slots.items }
+        requires begun { AreSeated (Fits A.behaviour N.start) (vec_len slots) slots.items }
         ensures table { IfOk result (λ t. t.1.table_id ≡ t.0.board.shared.table_id) }
         ensures first { IfOk result (λ t. t.1.me ≡ (first_view (workers + 1), [])) }
         ensures key { IfOk result (λ t. (t.0.roles ≡ vec_len slots) × (t.0.board.shared.key.shares ≡ workers + 1)) }
@@ -173,7 +173,7 @@ impl<A: Actor, N: StartName<A>> Bench<A, N> {
         requires main { Rests self.board.shared.key.shares main.me }
         requires over { self.roles ≤ main.me.0.seen }
         requires room { (jobs.items ≡ []) × (self.roles ≤ vec_capacity jobs) }
-        ensures collected { Collected (Fits A.behaviour N.start) Over self.roles result.items }
+        ensures collected { AreCollected (Fits A.behaviour N.start) Over self.roles result.items }
     {
         let Bench { board, roles: _ } = self;
         let mut closed = board.close_with(main);

@@ -1,6 +1,6 @@
 // The workers at the bench.
 ghost use Rattle.std.specs.Prelude.{◌≡◌, ◌+◌, ◌<◌, ◌≤◌, [], All, vec_len, vec_capacity};
-ghost use Rattle.rs_pool.specs.Calls.{Left, Ready, Rests};
+ghost use Rattle.rs_pool.specs.Calls.{HasFinished, IsSeated, Rests};
 
 use crate::bench::{Bench, Desk};
 use crate::gates::Gate;
@@ -121,7 +121,7 @@ impl<A: Actor, N: StartName<A>> Bench<A, N> {
         ensures table { main.new.table_id ≡ main.old.table_id }
         ensures main { Rests 1 main.new.me }
         ensures count { vec_len result ≡ workers }
-        ensures ready { All (Ready self.now.board.shared.table_id) result.items }
+        ensures ready { All (IsSeated self.now.board.shared.table_id) result.items }
     {
         for worker in 0..workers {
             let desk = self.split(main);
@@ -135,7 +135,7 @@ impl<A: Actor, N: StartName<A>> Bench<A, N> {
         requires table { main.old.table_id ≡ self.now.board.shared.table_id }
         requires main { Rests 1 main.old.me }
         requires some { 0 < vec_len chairs }
-        requires left { All (Left self.now.board.shared.table_id self.now.roles) chairs.items }
+        requires left { All (HasFinished self.now.board.shared.table_id self.now.roles) chairs.items }
         ensures table { main.new.table_id ≡ main.old.table_id }
         ensures main { Rests (vec_len chairs + 1) main.new.me }
         ensures over { self.now.roles ≤ main.new.me.0.seen }
@@ -164,17 +164,17 @@ pub(crate) fn run_all<
 ) -> Vec<Chair<A>>
     requires session { session.now ≡ N.start.session }
     requires workers { 0 < workers }
-    requires ready { All (Ready bench.now.board.shared.table_id) chairs.items }
+    requires ready { All (IsSeated bench.now.board.shared.table_id) chairs.items }
     ensures count { vec_len result ≡ vec_len chairs }
-    ensures left { All (Left bench.now.board.shared.table_id bench.now.roles) result.items }
+    ensures left { All (HasFinished bench.now.board.shared.table_id bench.now.roles) result.items }
 {
     thread::for_each_mut(
         rt,
         chairs.as_mut_slice(),
         workers as usize,
         &|_: usize, chair: &mut Chair<A>|
-            requires { (session.now ≡ N.start.session) × Ready bench.now.board.shared.table_id chair.now }
-            ensures { Left bench.entry.now.board.shared.table_id bench.entry.now.roles chair.exit.now }
+            requires { (session.now ≡ N.start.session) × IsSeated bench.now.board.shared.table_id chair.now }
+            ensures { HasFinished bench.entry.now.board.shared.table_id bench.entry.now.roles chair.exit.now }
         { bench.work(rt, session, gate, alloc, chair.worker, &mut chair.desk) },
     );
     chairs

@@ -1,8 +1,7 @@
-use Rattle.std.proofs.Common.{◌≡◌, ◌∙◌, All, List, None, Some, length, map, ap, sym, subst}
+use Rattle.std.proofs.Common.{◌∙◌, All, List, length, map, ap, sym, subst}
 use Rattle.rs_core.specs.declared.runs.Outcome.TheVariants as outcome
 use Rattle.rs_exec.specs.Runs.{IsSessionOfRun}
 use Rattle.rs_exec.specs.Tasks.{HasEnded}
-use Rattle.rs_rings.specs.Closed.{Closed_data}
 use Rattle.rs_rings.specs.Passes.{Rings_data}
 use Rattle.rs_session.specs.Data.{Stage_data}
 use Rattle.rs_session.specs.Ends.{AreAll, AreAllThere, AreOf, KnowsFrom}
@@ -10,7 +9,6 @@ use Rattle.rs_session.specs.Stages.{IsEnded, shown}
 use Rattle.rs_session.specs.declared.stages.Stage.{Stage}
 use Rattle.rs_core.specs.declared.transcripts.Entry.{Entry}
 use Rattle.rs_pool.specs.Jobs.{actors_of, first_with, stages_of}
-use Rattle.rs_pool.specs.declared.jobs.Job.{Job}
 use Rattle.rs_pool.specs.declared.jobs.Progress.TheVariants as progress
 use Rattle.rs_pool.proofs.Endings.{all_there, are_all_ended, are_of, session_ended, session_stopped}
 use Rattle.rs_pool.proofs.Looks.{all_ended, first_at, fits_at, none_at}

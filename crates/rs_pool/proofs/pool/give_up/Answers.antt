@@ -1,4 +1,4 @@
-use Rattle.std.proofs.Common.{◌≡◌, ◌∙◌, ◌++◌, List, length, map, reverse, ap, sym, subst}
+use Rattle.std.proofs.Common.{◌∙◌, ◌++◌, List, length, map, reverse, ap, sym, subst}
 use Rattle.rs_rings.specs.Passes.{Rings_data}
 use Rattle.rs_session.specs.Ends.{AreAllThere, AreOf}
 use Rattle.rs_session.specs.Stages.{shown}

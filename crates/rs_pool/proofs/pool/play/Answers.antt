@@ -1,4 +1,4 @@
-use Rattle.std.proofs.Common.{rules, ◌≡◌, ◌∙◌, All, List, ℕ, length, map, refl, ap, sym, subst}
+use Rattle.std.proofs.Common.{All, List, ℕ, length, map, sym, subst}
 use Rattle.rs_session.specs.Ends.{AreAllThere, AreOf}
 use Rattle.rs_session.specs.Stages.{shown}
 use Rattle.rs_session.specs.declared.stages.Stage.{Stage}

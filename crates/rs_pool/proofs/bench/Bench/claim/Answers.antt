@@ -1,4 +1,4 @@
-use Rattle.std.proofs.Common.{rules, ◌≡◌, ◌≢◌, ◌⊎◌, ℕ, ◌+◌, ◌<◌, ◌≤◌, List, [], ◌∷◌, true, false, Some, None, refl, sym, ap, ◌∙◌, subst, arith}
+use Rattle.std.proofs.Common.{rules, ℕ, ◌<◌, ◌∷◌, Some, sym, ap, ◌∙◌, subst}
 use Rattle.rs_pool.specs.Jobs.{Fits, Over}
 use Rattle.atomic_table.specs.Table.{rest}
 use Rattle.rs_pool.proofs.Acts.{claims}

@@ -2,12 +2,12 @@ use Rattle.std.proofs.Common.{◌≡◌, ℕ, ◌-◌, ◌<◌, ◌≤◌, false
 use Rattle.std.specs.Mem.Slots.{slots_filled, slots_len, slots_items}
 use Rattle.std.specs.Mem.Slots.Ownership.{Filled}
 use Rattle.rs_pool.specs.Jobs.{Fits, Over}
-use Rattle.rs_pool.specs.Calls.{Standing}
+use Rattle.rs_pool.specs.Calls.{AreSettled}
 use Rattle.rs_pool.proofs.bench.Bench.collect.Given as goal
 
 abbrev pub invariant-loop-i : goal.invariant-loop-i
 invariant-loop-i g l = Filled (slots_filled l.closed.slots) l.i (slots_len l.closed.slots) × ((k : ℕ) → k < l.i → get_or (slots_filled l.closed.slots) k false ≡ false)
-    × Standing (Fits g.A.Actor.behaviour g.N.StartName.start) Over l.fn.self.roles (slots_items l.closed.slots) × (slots_len l.closed.slots ≡ l.fn.self.roles)
+    × AreSettled (Fits g.A.Actor.behaviour g.N.StartName.start) Over l.fn.self.roles (slots_items l.closed.slots) × (slots_len l.closed.slots ≡ l.fn.self.roles)
     × (map Some l.jobs.items ≡ take l.i (slots_items l.closed.slots)) × (vec_len l.jobs ≡ l.i) × (l.fn.self.roles ≤ vec_capacity l.jobs)
 
 abbrev pub decreases-loop-i : goal.decreases-loop-i

@@ -1,4 +1,4 @@
-use Rattle.std.proofs.Common.{rules, ◌≡◌, ◌≢◌, ◌⊎◌, ℕ, ◌+◌, ◌<◌, ◌≤◌, List, [], ◌∷◌, true, false, Some, None, refl, sym, ap, ◌∙◌, subst, arith}
+use Rattle.std.proofs.Common.{rules}
 use Rattle.rs_pool.specs.Jobs.{Fits, Over}
 use Rattle.rs_pool.proofs.Acts.{counts_end_at}
 use Rattle.rs_pool.proofs.bench.Bench.count_end.Goals as goal

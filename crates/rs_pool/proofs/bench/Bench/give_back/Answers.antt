@@ -1,4 +1,4 @@
-use Rattle.std.proofs.Common.{rules, ◌≡◌, ℕ, List, [], ◌∷◌, Some, None, sym, ap, ◌∙◌, subst}
+use Rattle.std.proofs.Common.{rules, ◌≡◌, [], ◌∷◌, Some, None, sym, ap, ◌∙◌, subst}
 use Rattle.atomic_table.specs.Table.{rest}
 use Rattle.rs_pool.specs.Rule.{amount_in, word_of}
 use Rattle.rs_pool.specs.Jobs.{Fits, Over}

@@ -2,7 +2,7 @@ use Rattle.std.proofs.Common.{rules, ◌≡◌, ℕ, ◌+◌, ◌≤◌, List, r
 use Rattle.atomic_table.specs.Table.{opening}
 use Rattle.rs_pool.specs.Rule.{Shows, first_view}
 use Rattle.rs_pool.specs.Jobs.{Fits, Over}
-use Rattle.rs_pool.specs.Calls.{Begun}
+use Rattle.rs_pool.specs.Calls.{AreSeated}
 use Rattle.rs_pool.proofs.Bounds.{begins}
 use Rattle.rs_pool.proofs.bench.Bench.open.Goals as goal
 
@@ -11,4 +11,4 @@ new-requires g c = let n : ℕ = c.len-roles.result in let shares : ℕ = c.args
     let e : c.args.words.now ≡ replicate (n + 1) 0 = c.requires.words ∙ (λ i. replicate (sym is i + 1) 0) in
     subst (λ (ws : List ℕ). Shows (Fits g.A.Actor.behaviour g.N.StartName.start) Over n shares (opening ws c.args.slots.items (first_view shares))) (sym e)
     (begins (Fits g.A.Actor.behaviour g.N.StartName.start) Over n shares (n + 1) c.args.slots.items (subst (λ (k : ℕ). k ≤ 16) (sym is) c.requires.few) refl (λ t. tt)
-    (subst (λ (k : ℕ). Begun (Fits g.A.Actor.behaviour g.N.StartName.start) k c.args.slots.items) (sym is) c.requires.begun))
+    (subst (λ (k : ℕ). AreSeated (Fits g.A.Actor.behaviour g.N.StartName.start) k c.args.slots.items) (sym is) c.requires.begun))
