@@ -1,63 +1,95 @@
 -- Fronts by their buckets.
-use Rattle.std.proofs.Common.{◌≡◌, ◌⊎◌, inl, inr, ℕ, zero, suc, ◌+◌, ◌<◌, List, [], ◌∷◌, ◌++◌, length, take, Option, Some, None, MatchOption, slice_get, get_or, set, refl, sym, ap, ◌∙◌, subst, arith}
-use Rattle.std.proofs.lemmas.List.{get_or-set_same, get_or-set_other, length-set}
+use Rattle.std.proofs.Common.{◌≡◌, ◌⊎◌, inl, inr, ℕ, zero, suc, ◌+◌, ◌<◌, ◌≤◌, List, [], ◌∷◌, ◌++◌, length, length-append, Option, Some, None, MatchOption, slice_get, get_or, set, replicate, refl, sym, ap, ◌∙◌, subst, arith}
+use Rattle.std.proofs.lemmas.List.{get_or-set_same, get_or-set_other, length-set, length-replicate}
 use Rattle.std.proofs.lemmas.Bool.Decides.{eqb_tells}
+use Rattle.std.proofs.lemmas.Option.{none-some, same_Some}
 use Rattle.rs_project.specs.Data.{Front_data}
-use Rattle.rs_project.specs.Filing.{AreFiled, bucket_on}
-use Rattle.rs_project.specs.Marks.{Among}
+use Rattle.rs_project.specs.Filing.{AreFiled, IsChained, First, Later, bucket_on}
 use Rattle.rs_project.specs.Working.{IsNew}
-use Rattle.rs_project.proofs.Lists.{among-left, among-right}
-use Rattle.rs_project.proofs.Numbers.{at-push}
 
-take-more : (xs : List ℕ) (i x n : ℕ) → slice_get xs i ≡ Some x → Among (take (suc i) xs) n → Among (take i xs) n ⊎ (x ≡ n)
-take-more [] i x n e m = absurd (cc (e))
-take-more (y ∷ ys) zero x n e (inl q) = inr (cc (e, q))
-take-more (y ∷ ys) zero x n e (inr m) = absurd m
-take-more (y ∷ ys) (suc i) x n e (inl q) = inl (inl q)
-take-more (y ∷ ys) (suc i) x n e (inr m) = elim (take-more ys i x n e m) [ inl a ↦ inl (inr a) | inr q ↦ inr q ]
+kept-at : {X : Type 0} (xs : List X) (y : X) (i : ℕ) (x : X) → slice_get xs i ≡ Some x → slice_get (xs ++ (y ∷ [])) i ≡ Some x
+kept-at [] y i x e = absurd (none-some x e)
+kept-at (z ∷ xs) y zero x e = e
+kept-at (z ∷ xs) y (suc i) x e = kept-at xs y i x e
 
-pub looked-on : (fs : List Front_data) (f : Front_data) (xs : List ℕ) (i x : ℕ) → slice_get xs i ≡ Some x → (slice_get fs x ≡ Some f → ⊥)
-    → ((n : ℕ) → Among (take i xs) n → slice_get fs n ≡ Some f → ⊥) → (n : ℕ) → Among (take (i + 1) xs) n → slice_get fs n ≡ Some f → ⊥
-looked-on fs f xs i x at not before n m e = elim (take-more xs i x n at (let S : ℕ → Type 0 = λ z. Among (take z xs) n in let one : i + 1 ≡ suc i = omega arith in subst S one m)) [
-  | inl a ↦ before n a e
-  | inr q ↦ (let P : ℕ → Type 0 = λ z. slice_get fs z ≡ Some f in not (subst P (sym q) e))
-]
+new-at : {X : Type 0} (xs : List X) (y : X) → slice_get (xs ++ (y ∷ [])) (length xs) ≡ Some y
+new-at [] y = refl
+new-at (z ∷ xs) y = new-at xs y
 
-pub looked-all : (fs : List Front_data) (buckets : List (List ℕ)) (f : Front_data) (row : List ℕ) (o : Option ℕ) → AreFiled fs buckets → row ≡ get_or buckets (bucket_on 0 f.talks) []
-    → MatchOption o ((n : ℕ) → Among row n → slice_get fs n ≡ Some f → ⊥) (λ n. slice_get fs n ≡ Some f) → MatchOption o (IsNew fs f) (λ n. slice_get fs n ≡ Some f)
-looked-all fs buckets f row (Some n) filed is found = found
-looked-all fs buckets f row None filed is none = λ k e. (let P : List ℕ → Type 0 = λ z. Among z k in none k (subst P (sym is) (filed.filed k f e)) e)
+either-at : {X : Type 0} (xs : List X) (y : X) (i : ℕ) (x : X) → slice_get (xs ++ (y ∷ [])) i ≡ Some x → (slice_get xs i ≡ Some x) ⊎ ((i ≡ length xs) × (y ≡ x))
+either-at [] y zero x e = inr (refl, same_Some y x e)
+either-at [] y (suc i) x e = absurd (none-some x e)
+either-at (z ∷ xs) y zero x e = inl e
+either-at (z ∷ xs) y (suc i) x e = elim (either-at xs y i x e) [ inl a ↦ inl a | inr a ↦ inr (ap suc a.0, a.1) ]
 
--- a bucket to which a number was added
-filed-kept : (buckets : List (List ℕ)) (b m c n : ℕ) → b < length buckets → Among (get_or buckets c []) n → Among (get_or (set buckets b (get_or buckets b [] ++ (m ∷ []))) c []) n
-filed-kept buckets b m c n inside h = elim (eqb_tells c b) [
-  | inl p ↦ (let same = get_or-set_same buckets b (get_or buckets b [] ++ (m ∷ [])) [] inside in
-      let P : List ℕ → Type 0 = λ z. Among z n in
-      let Q : ℕ → Type 0 = λ z. Among (get_or buckets z []) n in
-      let R : ℕ → Type 0 = λ z. Among (get_or (set buckets b (get_or buckets b [] ++ (m ∷ []))) z []) n in
-      subst R (sym p.1) (subst P (sym same) (among-left (get_or buckets b []) (m ∷ []) n (subst Q p.1 h))))
-  | inr p ↦ (let other = get_or-set_other buckets b c (get_or buckets b [] ++ (m ∷ [])) [] p.1 in
-      let P : List ℕ → Type 0 = λ z. Among z n in
-      subst P (sym other) h)
-]
+-- a chain stays where links are added
+grown : (links : List ℕ) (y k n : ℕ) → IsChained links k n → IsChained (links ++ (y ∷ [])) k n
+grown links y _ n (First _) = First n
+grown links y _ n (Later m next _ e c) = Later m next n (kept-at links y m next e) (grown links y next n c)
 
-pub filed-more : (fs : List Front_data) (buckets : List (List ℕ)) (b m : ℕ) → b < 251 → AreFiled fs buckets → AreFiled fs (set buckets b (get_or buckets b [] ++ (m ∷ [])))
-filed-more fs buckets b m lt filed = (let size = filed.size in record {
-  size = length-set buckets b (get_or buckets b [] ++ (m ∷ [])) ∙ filed.size;
-  filed = λ n f at. filed-kept buckets b m (bucket_on 0 f.talks) n (omega (arith, lt, size)) (filed.filed n f at);
-})
+-- what stands in a chain behind a number that isn't it
+pub chained-on : (links : List ℕ) (m next n : ℕ) → IsChained links (suc m) n → slice_get links m ≡ Some next → (n ≡ m → ⊥) → IsChained links next n
+chained-on links m next n c e ne = go (suc m) c refl
+  where
+    go : (k : ℕ) → IsChained links k n → k ≡ suc m → IsChained links next n
+    go _ (First _) q = absurd (ne (let z : n ≡ m = omega arith in z))
+    go _ (Later l other _ f d) q =
+        let p : l ≡ m = omega arith in
+        let s : other ≡ next = same_Some other next (sym f ∙ ap (λ (z : ℕ). slice_get links z) p ∙ e) in
+        subst (λ (z : ℕ). IsChained links z n) s d
 
-pub filed-on : (fs : List Front_data) (buckets : List (List ℕ)) (b : ℕ) (f : Front_data) → b ≡ bucket_on 0 f.talks → b < 251 → AreFiled fs buckets
-    → AreFiled (fs ++ (f ∷ [])) (set buckets b (get_or buckets b [] ++ (length fs ∷ [])))
-filed-on fs buckets b f is lt filed = (let size = filed.size in let inside : b < length buckets = omega (arith, lt, size) in record {
-  size = length-set buckets b (get_or buckets b [] ++ (length fs ∷ [])) ∙ filed.size;
-  filed = λ n g at. elim (at-push fs f n g at) [
-    | inl old ↦ filed-kept buckets b (length fs) (bucket_on 0 g.talks) n inside (filed.filed n g old)
-    | inr new ↦ (let P : List ℕ → Type 0 = λ z. Among z (length fs) in
-        let here = subst P (sym (get_or-set_same buckets b (get_or buckets b [] ++ (length fs ∷ [])) [] inside)) (among-right (get_or buckets b []) (length fs ∷ []) (length fs) (inl refl)) in
-        let Q : ℕ → Type 0 = λ z. Among (get_or (set buckets b (get_or buckets b [] ++ (length fs ∷ []))) z []) (length fs) in
-        let there = subst Q (is ∙ ap (λ (z : Front_data). bucket_on 0 z.talks) new.1) here in
-        let R : ℕ → Type 0 = λ z. Among (get_or (set buckets b (get_or buckets b [] ++ (length fs ∷ []))) (bucket_on 0 g.talks) []) z in
-        subst R (sym new.0) there)
-  ];
-})
+pub unchained : (links : List ℕ) (k n : ℕ) → k ≡ 0 → IsChained links k n → ⊥
+unchained links _ n q (First _) = let bad : ⊥ = omega arith in bad
+unchained links _ n q (Later m next _ e c) = let bad : ⊥ = omega arith in bad
+
+zero-at : (k n : ℕ) → get_or (replicate {A = ℕ} k 0) n 0 ≡ 0
+zero-at zero zero = refl
+zero-at zero (suc n) = refl
+zero-at (suc k) zero = refl
+zero-at (suc k) (suc n) = zero-at k n
+
+pub none-filed : (fs : List Front_data) (heads links : List ℕ) → fs ≡ [] → heads ≡ replicate 251 0 → links ≡ [] → AreFiled fs heads links
+none-filed fs heads links ef eh el = rw (ef, eh, el) record {
+  buckets = length-replicate {A = ℕ} 251 0;
+  size = refl;
+  within = λ b. (let z = zero-at 251 b in omega arith);
+  falls = λ m next e. absurd (none-some next e);
+  filed = λ n f e. absurd (none-some f e);
+}
+
+pub filed-on : (fs fs' : List Front_data) (heads links heads' links' : List ℕ) (f : Front_data) (b head n : ℕ) → b ≡ bucket_on 0 f.talks → b < 251 → n ≡ length fs → head ≡ get_or heads b 0
+    → fs' ≡ fs ++ (f ∷ []) → links' ≡ links ++ (head ∷ []) → heads' ≡ set heads b (n + 1) → AreFiled fs heads links → AreFiled fs' heads' links'
+filed-on fs fs' heads links heads' links' f b head n eb lt en eh ef el es a =
+    let l = length-append fs (f ∷ []) in let s = a.size in let c251 = a.buckets in
+    let within : b < length heads = omega arith in
+    let top : n + 1 ≡ suc (length fs) = omega arith in
+    let here : get_or (set heads b (n + 1)) b 0 ≡ suc (length fs) = get_or-set_same heads b (n + 1) 0 within ∙ top in
+    rw (ef, el, es) record {
+      buckets = length-set heads b (n + 1) ∙ a.buckets;
+      size = (let k = length-append links (head ∷ []) in omega arith);
+      within = λ c. elim (eqb_tells c b) [
+        | inl q ↦ (let e : get_or (set heads b (n + 1)) c 0 ≡ suc (length fs) = ap (λ (z : ℕ). get_or (set heads b (n + 1)) z 0) q.1 ∙ here in omega arith)
+        | inr q ↦ (let e = get_or-set_other heads b c (n + 1) 0 q.1 in let w = a.within c in omega arith)
+      ];
+      falls = λ m next e. elim (either-at links head m next e) [
+        | inl old ↦ a.falls m next old
+        | inr new ↦ (let w = a.within b in let q = new.0 in let r = new.1 in omega arith)
+      ];
+      filed = λ m x e. elim (either-at fs f m x e) [
+        | inl old ↦ (let c = grown links head (get_or heads (bucket_on 0 x.talks) 0) m (a.filed m x old) in elim (eqb_tells (bucket_on 0 x.talks) b) [
+          | inl q ↦ (let h : get_or (set heads b (n + 1)) (bucket_on 0 x.talks) 0 ≡ suc (length fs) = ap (λ (z : ℕ). get_or (set heads b (n + 1)) z 0) q.1 ∙ here in
+              let g : slice_get (links ++ (head ∷ [])) (length fs) ≡ Some head = subst (λ (z : ℕ). slice_get (links ++ (head ∷ [])) z ≡ Some head) s (new-at links head) in
+              let d : IsChained (links ++ (head ∷ [])) head m = subst (λ (z : ℕ). IsChained (links ++ (head ∷ [])) z m) (ap (λ (z : ℕ). get_or heads z 0) q.1 ∙ sym eh) c in
+              subst (λ (z : ℕ). IsChained (links ++ (head ∷ [])) z m) (sym h) (Later (length fs) head m g d))
+          | inr q ↦ subst (λ (z : ℕ). IsChained (links ++ (head ∷ [])) z m) (sym (get_or-set_other heads b (bucket_on 0 x.talks) (n + 1) 0 q.1)) c
+        ])
+        | inr new ↦ (let q : b ≡ bucket_on 0 x.talks = eb ∙ ap (λ (z : Front_data). bucket_on 0 z.talks) new.1 in
+            let h : get_or (set heads b (n + 1)) (bucket_on 0 x.talks) 0 ≡ suc m = ap (λ (z : ℕ). get_or (set heads b (n + 1)) z 0) (sym q) ∙ here ∙ ap suc (sym new.0) in
+            subst (λ (z : ℕ). IsChained (links ++ (head ∷ [])) z m) (sym h) (First m))
+      ];
+    }
+
+pub looked-all : (fs : List Front_data) (heads links : List ℕ) (f : Front_data) (head : ℕ) (o : Option ℕ) → AreFiled fs heads links → head ≡ get_or heads (bucket_on 0 f.talks) 0
+    → MatchOption o ((n : ℕ) → IsChained links head n → slice_get fs n ≡ Some f → ⊥) (λ n. slice_get fs n ≡ Some f) → MatchOption o (IsNew fs f) (λ n. slice_get fs n ≡ Some f)
+looked-all fs heads links f head (Some n) filed is found = found
+looked-all fs heads links f head None filed is none = λ k e. none k (subst (λ (z : ℕ). IsChained links z k) (sym is) (filed.filed k f e)) e

@@ -1,14 +1,21 @@
--- Steps: where the number of a front is filed.
-use Rattle.std.specs.Prelude.{◌≡◌, ℕ, ◌+◌, ◌*◌, ◌%◌, List, [], ◌∷◌, length, Some, slice_get, slice_index_or}
+-- Steps: how the number of a front is found again: along a chain of numbers. Each stands in it as one more than it is; 0 ends a chain.
+use Rattle.std.specs.Prelude.{◌≡◌, ℕ, suc, ◌≤◌, ◌+◌, ◌*◌, ◌%◌, List, [], ◌∷◌, length, Some, slice_get, slice_index_or}
 use Rattle.rs_project.specs.Data.{Front_data}
-use Rattle.rs_project.specs.Marks.{Among}
 
 -- the bucket of a front with these talks, where those before lead to bucket `seen`
 abbrev pub bucket_on : ℕ → List ℕ → ℕ
 bucket_on seen [] = seen
 bucket_on seen (t ∷ ts) = bucket_on ((seen * 31 + t) % 251) ts
 
--- there are 251 buckets, and the number of each front stands in the bucket of its talks
-pub record AreFiled (fronts : List Front_data) (buckets : List (List ℕ)) : Type 0 where
-  pub size : length buckets ≡ 251
-  pub filed : (n : ℕ) (f : Front_data) → slice_get fronts n ≡ Some f → Among (slice_index_or buckets (bucket_on 0 f.talks) []) n
+-- the number stands in the chain that begins there
+pub data IsChained (links : List ℕ) : ℕ → ℕ → Type 0 where
+  First : (n : ℕ) → IsChained links (suc n) n
+  Later : (m next n : ℕ) → slice_get links m ≡ Some next → IsChained links next n → IsChained links (suc m) n
+
+-- there are 251 buckets; the number of each front stands in the chain that begins at the head of the bucket of its talks, and chains fall
+pub record AreFiled (fronts : List Front_data) (heads links : List ℕ) : Type 0 where
+  pub buckets : length heads ≡ 251
+  pub size : length links ≡ length fronts
+  pub within : (b : ℕ) → slice_index_or heads b 0 ≤ length fronts
+  pub falls : (m next : ℕ) → slice_get links m ≡ Some next → next ≤ m
+  pub filed : (n : ℕ) (f : Front_data) → slice_get fronts n ≡ Some f → IsChained links (slice_index_or heads (bucket_on 0 f.talks) 0) n

@@ -1,6 +1,5 @@
-ghost use Rattle.std.specs.Prelude.{◌≡◌, ◌<◌, ◌^◌, ◌++◌, ◌∷◌, [], ℕ, true, false, length, slice_get, slice_set, slice_index_or, Some, IfOk, OnOk, OnErr, MatchOption};
-ghost use Rattle.rs_project.specs.Filing.{bucket_on};
-ghost use Rattle.rs_project.specs.Marks.{Among};
+ghost use Rattle.std.specs.Prelude.{◌≡◌, ◌<◌, ◌≤◌, ◌+◌, ◌^◌, ◌++◌, ◌∷◌, [], ℕ, true, false, length, slice_get, Some, IfOk, OnOk, OnErr, MatchOption};
+ghost use Rattle.rs_project.specs.Filing.{IsChained, bucket_on};
 ghost use Rattle.rs_project.specs.Working.{IsNew};
 
 use crate::fronts::Front;
@@ -10,43 +9,13 @@ use std::marker::Model;
 
 const BUCKETS: usize = 251;
 
-/// Numbers.
-#[derive(Drop)]
-pub struct Bucket {
-    numbers: Vec<u32>,
-}
-
-impl Model for Bucket {
-    ghost use Rattle.std.specs.Prelude.{List, ℕ};
-
-    ghost Value = { List ℕ };
-
-    ghost view = { λ b. b.numbers.items };
-}
-
-impl Bucket {
-    /// The numbers.
-    pub fn as_slice(&self) -> &[u32]
-        ensures { result.now ≡ self.now }
-    {
-        self.numbers.as_slice()
-    }
-
-    /// Adds a number at the end.
-    pub fn push(&mut self, number: u32) -> Result<(), NoMemory>
-        ensures ok { OnOk result (self.new ≡ self.old ++ (number ∷ [])) }
-        ensures err { OnErr result (self.new ≡ self.old) }
-    {
-        self.numbers.push(number)?;
-        Ok(())
-    }
-}
-
-/// Fronts in the order in which they were found, with an index by which one is found again.
+/// Fronts in the order in which they were found, with an index by which one is found again: of each bucket the head of a
+/// chain of numbers, and of each number the next of its chain. Each is one more than the number; 0 ends a chain.
 #[derive(Drop)]
 pub struct Fronts {
     items: Vec<Front>,
-    buckets: Vec<Bucket>,
+    heads: Vec<u32>,
+    links: Vec<u32>,
 }
 
 impl Model for Fronts {
@@ -58,7 +27,7 @@ impl Model for Fronts {
 
     ghost view = { λ f. f.items.items };
 
-    ghost invariant = { λ f. AreFiled f.items.items f.buckets.items };
+    ghost invariant = { λ f. AreFiled f.items.items f.heads.items f.links.items };
 }
 
 impl Fronts {
@@ -66,9 +35,11 @@ impl Fronts {
     pub fn new(alloc: Global) -> Result<Fronts, NoMemory>
         ensures { IfOk result (λ f. f ≡ []) }
     {
-        let items = Vec::new(alloc);
-        let buckets = empty_buckets(alloc, BUCKETS)?;
-        Ok(Fronts { items, buckets })
+        Ok(Fronts {
+            items: Vec::new(alloc),
+            heads: vec![in alloc; 0; BUCKETS]?,
+            links: Vec::new(alloc),
+        })
     }
 
     /// The fronts, by their numbers.
@@ -97,35 +68,25 @@ impl Fronts {
     pub fn number_of(&self, front: &Front) -> Option<u32>
         ensures { MatchOption result (IsNew self.now front.now) (λ n. slice_get self.now n ≡ Some front.now) }
     {
-        let bucket = &self.buckets[bucket_of(&front.talks)];
-        number_among(&self.items, bucket.as_slice(), front)
+        let head = self.heads[bucket_of(&front.talks)];
+        number_along(&self.items, &self.links, head, front)
     }
 
     /// Adds a front at the end.
     pub fn add(&mut self, front: Front) -> Result<(), NoMemory>
-        requires few { length self.old < 2 ^ 32 }
+        requires few { length self.old + 1 < 2 ^ 32 }
         ensures ok { OnOk result (self.new ≡ self.old ++ (front ∷ [])) }
         ensures err { OnErr result (self.new ≡ self.old) }
     {
         let bucket = bucket_of(&front.talks);
         let number = self.items.len() as u32;
-        file(&mut self.buckets, bucket, number)?;
+        let head = self.heads[bucket];
+        self.links.reserve(1)?;
         self.items.push(front)?;
+        self.links.push(head).unwrap();
+        self.heads[bucket] = number + 1;
         Ok(())
     }
-}
-
-/// So many buckets without numbers.
-pub fn empty_buckets(alloc: Global, count: usize) -> Result<Vec<Bucket>, NoMemory>
-    ensures { IfOk result (λ v. length v.items ≡ count) }
-{
-    let mut buckets = Vec::with_capacity(alloc, count)?;
-    for _ in 0..count {
-        buckets.push(Bucket {
-            numbers: Vec::new(alloc),
-        })?;
-    }
-    Ok(buckets)
 }
 
 fn bucket_of(talks: &[u32]) -> usize
@@ -139,23 +100,20 @@ fn bucket_of(talks: &[u32]) -> usize
     bucket
 }
 
-fn file(buckets: &mut Vec<Bucket>, bucket: usize, number: u32) -> Result<(), NoMemory>
-    requires { bucket < length buckets.old.items }
-    ensures ok { OnOk result (buckets.new.items ≡ slice_set buckets.old.items bucket (slice_index_or buckets.old.items bucket [] ++ (number ∷ []))) }
-    ensures err { OnErr result (buckets.new.items ≡ buckets.old.items) }
+// The number along a chain that is the front's.
+fn number_along(fronts: &[Front], links: &[u32], head: u32, front: &Front) -> Option<u32>
+    requires size { length links.now ≡ length fronts.now }
+    requires within { head ≤ length fronts.now }
+    requires falls { (m next : ℕ) → slice_get links.now m ≡ Some next → next ≤ m }
+    ensures { MatchOption result ((n : ℕ) → IsChained links.now head n → slice_get fronts.now n ≡ Some front.now → ⊥) (λ n. slice_get fronts.now n ≡ Some front.now) }
 {
-    buckets[bucket].push(number)?;
-    Ok(())
-}
-
-// The one of these numbers that is the front's.
-fn number_among(fronts: &[Front], numbers: &[u32], front: &Front) -> Option<u32>
-    ensures { MatchOption result ((n : ℕ) → Among numbers.now n → slice_get fronts.now n ≡ Some front.now → ⊥) (λ n. slice_get fronts.now n ≡ Some front.now) }
-{
-    for number in numbers {
-        if is_at(fronts, *number, front) {
-            return Some(*number);
+    let mut left = head;
+    while left > 0 {
+        let number = left - 1;
+        if is_at(fronts, number, front) {
+            return Some(number);
         }
+        left = links[number as usize];
     }
     None
 }

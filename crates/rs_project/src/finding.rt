@@ -10,7 +10,7 @@ ghost use Rattle.rs_wellformed.specs.WellFormed.{IsWellFormed};
 use crate::ProjFault;
 use crate::filing::Fronts;
 use crate::fronts::{Front, front_of};
-use crate::merging::starts_behind;
+use crate::merging::{only_start, starts_behind};
 use crate::spreading::Marks;
 use crate::surveying::Survey;
 use rs_model::{Arm, Arms, Label, MOST_STATES, NoMemory, Protocol, Role};
@@ -82,6 +82,10 @@ fn front_behind(
     requires talks { All (λ t. t < length protocol.now.nodes) talks.now }
     ensures { IfOk result (λ f. IsFrontBehind protocol.now survey.now.role talks.now label f) }
 {
+    if let Some(start) = only_start(protocol, talks, label) {
+        let front = front_of(alloc, protocol, survey, marks, &[start])?;
+        return Ok(front);
+    }
     let starts = starts_behind(alloc, protocol, talks, label)?;
     let front = front_of(alloc, protocol, survey, marks, &starts)?;
     Ok(front)

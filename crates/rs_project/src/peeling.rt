@@ -3,7 +3,6 @@ ghost use Rattle.rs_model.specs.declared.graph.Role.{Role};
 ghost use Rattle.rs_project.specs.Marks.{IsLeft};
 ghost use Rattle.rs_wellformed.specs.WellFormed.{IsWellFormed};
 
-use crate::filing::{Bucket, empty_buckets};
 use crate::surveying::leads_to_one;
 use rs_model::{Arm, NoMemory, Node, Protocol};
 use std::alloc::Global;
@@ -15,14 +14,14 @@ pub fn peel(alloc: Global, protocol: &Protocol, left: &mut Vec<bool>) -> Result<
     requires size { length left.old.items ≡ length protocol.now.nodes }
     ensures { OnOk result ((role : Role) → IsLeft protocol.now role left.old.items → IsLeft protocol.now role left.new.items) }
 {
-    let before = nodes_before(alloc, protocol, left.as_slice())?;
+    let edges = edges_of(alloc, protocol, left.as_slice())?;
     let mut todo = numbers(alloc, protocol.nodes.len())?;
     for _ in 0..u64::MAX {
         let Some(number) = todo.pop() else {
             break;
         };
         if peel_one(protocol, left, number as usize) {
-            add_before(&mut todo, &before, number as usize)?;
+            add_before(&mut todo, &edges, number as usize)?;
         }
     }
     Ok(())
@@ -45,39 +44,75 @@ fn peel_one(protocol: &Protocol, left: &mut Vec<bool>, number: usize) -> bool
     true
 }
 
-// For each node the flagged ones that lead to it.
-fn nodes_before(alloc: Global, protocol: &Protocol, left: &[bool]) -> Result<Vec<Bucket>, NoMemory>
+// An edge: the node from which it comes, and of the edges that lead to the same node the next, as one more than its
+// place; 0 where there is none.
+#[derive(Clone, Copy)]
+struct Edge {
+    source: u32,
+    next: u32,
+}
+
+// The edges by the nodes to which they lead: for each node the first of them, as one more than its place.
+#[derive(Drop)]
+struct Edges {
+    firsts: Vec<u32>,
+    edges: Vec<Edge>,
+}
+
+// The edges that come from flagged nodes.
+fn edges_of(alloc: Global, protocol: &Protocol, left: &[bool]) -> Result<Edges, NoMemory>
     requires few { length protocol.now.nodes < 2 ^ 32 }
     requires size { length left.now ≡ length protocol.now.nodes }
 {
-    let mut before = empty_buckets(alloc, left.len())?;
+    let mut edges = Edges {
+        firsts: vec![in alloc; 0; left.len()]?,
+        edges: Vec::new(alloc),
+    };
     for number in 0..left.len() {
         if left[number] {
-            add_node(&mut before, &protocol.nodes[number], number as u32)?;
+            add_node(&mut edges, &protocol.nodes[number], number as u32)?;
         }
     }
-    Ok(before)
+    Ok(edges)
 }
 
-fn add_node(before: &mut Vec<Bucket>, node: &Node, number: u32) -> Result<(), NoMemory> {
+fn add_node(edges: &mut Edges, node: &Node, number: u32) -> Result<(), NoMemory> {
     match node {
         Node::Finished => Ok(()),
-        Node::Talk { arms, .. } => add_arms(before, arms.as_slice(), number),
+        Node::Talk { arms, .. } => add_arms(edges, arms.as_slice(), number),
     }
 }
 
-fn add_arms(before: &mut Vec<Bucket>, arms: &[Arm], number: u32) -> Result<(), NoMemory> {
+fn add_arms(edges: &mut Edges, arms: &[Arm], number: u32) -> Result<(), NoMemory> {
     for arm in arms {
-        if let Some(numbers) = before.get_mut(arm.next as usize) {
-            numbers.push(number)?;
-        }
+        add_edge(edges, number, arm.next as usize)?;
     }
     Ok(())
 }
 
-fn add_before(todo: &mut Vec<u32>, before: &[Bucket], number: usize) -> Result<(), NoMemory> {
-    if let Some(numbers) = before.get(number) {
-        todo.extend_from_slice(numbers.as_slice())?;
+fn add_edge(edges: &mut Edges, source: u32, target: usize) -> Result<(), NoMemory> {
+    if target >= edges.firsts.len() || edges.edges.len() >= u32::MAX as usize {
+        return Ok(());
+    }
+    let next = edges.firsts[target];
+    edges.edges.push(Edge { source, next })?;
+    edges.firsts[target] = edges.edges.len() as u32;
+    Ok(())
+}
+
+// Adds the nodes from which edges lead to that one.
+fn add_before(todo: &mut Vec<u32>, edges: &Edges, number: usize) -> Result<(), NoMemory> {
+    if number >= edges.firsts.len() {
+        return Ok(());
+    }
+    let mut left = edges.firsts[number] as usize;
+    for _ in 0..edges.edges.len() {
+        if left == 0 || left > edges.edges.len() {
+            break;
+        }
+        let edge = edges.edges[left - 1];
+        todo.push(edge.source)?;
+        left = edge.next as usize;
     }
     Ok(())
 }

@@ -1,5 +1,5 @@
-ghost use Rattle.std.specs.Prelude.{◌≡◌, ◌⊎◌, ◌<◌, ◌≤◌, ◌^◌, ℕ, map, length, IfOk, IfErr};
-ghost use Rattle.std.specs.List.{Contains};
+ghost use Rattle.std.specs.Prelude.{◌≡◌, ◌⊎◌, ◌<◌, ◌≤◌, ◌^◌, ℕ, map, length, IfOk, IfErr, IfSome};
+ghost use Rattle.std.specs.List.{All, Contains};
 ghost use Rattle.rs_model.specs.declared.limits.TheConstants.{MOST_STATES};
 ghost use Rattle.rs_model.specs.WellFormed.{IsWellFormedMachine};
 ghost use Rattle.rs_project.specs.Graph.{Involves, MeetsFirst, MeetsTheEnd};
@@ -18,7 +18,7 @@ use crate::merging::merged_arms;
 use crate::rounds::first_unreached;
 use crate::spreading::Marks;
 use crate::surveying::{Survey, survey_of};
-use rs_model::{Arms, Machine, NoMemory, Node, Protocol, Role, State};
+use rs_model::{Arm, Arms, Machine, NoMemory, Node, Protocol, Role, State};
 use std::alloc::{AllocError, AllocFailed, Global};
 use std::marker::Model;
 
@@ -186,9 +186,47 @@ fn merged_state(
     ensures shape { IfOk result (λ s. HasShape protocol.now survey.now.role talks.now s) }
     ensures err { IfErr result (λ e. ArmsFault protocol.now survey.now.role fronts.old talks.now (merged_choices protocol.now talks.now) e) }
 {
-    let choices = merged_arms(alloc, protocol, talks)?;
-    let arms = arms_of(alloc, protocol, survey, marks, talks, &choices, fronts)?;
+    let arms = arms_behind(alloc, protocol, survey, marks, talks, fronts)?;
     Ok(act_of(protocol, survey.role, talks, arms))
+}
+
+// The arms of that state: those of the one talk, or those of all together.
+fn arms_behind(
+    alloc: Global,
+    protocol: &Protocol,
+    survey: &Survey,
+    marks: &mut Marks,
+    talks: &[u32],
+    fronts: &mut Fronts,
+) -> Result<Arms, ProjFault>
+    requires well_formed { IsWellFormed protocol.now }
+    requires survey { IsSurvey protocol.now survey.now.role survey.now }
+    requires found { AreFound protocol.now survey.now.role fronts.old }
+    requires talks { All (λ t. t < length protocol.now.nodes) talks.now }
+    ensures ok { IfOk result (λ arms. Discovers protocol.now survey.now.role fronts.old talks.now (merged_choices protocol.now talks.now) fronts.new (nexts_of arms)) }
+    ensures choices { IfOk result (λ arms. map choice_of arms ≡ merged_choices protocol.now talks.now) }
+    ensures err { IfErr result (λ e. ArmsFault protocol.now survey.now.role fronts.old talks.now (merged_choices protocol.now talks.now) e) }
+{
+    if let Some(arms) = only_arms(protocol, talks) {
+        return arms_of(alloc, protocol, survey, marks, talks, arms, fronts);
+    }
+    let choices = merged_arms(alloc, protocol, talks)?;
+    arms_of(alloc, protocol, survey, marks, talks, &choices, fronts)
+}
+
+// The arms of the talk, where there is one alone.
+fn only_arms<'a>(protocol: &'a Protocol, talks: &[u32]) -> Option<&'a [Arm]>
+    requires well_formed { IsWellFormed protocol.now }
+    requires talks { All (λ t. t < length protocol.now.nodes) talks.now }
+    ensures { IfSome result (λ arms. map choice_of arms.now ≡ merged_choices protocol.now talks.now) }
+{
+    if talks.len() != 1 {
+        return None;
+    }
+    match &protocol.nodes[talks[0] as usize] {
+        Node::Finished => None,
+        Node::Talk { arms, .. } => Some(arms.as_slice()),
+    }
 }
 
 // The state of a role that does what it does in the first of these talks, or of one that is done where there are none.

@@ -6,11 +6,8 @@ use Rattle.rs_project.specs.Projection.{Agree}
 use Rattle.rs_project.proofs.Steps.{talks-within}
 use Rattle.rs_project.proofs.projecting.merged_state.Goals as goal
 
-pub merged_arms-requires : goal.merged_arms-requires
-merged_arms-requires c = talks-within c.args.protocol.now c.args.survey.now.role c.args.talks.now c.requires.involved
-
-pub arms_of-requires-clause-talks : goal.arms_of-requires-clause-talks
-arms_of-requires-clause-talks c = talks-within c.args.protocol.now c.args.survey.now.role c.args.talks.now c.requires.involved
+pub arms_behind-requires-clause-talks : goal.arms_behind-requires-clause-talks
+arms_behind-requires-clause-talks c = talks-within c.args.protocol.now c.args.survey.now.role c.args.talks.now c.requires.involved
 
 pub act_of-requires-clause-agree : goal.act_of-requires-clause-agree
 act_of-requires-clause-agree c =
