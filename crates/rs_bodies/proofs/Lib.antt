@@ -15,3 +15,4 @@ pub mod SpeltLaws
 pub mod Placing
 pub mod Sounding
 pub mod Refusals
+pub mod Fitting

@@ -16,7 +16,7 @@ use Rattle.rs_text.specs.Lexemes.{value_of}
 use Rattle.rs_text.specs.Names.{Bound, bound_to, number_or}
 use Rattle.rs_global.specs.Graph.{talk_of, nodes_of, nodes_of_arms}
 use Rattle.rs_global.specs.Canonical.{name_of_node}
-use Rattle.rs_global.proofs.CanonForms.{goes_back, is_back, Writing, role_as, label_as, sort_as, wrapped, offered, canon, canon_arms, Named, NamedArms, Low, low_rec, low_up, Ins, ins_rec}
+use Rattle.rs_global.proofs.CanonForms.{goes_back, is_back, Writing, role_as, label_as, sort_as, wrapped, offered, canon, canon_arms, Low, low_rec, low_up, Ins, ins_rec}
 use Rattle.rs_global.proofs.Existence.{one_longer, at_seam, nodes_length}
 use Rattle.rs_text.proofs.Basics.{some_is}
 use Rattle.rs_text.proofs.Arms.{sort_same}
@@ -25,6 +25,7 @@ use Rattle.rs_bodies.specs.declared.dialects.Dialect.TheVariants.{Talks}
 use Rattle.rs_bodies.specs.Trees.{Body, ends, again, binds, acts, offers, Branches, one, more}
 use Rattle.rs_bodies.specs.Graph.{labels_of, labels_of_arms, acts_in, acts_in_arms, has_end, has_end_arms, Numbering, role_of, label_of, first_of, arm_of, arms_of}
 use Rattle.rs_bodies.specs.Fits.{is_guarded}
+use Rattle.rs_bodies.proofs.Fitting.{Leads, Fine, FineArms, Named, NamedArms}
 
 -- ---- the names of nodes differ
 
@@ -39,23 +40,6 @@ picked true k found m h f = ap Some (h refl)
 picked false k found m h f = f refl
 
 -- ---- the canonical names lead where the names lead
-
-abbrev pub Leads : (ℕ → Bool) → Option ℕ → ℕ → Type 0
-Leads back None count = ⊥
-Leads back (Some m) count = (m < count) × (back m ≡ true)
-
--- names are bound, guarded, and where they lead is gone back to
-abbrev mutual
-  pub Fine : (ℕ → Bool) → Body Talks → Bound → ℕ → Type 0
-  Fine back ends bound count = Unit {0}
-  Fine back (again x) bound count = Leads back (bound_to x bound) count
-  Fine back (binds x b) bound count = Fine back b ((x, count) ∷ bound) count
-  Fine back (acts s (sends_to r) l sort b) bound count = Fine back b bound (suc count)
-  Fine back (offers s (sends_to r) arms) bound count = FineArms back arms bound (suc count)
-
-  pub FineArms : (ℕ → Bool) → Branches Talks → Bound → ℕ → Type 0
-  FineArms back (one l sort b) bound count = Fine back b bound count
-  FineArms back (more l sort b arms) bound count = Fine back b bound count × FineArms back arms bound (count + acts_in Talks b)
 
 abbrev pub Inv : (ℕ → Bool) → Bound → Bound → ℕ → Type 0
 Inv back bound named k = (x : List ℕ) (m : ℕ) → bound_to x bound ≡ Some m → back m ≡ true → m < k → bound_to (name_of_node m) named ≡ Some m
@@ -206,7 +190,7 @@ name_first back bound named k x None e h inv = absurd h
 name_first back bound named k x (Some m) e h inv = ap number_or (inv x m e h.1 h.0)
 
 mutual
-  pub same : (w : Writing) (m : Numbering) (t : Body Talks) (bound named : Bound) (k : ℕ) → SameNumbers w m → k + acts_in Talks t ≤ 1024 → Fine (goes_back w.nodes) t bound k → Inv (goes_back w.nodes) bound named k → Low bound k → Same w m t (canon w t bound k) bound named k
+  pub same : (w : Writing) (m : Numbering) (t : Body Talks) (bound named : Bound) (k : ℕ) → SameNumbers w m → k + acts_in Talks t ≤ 1024 → Fine Talks (goes_back w.nodes) t bound k → Inv (goes_back w.nodes) bound named k → Low bound k → Same w m t (canon w t bound k) bound named k
   same w m ends bound named k s few h inv low = record { nodes = refl; first = s.last }
   same w m (again x) bound named k s few h inv low = record { nodes = refl; first = name_first (goes_back w.nodes) bound named k x (bound_to x bound) refl h inv }
   same w m (binds x b) bound named k s few h inv low =
@@ -237,7 +221,7 @@ mutual
         first = wrapped_first m.last back k (offered (role_as w x) (role_as w y) c) named ∙ offered_first m.last (role_as w x) (role_as w y) c inner k;
       }
 
-  same_arms : (w : Writing) (m : Numbering) (arms : Branches Talks) (bound named : Bound) (k : ℕ) → SameNumbers w m → k + acts_in_arms Talks arms ≤ 1024 → FineArms (goes_back w.nodes) arms bound k → InvAll (goes_back w.nodes) bound named → Low bound k → SameArms w m arms (canon_arms w arms bound k) bound named k
+  same_arms : (w : Writing) (m : Numbering) (arms : Branches Talks) (bound named : Bound) (k : ℕ) → SameNumbers w m → k + acts_in_arms Talks arms ≤ 1024 → FineArms Talks (goes_back w.nodes) arms bound k → InvAll (goes_back w.nodes) bound named → Low bound k → SameArms w m arms (canon_arms w arms bound k) bound named k
   same_arms w m (one l sort b) bound named k s few h inv low =
       let c : Body Talks = canon w b bound k in
       let i : Same w m b c bound named k = same w m b bound named k s few h (λ x n e bk lt. inv x n e bk) low in
@@ -262,8 +246,8 @@ fine_name p x bound from k None e g ins back = absurd (cc g)
 fine_name p x bound from k (Some m) e g ins back = let lt : m < k = ltb-true m k g in (lt, back (ins x m e lt))
 
 mutual
-  pub fine : (m : Numbering) (p : Protocol_data) (t : Body Talks) (bound : Bound) (from k : ℕ) (pre post : List Node) → p.nodes ≡ pre ++ (nodes_of m t bound k ++ post) → length pre ≡ k → Named t bound k → Low bound k → Ins bound from k
-      → (first_of Talks t bound k m.last < from → goes_back p.nodes (first_of Talks t bound k m.last) ≡ true) → Fine (goes_back p.nodes) t bound k
+  pub fine : (m : Numbering) (p : Protocol_data) (t : Body Talks) (bound : Bound) (from k : ℕ) (pre post : List Node) → p.nodes ≡ pre ++ (nodes_of m t bound k ++ post) → length pre ≡ k → Named Talks t bound k → Low bound k → Ins bound from k
+      → (first_of Talks t bound k m.last < from → goes_back p.nodes (first_of Talks t bound k m.last) ≡ true) → Fine Talks (goes_back p.nodes) t bound k
   fine m p ends bound from k pre post e h named low ins back = tt
   fine m p (again x) bound from k pre post e h named low ins back = fine_name p x bound from k (bound_to x bound) refl named ins back
   fine m p (binds x b) bound from k pre post e h named low ins back = fine m p b ((x, k) ∷ bound) from k pre post e h named (low_rec bound k x low) (ins_rec bound from k x ins) back
@@ -278,8 +262,8 @@ mutual
       fine_arms m p arms bound k (suc k) (pre ++ node ∷ []) post (e ∙ sym (append_assoc pre (node ∷ []) (nodes_of_arms m arms bound (suc k) ++ post))) (one_longer pre node k h) (omega arith) named low
       (λ place arm stands lt. is_back p arm.next (record { node = k; behind = omega arith; sender = role_of m s; receiver = role_of m r; arms = ours; talks = at_seam p.nodes pre node (nodes_of_arms m arms bound (suc k) ++ post) k e h; place = place; arm = arm; stands = stands; leads = refl }))
 
-  fine_arms : (m : Numbering) (p : Protocol_data) (arms : Branches Talks) (bound : Bound) (n k : ℕ) (pre post : List Node) → p.nodes ≡ pre ++ (nodes_of_arms m arms bound k ++ post) → length pre ≡ k → n < k → NamedArms arms bound k → Low bound n
-      → ((place : ℕ) (arm : Arm) → slice_get (arms_of Talks m arms bound k) place ≡ Some arm → arm.next < suc n → goes_back p.nodes arm.next ≡ true) → FineArms (goes_back p.nodes) arms bound k
+  fine_arms : (m : Numbering) (p : Protocol_data) (arms : Branches Talks) (bound : Bound) (n k : ℕ) (pre post : List Node) → p.nodes ≡ pre ++ (nodes_of_arms m arms bound k ++ post) → length pre ≡ k → n < k → NamedArms Talks arms bound k → Low bound n
+      → ((place : ℕ) (arm : Arm) → slice_get (arms_of Talks m arms bound k) place ≡ Some arm → arm.next < suc n → goes_back p.nodes arm.next ≡ true) → FineArms Talks (goes_back p.nodes) arms bound k
   fine_arms m p (one l sort b) bound n k pre post e h le named low back =
       fine m p b bound (suc n) k pre post e h named (low_up bound n k (omega arith) low) (λ x j i lt. let a : j < n + 1 = low x j i in omega arith) (λ lt. back 0 (arm_of m l sort (first_of Talks b bound k m.last)) refl lt)
   fine_arms m p (more l sort b arms) bound n k pre post e h le named low back =

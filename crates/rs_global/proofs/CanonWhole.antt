@@ -19,10 +19,10 @@ use Rattle.rs_global.specs.Graph.{nodes_of, numbering, graph_of, names_of, finis
 use Rattle.rs_global.specs.Spells.{Fits, SpellsProtocol}
 use Rattle.rs_global.specs.Writable.{AreWords, AreWordsIn, AreWordsInArms}
 use Rattle.rs_global.specs.Canonical.{IsTextShaped, IsTalkOf, IsOneArm, AreArms, Draws, DrawsTalk, DrawsArms, IsCanonical, IsCanonicalText, with_labels}
-use Rattle.rs_global.proofs.CanonForms.{goes_back, back_is, Writing, role_as, label_as, sort_as, wrapped, canon, canon_arms, Named, fits_named, Low, low_rec, low_up}
+use Rattle.rs_global.proofs.CanonForms.{goes_back, back_is, Writing, role_as, label_as, sort_as, wrapped, canon, canon_arms, Low, low_rec, low_up}
 use Rattle.rs_global.proofs.CanonOne.{canonical_tree_is_one}
-use Rattle.rs_global.proofs.CanonSame.{Fine, fine, Same, same, SameNumbers, canon_talks, canon_end, canon_labels}
-use Rattle.rs_global.proofs.CanonNest.{Recs, tree_recs, canon_fits, fits_labels, fits_talks}
+use Rattle.rs_global.proofs.CanonSame.{fine, Same, same, SameNumbers, canon_talks, canon_end, canon_labels}
+use Rattle.rs_global.proofs.CanonNest.{tree_recs, canon_fits}
 use Rattle.rs_global.proofs.CanonNumbers.{tree_labels_few, labels_read, labels_written, labels_taken, label_number, role_number, role_known, Sound, sound_parts}
 use Rattle.rs_global.proofs.Existence as existence
 use Rattle.rs_global.proofs.Existence.{roles_stand, label_stands, roles_with, writing_of, canonical_tree, canonical_of}
@@ -35,6 +35,7 @@ use Rattle.rs_bodies.specs.Trees.{Body, ends, again, binds, acts, offers, Branch
 use Rattle.rs_bodies.specs.Graph.{labels_of, labels_of_arms, acts_in, acts_in_arms, has_end, role_of, label_of, first_of}
 use Rattle.rs_bodies.specs.Scenes.{first_scene}
 use Rattle.rs_global.proofs.Spelt.{one_spelling}
+use Rattle.rs_bodies.proofs.Fitting.{Named, fits_named, Fine, Recs, fits_labels, fits_heads}
 
 -- ---- the canonical tree of what a tree spells
 
@@ -53,10 +54,10 @@ two_roles t names r =
 written_labels : (t : ProtocolTree) (names : Names_data) → Ready t names → grown [] (labels_of Talks (canonical_tree t names).body) ≡ map (label_as (writing_of t names)) (labels_read t)
 written_labels t names r = ap (λ z. grown [] z) (canon_labels (writing_of t names) t.body [] 0) ∙ labels_written t names r.labels r.sound.labels_differ
 
-named : (t : ProtocolTree) → Fits t → Named t.body [] 0
-named t fits = fits_named t.body (first_scene (roles_of t) []) fits.body
+named : (t : ProtocolTree) → Fits t → Named Talks t.body [] 0
+named t fits = fits_named Talks t.body (first_scene (roles_of t) []) fits.body
 
-is_fine : (t : ProtocolTree) → Fits t → Fine (goes_back (graph_of t).nodes) t.body [] 0
+is_fine : (t : ProtocolTree) → Fits t → Fine Talks (goes_back (graph_of t).nodes) t.body [] 0
 is_fine t fits = fine (numbering t) (graph_of t) t.body [] 0 0 [] (finish_of (has_end Talks t.body)) refl refl (named t fits) (λ x m i. absurd (cc i)) (λ x m i lt. lt) (λ lt. absurd (omega arith))
 
 numbers_same : (t : ProtocolTree) (names : Names_data) → Ready t names → SameNumbers (writing_of t names) (numbering (canonical_tree t names))
@@ -67,7 +68,7 @@ numbers_same t names r = record {
 }
 
 few_talks : (t : ProtocolTree) → Fits t → 0 + acts_in Talks t.body ≤ 1024
-few_talks t fits = fits_talks t.body (first_scene (roles_of t) []) fits.body (omega arith)
+few_talks t fits = fits_heads Talks t.body (first_scene (roles_of t) []) fits.body (omega arith)
 
 abbrev graph : ℕ → List Node → ℕ → Protocol_data
 graph roles nodes root = record { roles = roles; nodes = nodes; root = root }
@@ -91,10 +92,10 @@ written_fits t names r =
     let c = canonical_tree t names in
     let roles : roles_of c ≡ names.roles = two_roles t names r in
     let labels : length (grown [] (labels_of Talks c.body)) ≡ length (labels_read t) = ap length (written_labels t names r) ∙ length-map (labels_read t) (label_as w) in
-    let few : length (labels_read t) ≤ 256 = fits_labels t.body (first_scene (roles_of t) []) r.fits.body (omega arith) in
+    let few : length (labels_read t) ≤ 256 = fits_labels Talks t.body (first_scene (roles_of t) []) r.fits.body (omega arith) in
     let sixteen : length (roles_of t) ≤ 16 = r.fits.few_roles in
     let as_many : length (roles_of c) ≡ length (roles_of t) = ap length roles ∙ r.roles in
-    let recs : Recs (goes_back (graph_of t).nodes) t.body false 0 = tree_recs (numbering t) (graph_of t) t.body (has_end Talks t.body) refl refl (named t r.fits) (goes_back (graph_of t).nodes) (λ v h. back_is (graph_of t) v h) in
+    let recs : Recs Talks (goes_back (graph_of t).nodes) t.body false 0 = tree_recs (numbering t) (graph_of t) t.body (has_end Talks t.body) refl refl (named t r.fits) (goes_back (graph_of t).nodes) (λ v h. back_is (graph_of t) v h) in
     record {
       roles_differ = ap differ roles ∙ r.sound.roles_differ;
       few_roles = omega arith;

@@ -14,7 +14,7 @@ use Rattle.rs_global.specs.Trees.{ProtocolTree, roles_of}
 use Rattle.rs_global.specs.Graph.{talk_of, nodes_of, nodes_of_arms, numbering, graph_of, finish_of}
 use Rattle.rs_global.specs.Spells.{Fits}
 use Rattle.rs_global.specs.Canonical.{IsTextShaped, name_of_node, IsTalkOf, IsArmOf, IsOneArm, AreArms, Draws, DrawsArms, IsCanonical}
-use Rattle.rs_global.proofs.CanonForms.{goes_back, back_is, is_back, or_empty, Writing, role_as, label_as, sort_as, wrapped, canon, canon_arms, Named, NamedArms, fits_named, Low, low_rec, low_up, Ins, ins_rec}
+use Rattle.rs_global.proofs.CanonForms.{goes_back, back_is, is_back, or_empty, Writing, role_as, label_as, sort_as, wrapped, canon, canon_arms, Low, low_rec, low_up, Ins, ins_rec}
 use Rattle.rs_text.proofs.Basics.{or_end, seam}
 use Rattle.rs_bodies.specs.Dialects.{sends_to}
 use Rattle.rs_bodies.specs.declared.dialects.Dialect.TheVariants.{Talks}
@@ -22,6 +22,7 @@ use Rattle.rs_bodies.specs.Trees.{Body, ends, again, binds, acts, offers, Branch
 use Rattle.rs_bodies.specs.Graph.{acts_in, acts_in_arms, has_end, has_end_arms, Numbering, role_of, label_of, first_of, arm_of, arms_of}
 use Rattle.rs_bodies.specs.Fits.{is_guarded}
 use Rattle.rs_bodies.specs.Scenes.{first_scene}
+use Rattle.rs_bodies.proofs.Fitting.{Named, NamedArms, fits_named}
 
 mutual
   pub nodes_length : (m : Numbering) (b : Body Talks) (bound : Bound) (k : ℕ) → length (nodes_of m b bound k) ≡ acts_in Talks b
@@ -80,7 +81,7 @@ FewLabels names arms = (place : ℕ) (arm : Arm) → slice_get arms place ≡ So
 
 mutual
   draws : (w : Writing) (p : Protocol_data) (b : Body Talks) (bound : Bound) (from k : ℕ) (pre post : List Node) → w.nodes ≡ p.nodes → RolesStand w → AreEnough w.names p → p.nodes ≡ pre ++ (nodes_of w.numbers b bound k ++ post) → length pre ≡ k → from ≤ k
-      → (has_end Talks b ≡ true → slice_get p.nodes w.numbers.last ≡ Some Finished) → Named b bound k → Low bound k → Ins bound from k → Draws w.names p from (first_of Talks b bound k w.numbers.last) (canon w b bound k)
+      → (has_end Talks b ≡ true → slice_get p.nodes w.numbers.last ≡ Some Finished) → Named Talks b bound k → Low bound k → Ins bound from k → Draws w.names p from (first_of Talks b bound k w.numbers.last) (canon w b bound k)
   draws w p ends bound from k pre post n roles enough e h le end named low ins = end refl
   draws w p (again x) bound from k pre post n roles enough e h le end named low ins = name_draws w p from k (bound_to x bound) x bound refl named ins
   draws w p (binds x b) bound from k pre post n roles enough e h le end named low ins = draws w p b ((x, k) ∷ bound) from k pre post n roles enough e h le end named (low_rec bound k x low) (ins_rec bound from k x ins)
@@ -128,7 +129,7 @@ mutual
   two_arms w p (more l sort b arms) s r k a bound j all talk each = (a, arm_of w.numbers l sort (first_of Talks b bound j w.numbers.last), arms_of Talks w.numbers arms bound (j + acts_in Talks b), talk, each)
 
   draws_arms : (w : Writing) (p : Protocol_data) (arms : Branches Talks) (bound : Bound) (node k : ℕ) (pre post : List Node) → w.nodes ≡ p.nodes → RolesStand w → AreEnough w.names p → p.nodes ≡ pre ++ (nodes_of_arms w.numbers arms bound k ++ post) → length pre ≡ k → node < k
-      → FewLabels w.names (arms_of Talks w.numbers arms bound k) → (has_end_arms Talks arms ≡ true → slice_get p.nodes w.numbers.last ≡ Some Finished) → NamedArms arms bound k → Low bound node → DrawsArms w.names p (suc node) (arms_of Talks w.numbers arms bound k) (canon_arms w arms bound k)
+      → FewLabels w.names (arms_of Talks w.numbers arms bound k) → (has_end_arms Talks arms ≡ true → slice_get p.nodes w.numbers.last ≡ Some Finished) → NamedArms Talks arms bound k → Low bound node → DrawsArms w.names p (suc node) (arms_of Talks w.numbers arms bound k) (canon_arms w arms bound k)
   draws_arms w p (one l sort b) bound node k pre post n roles enough e h lt few end named low = (
     (label_stands w l (few 0 (arm_of w.numbers l sort (first_of Talks b bound k w.numbers.last)) refl), refl),
     draws w p b bound (suc node) k pre post n roles enough e h (omega arith) end named (low_up bound node k (omega arith) low) (λ x m i j. let a : m < node + 1 = low x m i in omega arith),
@@ -163,7 +164,7 @@ end_stands t h = at_seam (graph_of t).nodes (nodes_of (numbering t) t.body [] 0)
 -- the canonical form of a tree, for names that are enough
 pub canon_draws : (t : ProtocolTree) (names : Names_data) → Fits t → length names.roles ≡ length (roles_of t) → AreEnough names (graph_of t) → Draws names (graph_of t) 0 (graph_of t).root (canon (writing_of t names) t.body [] 0)
 canon_draws t names fits e enough =
-    draws (writing_of t names) (graph_of t) t.body [] 0 0 [] (finish_of (has_end Talks t.body)) refl (roles_stand t names e) enough refl refl (omega arith) (end_stands t) (fits_named t.body (first_scene (roles_of t) []) fits.body) (λ x m i. absurd (cc i)) (λ x m i lt. lt)
+    draws (writing_of t names) (graph_of t) t.body [] 0 0 [] (finish_of (has_end Talks t.body)) refl (roles_stand t names e) enough refl refl (omega arith) (end_stands t) (fits_named Talks t.body (first_scene (roles_of t) []) fits.body) (λ x m i. absurd (cc i)) (λ x m i lt. lt)
 
 -- a list of two at least
 abbrev pub rest_of : List (List ℕ) → List (List ℕ)

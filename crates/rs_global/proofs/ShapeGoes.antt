@@ -16,8 +16,8 @@ use Rattle.rs_text.specs.Names.{Bound, bound_to, number_or, grown, is_among, pla
 use Rattle.rs_global.specs.declared.shapes.Walk.{Walk}
 use Rattle.rs_global.specs.Graph.{talk_of, nodes_of, nodes_of_arms}
 use Rattle.rs_global.specs.Shapes.{leads_to, talk_leads, leads_from, last_of, labelled, met, or_none, arms_met, closed, deeper, are_more, is_none, nested, is_fit, one_more, talk_met, visited}
-use Rattle.rs_global.proofs.CanonForms.{Low, low_rec, low_up, Ins, ins_rec, Named, NamedArms}
-use Rattle.rs_global.proofs.CanonNest.{Recs, RecsArms, scene, few_labels, fits_labels}
+use Rattle.rs_global.proofs.CanonForms.{Low, low_rec, low_up, Ins, ins_rec}
+use Rattle.rs_global.proofs.CanonNest.{scene}
 use Rattle.rs_global.proofs.Existence.{nodes_length, arms_length, one_longer, at_seam}
 use Rattle.rs_text.proofs.Basics.{both, or_true, or_false, or_assoc, false_or, and_false, not_equal}
 use Rattle.rs_bodies.specs.Dialects.{sends_to}
@@ -25,6 +25,7 @@ use Rattle.rs_bodies.specs.declared.dialects.Dialect.TheVariants.{Talks}
 use Rattle.rs_bodies.specs.Trees.{Body, ends, again, binds, acts, offers, Branches, one, more}
 use Rattle.rs_bodies.specs.Graph.{labels_of, labels_of_arms, acts_in, acts_in_arms, has_end, has_end_arms, Numbering, role_of, first_of, arm_of, arms_of}
 use Rattle.rs_bodies.specs.Fits.{is_guarded, has_room_for, body_fits, arms_fit}
+use Rattle.rs_bodies.proofs.Fitting.{Named, NamedArms, Recs, RecsArms, few_labels, fits_labels}
 
 abbrev walk : ℕ → ℕ → Bool → Walk
 walk count labels ended = record { count = count; labels = labels; ended = ended }
@@ -46,20 +47,20 @@ name_else : (x : List ℕ) (bound : Bound) (k v : ℕ) (found : Option ℕ) → 
 name_else x bound k v None e g un h = absurd (cc g)
 name_else x bound k v (Some n) e g un h = un x (e ∙ ap Some h)
 
-leads_else : (b : Body Talks) (bound : Bound) (k v last : ℕ) → Named b bound k → Unbound bound v → v < k → v < last → first_of Talks b bound k last ≢ v
+leads_else : (b : Body Talks) (bound : Bound) (k v last : ℕ) → Named Talks b bound k → Unbound bound v → v < k → v < last → first_of Talks b bound k last ≢ v
 leads_else ends bound k v last named un lt low h = omega arith
 leads_else (again x) bound k v last named un lt low h = name_else x bound k v (bound_to x bound) refl named un h
 leads_else (binds x b) bound k v last named un lt low h = leads_else b ((x, k) ∷ bound) k v last named (λ y. unbound_pick (bytes_eq x y) k v (bound_to y bound) (λ e. omega arith) (un y)) lt low h
 leads_else (acts s (sends_to r) l sort b) bound k v last named un lt low h = omega arith
 leads_else (offers s (sends_to r) arms) bound k v last named un lt low h = omega arith
 
-arms_else : (m : Numbering) (arms : Branches Talks) (bound : Bound) (k v : ℕ) → NamedArms arms bound k → Unbound bound v → v < k → v < m.last → list_any (leads_to v) (arms_of Talks m arms bound k) ≡ false
+arms_else : (m : Numbering) (arms : Branches Talks) (bound : Bound) (k v : ℕ) → NamedArms Talks arms bound k → Unbound bound v → v < k → v < m.last → list_any (leads_to v) (arms_of Talks m arms bound k) ≡ false
 arms_else m (one l sort b) bound k v named un lt low = false_or (first_of Talks b bound k m.last == v) false (not_equal (first_of Talks b bound k m.last) v (leads_else b bound k v m.last named un lt low)) refl
 arms_else m (more l sort b arms) bound k v named un lt low =
     false_or (first_of Talks b bound k m.last == v) (list_any (leads_to v) (arms_of Talks m arms bound (k + acts_in Talks b))) (not_equal (first_of Talks b bound k m.last) v (leads_else b bound k v m.last named.0 un lt low)) (arms_else m arms bound (k + acts_in Talks b) v named.1 un (omega arith) low)
 
 mutual
-  nodes_else : (m : Numbering) (b : Body Talks) (bound : Bound) (k v : ℕ) → Named b bound k → Unbound bound v → v < k → v < m.last → list_any (talk_leads v) (nodes_of m b bound k) ≡ false
+  nodes_else : (m : Numbering) (b : Body Talks) (bound : Bound) (k v : ℕ) → Named Talks b bound k → Unbound bound v → v < k → v < m.last → list_any (talk_leads v) (nodes_of m b bound k) ≡ false
   nodes_else m ends bound k v named un lt low = refl
   nodes_else m (again x) bound k v named un lt low = refl
   nodes_else m (binds x b) bound k v named un lt low = nodes_else m b ((x, k) ∷ bound) k v named (λ y. unbound_pick (bytes_eq x y) k v (bound_to y bound) (λ e. omega arith) (un y)) lt low
@@ -70,7 +71,7 @@ mutual
   nodes_else m (offers s (sends_to r) arms) bound k v named un lt low =
       false_or (list_any (leads_to v) (arms_of Talks m arms bound (suc k))) (list_any (talk_leads v) (nodes_of_arms m arms bound (suc k))) (arms_else m arms bound (suc k) v named un (omega arith) low) (arm_nodes_else m arms bound (suc k) v named un (omega arith) low)
 
-  arm_nodes_else : (m : Numbering) (arms : Branches Talks) (bound : Bound) (k v : ℕ) → NamedArms arms bound k → Unbound bound v → v < k → v < m.last → list_any (talk_leads v) (nodes_of_arms m arms bound k) ≡ false
+  arm_nodes_else : (m : Numbering) (arms : Branches Talks) (bound : Bound) (k v : ℕ) → NamedArms Talks arms bound k → Unbound bound v → v < k → v < m.last → list_any (talk_leads v) (nodes_of_arms m arms bound k) ≡ false
   arm_nodes_else m (one l sort b) bound k v named un lt low = nodes_else m b bound k v named un lt low
   arm_nodes_else m (more l sort b arms) bound k v named un lt low =
       list_any-append (talk_leads v) (nodes_of m b bound k) (nodes_of_arms m arms bound (k + acts_in Talks b))
@@ -181,7 +182,7 @@ talk_goes m p g s r arms xs from k inner fuel count labels labels' ended ended' 
 mutual
   pub goes : (m : Numbering) (p : Protocol_data) (g : IsGraphBy m p) (b : Body Talks) (fuel : ℕ) (bound : Bound) (here : Bool) (from k d inner : ℕ) (ended : Bool) (ls rest : List (List ℕ)) (pre post : List Node)
       → p.nodes ≡ pre ++ (nodes_of m b bound k ++ post) → length pre ≡ k → from ≤ k → k + acts_in Talks b ≤ m.last → acts_in Talks b < fuel → d ≤ 200 → inner ≤ d → (here ≡ true → inner < d) → body_fits Talks b (scene m.names.roles bound d k ls) ≡ true → length ls ≤ 256
-      → Recs (λ v. leads_from p.nodes v v) b here k → Named b bound k → Low bound k → Ins bound from k → m.names.labels ≡ grown (grown ls (labels_of Talks b)) rest → ((v : ℕ) → k ≤ v → v < k + acts_in Talks b → list_any (talk_leads v) post ≡ false)
+      → Recs Talks (λ v. leads_from p.nodes v v) b here k → Named Talks b bound k → Low bound k → Ins bound from k → m.names.labels ≡ grown (grown ls (labels_of Talks b)) rest → ((v : ℕ) → k ≤ v → v < k + acts_in Talks b → list_any (talk_leads v) post ≡ false)
       → met (visited fuel p inner) m.last from (first_of Talks b bound k m.last) (walk k (length ls) ended) ≡ Some (walk (k + acts_in Talks b) (length (grown ls (labels_of Talks b))) (ended || has_end Talks b))
   goes m p g ends fuel bound here from k d inner ended ls rest pre post e h le few fl du di dh fits room recs named low ins labels free =
       met_end (visited fuel p inner) m.last from k (length ls) ended (omega arith) ∙ walk_is k (k + 0) (length ls) (length ls) true (ended || true) (omega arith) refl (or_true ended)
@@ -234,7 +235,7 @@ mutual
 
   arms_go : (m : Numbering) (p : Protocol_data) (g : IsGraphBy m p) (arms : Branches Talks) (fuel : ℕ) (bound : Bound) (n k d inner : ℕ) (ended : Bool) (ls rest : List (List ℕ)) (pre post : List Node)
       → p.nodes ≡ pre ++ (nodes_of_arms m arms bound k ++ post) → length pre ≡ k → n < k → k + acts_in_arms Talks arms ≤ m.last → acts_in_arms Talks arms < fuel → d ≤ 200 → inner ≤ d → arms_fit Talks arms (scene m.names.roles bound d k ls) ≡ true → length ls ≤ 256
-      → RecsArms (λ v. leads_from p.nodes v v) arms k → NamedArms arms bound k → Low bound n → m.names.labels ≡ grown (grown ls (labels_of_arms Talks arms)) rest → ((v : ℕ) → k ≤ v → v < k + acts_in_arms Talks arms → list_any (talk_leads v) post ≡ false)
+      → RecsArms Talks (λ v. leads_from p.nodes v v) arms k → NamedArms Talks arms bound k → Low bound n → m.names.labels ≡ grown (grown ls (labels_of_arms Talks arms)) rest → ((v : ℕ) → k ≤ v → v < k + acts_in_arms Talks arms → list_any (talk_leads v) post ≡ false)
       → arms_met (visited fuel p inner) m.last (suc n) (arms_of Talks m arms bound k) (walk k (length ls) ended) ≡ Some (walk (k + acts_in_arms Talks arms) (length (grown ls (labels_of_arms Talks arms))) (ended || has_end_arms Talks arms))
   arms_go m p g (one l sort b) fuel bound n k d inner ended ls rest pre post e h lt few fl du di fits room recs named low labels free =
       let a : Arm = arm_of m l sort (first_of Talks b bound k m.last) in
@@ -247,12 +248,12 @@ mutual
   arms_go m p g (more l sort b arms) fuel bound n k d inner ended ls rest pre post e h lt few fl du di fits room recs named low labels free =
       let a : Arm = arm_of m l sort (first_of Talks b bound k m.last) in
       let j : ℕ = k + acts_in Talks b in
-      let q0 = both (has_room_for l (scene m.names.roles bound d k ls) && (body_fits Talks) b (scene m.names.roles bound d k (grown ls (l ∷ [])))) (arms_fit Talks arms (scene m.names.roles bound d j (grown (grown ls (l ∷ [])) (labels_of Talks b)))) fits in
+      let q0 = both (has_room_for l (scene m.names.roles bound d k ls) && body_fits Talks b (scene m.names.roles bound d k (grown ls (l ∷ [])))) (arms_fit Talks arms (scene m.names.roles bound d j (grown (grown ls (l ∷ [])) (labels_of Talks b)))) fits in
       let q = both (has_room_for l (scene m.names.roles bound d k ls)) (body_fits Talks b (scene m.names.roles bound d k (grown ls (l ∷ [])))) q0.0 in
       let all : List (List ℕ) = grown ls (l ∷ []) in
       let more_room : length all ≤ 256 = few_labels ls l room q.0 in
       let later : List (List ℕ) = grown all (labels_of Talks b) in
-      let later_room : length later ≤ 256 = fits_labels b (scene m.names.roles bound d k all) q.1 more_room in
+      let later_room : length later ≤ 256 = fits_labels Talks b (scene m.names.roles bound d k all) q.1 more_room in
       let parts : m.names.labels ≡ grown (grown later (labels_of_arms Talks arms)) rest = labels ∙ ap (λ z. grown z rest) (grown_append (labels_of Talks b) (labels_of_arms Talks arms) all) in
       let first : m.names.labels ≡ grown later (labels_of_arms Talks arms ++ rest) = parts ∙ sym (grown_append (labels_of_arms Talks arms) rest later) in
       one_goes (visited fuel p inner) m.last (suc n) a (arms_of Talks m arms bound j) (walk k (length ls) ended) (walk k (length all) ended) (walk j (length later) (ended || has_end Talks b))

@@ -322,7 +322,7 @@ more_grown p bound depth a b bs w v x u l g r =
       counts = omega arith;
       labels = grown_append (labels_of Talks g.body) (labels_of_arms Talks r.branches) (grown (plain_names 108 w.labels) (plain_name 108 a.label.0 ∷ [])) ∙ ap (λ z. grown z (labels_of_arms Talks r.branches)) labels ∙ r.labels;
       ended = r.ended ∙ ap (λ z. z || has_end_arms Talks r.branches) g.ended ∙ or_assoc w.ended (has_end Talks g.body) (has_end_arms Talks r.branches);
-      fits = two_true (has_room_for (plain_name 108 a.label.0) (scene roles bound depth w.count (plain_names 108 w.labels)) && (body_fits Talks) g.body (scene roles bound depth w.count (grown (plain_names 108 w.labels) (plain_name 108 a.label.0 ∷ []))))
+      fits = two_true (has_room_for (plain_name 108 a.label.0) (scene roles bound depth w.count (plain_names 108 w.labels)) && body_fits Talks g.body (scene roles bound depth w.count (grown (plain_names 108 w.labels) (plain_name 108 a.label.0 ∷ []))))
           (arms_fit Talks r.branches (scene roles bound depth (w.count + acts_in Talks g.body) (grown (grown (plain_names 108 w.labels) (plain_name 108 a.label.0 ∷ [])) (labels_of Talks g.body))))
           (two_true (has_room_for (plain_name 108 a.label.0) (scene roles bound depth w.count (plain_names 108 w.labels))) (body_fits Talks g.body (scene roles bound depth w.count (grown (plain_names 108 w.labels) (plain_name 108 a.label.0 ∷ []))))
           (l.fits bound roles depth w.count) (subst (λ (z : List (List ℕ)). body_fits Talks g.body (scene roles bound depth w.count z) ≡ true) (sym l.grows) g.fits))

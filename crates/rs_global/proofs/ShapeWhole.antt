@@ -20,8 +20,8 @@ use Rattle.rs_global.specs.Shapes.{talk_leads, leads_from, is_end_at, ends_last,
 use Rattle.rs_global.specs.Texts.{protocol_text}
 use Rattle.rs_global.specs.Trees.{ProtocolTree, roles_of}
 use Rattle.rs_global.specs.Writable.{AreWords}
-use Rattle.rs_global.proofs.CanonForms.{back_is, fits_named}
-use Rattle.rs_global.proofs.CanonNest.{Recs, tree_recs, fits_talks, scene}
+use Rattle.rs_global.proofs.CanonForms.{back_is}
+use Rattle.rs_global.proofs.CanonNest.{tree_recs, scene}
 use Rattle.rs_global.proofs.CanonOne.{is_talk, all_talks}
 use Rattle.rs_global.proofs.Existence.{nodes_length, tree_with, roles_with}
 use Rattle.rs_text.proofs.PlainNames.{plain_names, plain_count, plain_differ, plain_all, plain_role}
@@ -33,6 +33,7 @@ use Rattle.rs_bodies.specs.declared.dialects.Dialect.TheVariants.{Talks}
 use Rattle.rs_bodies.specs.Graph.{labels_of, acts_in, has_end, Numbering, first_of}
 use Rattle.rs_bodies.specs.Scenes.{first_scene}
 use Rattle.rs_bodies.specs.Fits.{body_fits}
+use Rattle.rs_bodies.proofs.Fitting.{fits_named, Recs, fits_heads}
 
 -- ---- the end of a graph
 
@@ -99,13 +100,13 @@ graph_shaped t fits =
     let all : list_all is_talk xs ≡ true = all_talks m t.body [] 0 in
     let size : length xs ≡ acts_in Talks t.body = nodes_length m t.body [] 0 in
     let last : last_of p.nodes ≡ acts_in Talks t.body = last_as xs c all ∙ size in
-    let few : 0 + acts_in Talks t.body ≤ 1024 = fits_talks t.body (first_scene (roles_of t) []) fits.body (omega arith) in
+    let few : 0 + acts_in Talks t.body ≤ 1024 = fits_heads Talks t.body (first_scene (roles_of t) []) fits.body (omega arith) in
     let sixteen : length (roles_of t) ≤ 16 = fits.few_roles in
     let two : length (roles_of t) ≡ suc (suc (length t.further)) = refl in
-    let recs : Recs (λ v. leads_from p.nodes v v) t.body false 0 = tree_recs m p t.body c refl refl (fits_named t.body (first_scene (roles_of t) []) fits.body) (λ v. leads_from p.nodes v v) (λ v h. back_is p v h) in
+    let recs : Recs Talks (λ v. leads_from p.nodes v v) t.body false 0 = tree_recs m p t.body c refl refl (fits_named Talks t.body (first_scene (roles_of t) []) fits.body) (λ v. leads_from p.nodes v v) (λ v h. back_is p v h) in
     let run : met (visited (suc (last_of p.nodes)) p 0) (acts_in Talks t.body) 0 p.root begin ≡ Some (record { count = 0 + acts_in Talks t.body; labels = length (grown [] (labels_of Talks t.body)); ended = false || c }) =
     goes m p (record { roles = refl; last = last }) t.body (suc (last_of p.nodes)) [] false 0 0 0 0 false [] [] [] (finish_of c) refl refl (omega arith) (omega arith) (omega arith) (omega arith) (omega arith) (λ e. absurd (cc e)) fits.body (omega arith) recs
-    (fits_named t.body (first_scene (roles_of t) []) fits.body) (λ x n e. absurd (cc e)) (λ x n e lt. lt) refl (λ v lo hi. finish_leads c v) in
+    (fits_named Talks t.body (first_scene (roles_of t) []) fits.body) (λ x n e. absurd (cc e)) (λ x n e lt. lt) refl (λ v lo hi. finish_leads c v) in
     shaped_by p (Some (record { count = 0 + acts_in Talks t.body; labels = length (grown [] (labels_of Talks t.body)); ended = false || c })) (omega arith) (omega arith) (omega arith)
     (ap (λ z. met (visited (suc (last_of p.nodes)) p 0) z 0 p.root begin) last ∙ run)
     (whole_by p (0 + acts_in Talks t.body) (length (grown [] (labels_of Talks t.body))) (false || c) (omega arith) (sym (ends_as xs c all)))

@@ -107,31 +107,6 @@ abbrev mutual
 
 -- ---- where names lead
 
--- names are bound and guarded
-abbrev mutual
-  pub Named : Body Acts → Bound → ℕ → Type 0
-  Named ends bound count = Unit {0}
-  Named (again x) bound count = is_guarded (bound_to x bound) count ≡ true
-  Named (binds x b) bound count = Named b ((x, count) ∷ bound) count
-  Named (acts s (with_mark r) l sort b) bound count = Named b bound (suc count)
-  Named (offers s (with_mark r) arms) bound count = NamedArms arms bound (suc count)
-
-  pub NamedArms : Branches Acts → Bound → ℕ → Type 0
-  NamedArms (one l sort b) bound count = Named b bound count
-  NamedArms (more l sort b arms) bound count = Named b bound count × NamedArms arms bound (count + acts_in Acts b)
-
-mutual
-  pub fits_named : (b : Body Acts) (s : Scene) → body_fits Acts b s ≡ true → Named b s.bound s.acts
-  fits_named ends s h = tt
-  fits_named (again x) s h = h
-  fits_named (binds x b) s h = fits_named b (in_rec x s) (both _ _ h).1
-  fits_named (acts x (with_mark y) l sort b) s h = fits_named b (with_label l (in_act s)) (both _ _ h).1
-  fits_named (offers x (with_mark y) arms) s h = fits_named_arms arms (in_braces s) (both _ _ h).1
-
-  fits_named_arms : (arms : Branches Acts) (s : Scene) → arms_fit Acts arms s ≡ true → NamedArms arms s.bound s.acts
-  fits_named_arms (one l sort b) s h = fits_named b (with_label l s) (both _ _ h).1
-  fits_named_arms (more l sort b arms) s h = (fits_named b (with_label l s) (both _ _ (both _ _ h).0).1, fits_named_arms arms (behind Acts b (with_label l s)) (both _ _ h).1)
-
 -- no name leads behind k
 abbrev pub Low : Bound → ℕ → Type 0
 Low bound k = (x : List ℕ) (m : ℕ) → bound_to x bound ≡ Some m → m < k + 1

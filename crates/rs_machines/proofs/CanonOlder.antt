@@ -18,11 +18,11 @@ use Rattle.rs_machines.specs.Spells.{Fits, SpellsMachine}
 use Rattle.rs_machines.specs.Shapes.{deeper}
 use Rattle.rs_machines.specs.Texts.{machine_text}
 use Rattle.rs_machines.specs.Trees.{MachineTree}
-use Rattle.rs_machines.proofs.CanonForms.{goes_back, back_is, Writing, role_as, label_as, sort_as, canon, canon_arms, Low, low_rec, low_up, fits_named, HasNames, HasNamesArms}
-use Rattle.rs_machines.proofs.CanonNest.{Recs, RecsArms, scene, deeper_within, wrapped_fits, RolesKnown, offers_fit, name_fits, tree_recs}
+use Rattle.rs_machines.proofs.CanonForms.{goes_back, back_is, Writing, role_as, label_as, sort_as, canon, canon_arms, Low, low_rec, low_up, HasNames, HasNamesArms}
+use Rattle.rs_machines.proofs.CanonNest.{scene, deeper_within, wrapped_fits, RolesKnown, offers_fit, name_fits, tree_recs}
 use Rattle.rs_machines.proofs.CanonNumbers.{role_known}
 use Rattle.rs_machines.proofs.CanonOne.{canonical_tree_is_one}
-use Rattle.rs_machines.proofs.CanonSame.{Fine, FineArms, Inv, InvAll, inv_rec, inv_act, inv_all, opened_for, canon_acts, canon_labels}
+use Rattle.rs_machines.proofs.CanonSame.{Inv, InvAll, inv_rec, inv_act, inv_all, opened_for, canon_acts, canon_labels}
 use Rattle.rs_machines.proofs.CanonWhole.{readable, is_fine}
 use Rattle.rs_machines.proofs.EnoughNames.{with_name, placed, spelt_enough, spelt_shaped}
 use Rattle.rs_machines.proofs.Existence.{tree_has_names, writing_of, canonical_tree, canonical_of}
@@ -35,6 +35,7 @@ use Rattle.rs_bodies.specs.Scenes.{first_scene}
 use Rattle.rs_bodies.specs.Fits.{has_room_for, body_fits, arms_fit}
 use Rattle.rs_bodies.specs.Trees.{Body, ends, again, binds, acts, offers, Branches, one, more}
 use Rattle.rs_bodies.specs.Dialects.{with_mark}
+use Rattle.rs_bodies.proofs.Fitting.{fits_named, Recs, RecsArms, Fine, FineArms}
 
 -- ---- labels that are written as they were
 
@@ -73,7 +74,7 @@ act_fits x y l sort c roles named d k ls a few room h =
 
 mutual
   older_fits : (w : Writing) (t : Body Acts) (bound named : Bound) (here : Bool) (k d inner : ℕ) (roles known ls : List (List ℕ)) → RolesKnown w known → list_all (kept w) (labels_of Acts t) ≡ true → HasNames w t → d ≤ 200 → inner ≤ d → (here ≡ true → inner < d) → body_fits Acts t (scene roles bound d k ls) ≡ true
-      → Recs (goes_back w.states) t here k → Fine (goes_back w.states) t bound k → Inv (goes_back w.states) bound named k → Low bound k → body_fits Acts (canon w t bound k) (scene known named inner k ls) ≡ true
+      → Recs Acts (goes_back w.states) t here k → Fine Acts (goes_back w.states) t bound k → Inv (goes_back w.states) bound named k → Low bound k → body_fits Acts (canon w t bound k) (scene known named inner k ls) ≡ true
   older_fits w ends bound named here k d inner roles known ls rs kt has du le lt h recs fine inv low = refl
   older_fits w (again x) bound named here k d inner roles known ls rs kt has du le lt h recs fine inv low = name_fits (goes_back w.states) bound named k x (bound_to x bound) refl fine inv
   older_fits w (binds x b) bound named here k d inner roles known ls rs kt has du le lt h recs fine inv low =
@@ -122,7 +123,7 @@ mutual
       (inv_all (goes_back w.states) bound (opened_for c k named) k low (inv_act (goes_back w.states) bound named k c (omega arith) refl inv)) (low_up bound k (suc k) (omega arith) low)))
 
   older_arms_fit : (w : Writing) (arms : Branches Acts) (bound named : Bound) (k d inner : ℕ) (roles known ls : List (List ℕ)) → RolesKnown w known → list_all (kept w) (labels_of_arms Acts arms) ≡ true → HasNamesArms w arms → d ≤ 200 → inner ≤ d → arms_fit Acts arms (scene roles bound d k ls) ≡ true
-      → RecsArms (goes_back w.states) arms k → FineArms (goes_back w.states) arms bound k → InvAll (goes_back w.states) bound named → Low bound k → arms_fit Acts (canon_arms w arms bound k) (scene known named inner k ls) ≡ true
+      → RecsArms Acts (goes_back w.states) arms k → FineArms Acts (goes_back w.states) arms bound k → InvAll (goes_back w.states) bound named → Low bound k → arms_fit Acts (canon_arms w arms bound k) (scene known named inner k ls) ≡ true
   older_arms_fit w (one l sort b) bound named k d inner roles known ls rs kt has du le h recs fine inv low =
       let kts = both (kept w l) (list_all (kept w) (labels_of Acts b)) kt in
       let p = both (has_room_for l (scene roles bound d k ls)) (body_fits Acts b (scene roles bound d k (grown ls (l ∷ [])))) h in
@@ -166,7 +167,7 @@ tree_older old t fits enough =
     let new : Names_data = names_of old t in
     let w : Writing = writing_of old t new in
     let kt : list_all (kept w) (labels_of Acts t.body) ≡ true = kept_in (labels_of Acts t.body) old.labels w refl refl in
-    let recs : Recs (goes_back (machine_of old t).states) t.body false 0 = tree_recs (numbering old t) (machine_of old t) t.body (has_end Acts t.body) refl refl (fits_named t.body (first_scene old.roles old.labels) fits.body) (goes_back (machine_of old t).states) (λ v h. back_is (machine_of old t) v h) in
+    let recs : Recs Acts (goes_back (machine_of old t).states) t.body false 0 = tree_recs (numbering old t) (machine_of old t) t.body (has_end Acts t.body) refl refl (fits_named Acts t.body (first_scene old.roles old.labels) fits.body) (goes_back (machine_of old t).states) (λ v h. back_is (machine_of old t) v h) in
     record {
       names_are = ap (λ z. record { roles = old.roles; labels = grown old.labels z }) (canon_labels w t.body [] 0 ∙ kept_map w (labels_of Acts t.body) kt);
       fits = record {

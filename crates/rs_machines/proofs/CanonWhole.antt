@@ -14,10 +14,10 @@ use Rattle.rs_machines.specs.Spells.{Fits, SpellsMachine}
 use Rattle.rs_machines.specs.Writable.{AreWords, AreWordsIn, AreWordsInArms}
 use Rattle.rs_text.specs.Lexemes.{next_lexeme}
 use Rattle.rs_machines.specs.Canonical.{IsMachineTextShaped, IsCanonical, IsCanonicalMachineText}
-use Rattle.rs_machines.proofs.CanonForms.{goes_back, back_is, Writing, role_as, label_as, sort_as, wrapped, canon, canon_arms, Named, fits_named, Low, low_rec, low_up, HasRole, HasLabel, HasNames, HasNamesArms}
+use Rattle.rs_machines.proofs.CanonForms.{goes_back, back_is, Writing, role_as, label_as, sort_as, wrapped, canon, canon_arms, Low, low_rec, low_up, HasRole, HasLabel, HasNames, HasNamesArms}
 use Rattle.rs_machines.proofs.CanonOne.{canonical_tree_is_one}
-use Rattle.rs_machines.proofs.CanonSame.{Fine, fine, Same, same, SameNumbers, canon_acts, canon_end}
-use Rattle.rs_machines.proofs.CanonNest.{Recs, tree_recs, canon_fits, canon_grown, fits_acts}
+use Rattle.rs_machines.proofs.CanonSame.{fine, Same, same, SameNumbers, canon_acts, canon_end}
+use Rattle.rs_machines.proofs.CanonNest.{tree_recs, canon_fits, canon_grown}
 use Rattle.rs_machines.proofs.CanonNumbers.{role_place, label_place, role_known, label_known, Sound, sound_parts}
 use Rattle.rs_machines.proofs.Existence.{role_stands, label_stands, tree_has_names, writing_of, canonical_tree, canonical_of}
 use Rattle.rs_machines.proofs.StateNames.{state_name_law}
@@ -29,6 +29,7 @@ use Rattle.rs_bodies.specs.Graph.{labels_of, acts_in, acts_in_arms, has_end, rol
 use Rattle.rs_bodies.specs.Scenes.{first_scene}
 use Rattle.rs_machines.proofs.Spelt.{one_spelling}
 use Rattle.rs_bodies.specs.Dialects.{with_mark}
+use Rattle.rs_bodies.proofs.Fitting.{Named, fits_named, Fine, Recs, fits_heads}
 
 -- ---- the canonical tree of what a tree spells
 
@@ -40,10 +41,10 @@ record Ready (old : Names_data) (t : MachineTree) (names : Names_data) : Type 0 
 written_labels : (old : Names_data) (t : MachineTree) (names : Names_data) → AreEnoughFor names (machine_of old t) → grown names.labels (labels_of Acts (canonical_tree old t names).body) ≡ names.labels
 written_labels old t names enough = let w = writing_of old t names in canon_grown w t.body [] 0 names.labels (λ l has. label_known w l has) (tree_has_names old t names enough)
 
-named : (old : Names_data) (t : MachineTree) → Fits old t → Named t.body [] 0
-named old t fits = fits_named t.body (first_scene old.roles old.labels) fits.body
+named : (old : Names_data) (t : MachineTree) → Fits old t → Named Acts t.body [] 0
+named old t fits = fits_named Acts t.body (first_scene old.roles old.labels) fits.body
 
-pub is_fine : (old : Names_data) (t : MachineTree) → Fits old t → Fine (goes_back (machine_of old t).states) t.body [] 0
+pub is_fine : (old : Names_data) (t : MachineTree) → Fits old t → Fine Acts (goes_back (machine_of old t).states) t.body [] 0
 is_fine old t fits = fine (numbering old t) (machine_of old t) t.body [] 0 0 [] (done_of (has_end Acts t.body)) refl refl (named old t fits) (λ x m i. absurd (cc i)) (λ x m i lt. lt) (λ lt. absurd (omega arith))
 
 numbers_same : (old : Names_data) (t : MachineTree) (names : Names_data) → Ready old t names → SameNumbers (writing_of old t names) (numbering names (canonical_tree old t names))
@@ -56,7 +57,7 @@ numbers_same old t names r =
     }
 
 few_acts : (old : Names_data) (t : MachineTree) → Fits old t → 0 + acts_in Acts t.body ≤ 256
-few_acts old t fits = fits_acts t.body (first_scene old.roles old.labels) fits.body (omega arith)
+few_acts old t fits = fits_heads Acts t.body (first_scene old.roles old.labels) fits.body (omega arith)
 
 abbrev machine : Role → List State → ℕ → Machine_data
 machine role states start = record { role = role; states = states; start = start }
@@ -78,7 +79,7 @@ written_machine old t names r =
 written_fits : (old : Names_data) (t : MachineTree) (names : Names_data) → Ready old t names → Fits names (canonical_tree old t names)
 written_fits old t names r =
     let w = writing_of old t names in
-    let recs : Recs (goes_back (machine_of old t).states) t.body false 0 = tree_recs (numbering old t) (machine_of old t) t.body (has_end Acts t.body) refl refl (named old t r.fits) (goes_back (machine_of old t).states) (λ v h. back_is (machine_of old t) v h) in
+    let recs : Recs Acts (goes_back (machine_of old t).states) t.body false 0 = tree_recs (numbering old t) (machine_of old t) t.body (has_end Acts t.body) refl refl (named old t r.fits) (goes_back (machine_of old t).states) (λ v h. back_is (machine_of old t) v h) in
     record {
       role = role_known w t.role r.enough.role;
       body = canon_fits w t.body [] [] false 0 0 0 old.roles names.roles old.labels names.labels (λ s has. role_known w s has) (λ l has. label_known w l has) (tree_has_names old t names r.enough) (omega arith) (omega arith) (λ e. absurd (cc e)) r.fits.body recs (is_fine old t r.fits) (λ x m e b lt. absurd (cc e)) (λ x m e. absurd (cc e));

@@ -15,7 +15,7 @@ use Rattle.rs_machines.specs.Canonical.{IsMachineTextShaped, name_of_state, IsAc
 use Rattle.rs_machines.specs.Enough.{AreEnoughFor}
 use Rattle.rs_machines.specs.Texts.{machine_text}
 use Rattle.rs_bodies.specs.declared.dialects.Mark.{Mark}
-use Rattle.rs_machines.proofs.CanonForms.{goes_back, back_is, is_back, or_empty, Writing, role_as, label_as, sort_as, wrapped, canon, canon_arms, Named, NamedArms, fits_named, Low, low_rec, low_up, Ins, ins_rec, HasNames, HasNamesArms}
+use Rattle.rs_machines.proofs.CanonForms.{goes_back, back_is, is_back, or_empty, Writing, role_as, label_as, sort_as, wrapped, canon, canon_arms, Low, low_rec, low_up, Ins, ins_rec, HasNames, HasNamesArms}
 use Rattle.rs_text.proofs.Basics.{or_end, seam}
 use Rattle.rs_bodies.specs.declared.dialects.Dialect.TheVariants.{Acts}
 use Rattle.rs_bodies.specs.Trees.{Body, ends, again, binds, acts, offers, Branches, one, more}
@@ -23,6 +23,7 @@ use Rattle.rs_bodies.specs.Graph.{acts_in, acts_in_arms, has_end, has_end_arms, 
 use Rattle.rs_bodies.specs.Fits.{is_guarded}
 use Rattle.rs_bodies.specs.Scenes.{first_scene}
 use Rattle.rs_bodies.specs.Dialects.{with_mark}
+use Rattle.rs_bodies.proofs.Fitting.{Named, NamedArms, fits_named}
 
 mutual
   pub states_length : (m : Numbering) (b : Body Acts) (bound : Bound) (k : ℕ) → length (states_of m b bound k) ≡ acts_in Acts b
@@ -79,7 +80,7 @@ FewLabels names arms = (place : ℕ) (arm : Arm) → slice_get arms place ≡ So
 
 mutual
   draws : (w : Writing) (p : Machine_data) (b : Body Acts) (bound : Bound) (from k : ℕ) (pre post : List State) → w.states ≡ p.states → AreEnoughFor w.names p → p.states ≡ pre ++ (states_of w.numbers b bound k ++ post) → length pre ≡ k → from ≤ k
-      → (has_end Acts b ≡ true → slice_get p.states w.numbers.last ≡ Some Done) → Named b bound k → Low bound k → Ins bound from k → Draws w.names p from (first_of Acts b bound k w.numbers.last) (canon w b bound k)
+      → (has_end Acts b ≡ true → slice_get p.states w.numbers.last ≡ Some Done) → Named Acts b bound k → Low bound k → Ins bound from k → Draws w.names p from (first_of Acts b bound k w.numbers.last) (canon w b bound k)
   draws w p ends bound from k pre post n enough e h le end named low ins = end refl
   draws w p (again x) bound from k pre post n enough e h le end named low ins = name_draws w p from k (bound_to x bound) x bound refl named ins
   draws w p (binds x b) bound from k pre post n enough e h le end named low ins = draws w p b ((x, k) ∷ bound) from k pre post n enough e h le end named (low_rec bound k x low) (ins_rec bound from k x ins)
@@ -127,7 +128,7 @@ mutual
   two_arms w p (more l sort b arms) s r k a bound j all act each = (a, arm_of w.numbers l sort (first_of Acts b bound j w.numbers.last), arms_of Acts w.numbers arms bound (j + acts_in Acts b), act, each)
 
   draws_arms : (w : Writing) (p : Machine_data) (arms : Branches Acts) (bound : Bound) (state k : ℕ) (pre post : List State) → w.states ≡ p.states → AreEnoughFor w.names p → p.states ≡ pre ++ (states_of_arms w.numbers arms bound k ++ post) → length pre ≡ k → state < k
-      → FewLabels w.names (arms_of Acts w.numbers arms bound k) → (has_end_arms Acts arms ≡ true → slice_get p.states w.numbers.last ≡ Some Done) → NamedArms arms bound k → Low bound state → DrawsArms w.names p (suc state) (arms_of Acts w.numbers arms bound k) (canon_arms w arms bound k)
+      → FewLabels w.names (arms_of Acts w.numbers arms bound k) → (has_end_arms Acts arms ≡ true → slice_get p.states w.numbers.last ≡ Some Done) → NamedArms Acts arms bound k → Low bound state → DrawsArms w.names p (suc state) (arms_of Acts w.numbers arms bound k) (canon_arms w arms bound k)
   draws_arms w p (one l sort b) bound state k pre post n enough e h lt few end named low = (
     (label_stands w l (few 0 (arm_of w.numbers l sort (first_of Acts b bound k w.numbers.last)) refl), refl),
     draws w p b bound (suc state) k pre post n enough e h (omega arith) end named (low_up bound state k (omega arith) low) (λ x m i j. let a : m < state + 1 = low x m i in omega arith),
@@ -188,7 +189,7 @@ end_stands old t h = at_seam (machine_of old t).states (states_of (numbering old
 -- the canonical form of a tree, for names that are enough
 pub canon_draws : (old : Names_data) (t : MachineTree) (names : Names_data) → Fits old t → AreEnoughFor names (machine_of old t) → Draws names (machine_of old t) 0 (machine_of old t).start (canon (writing_of old t names) t.body [] 0)
 canon_draws old t names fits enough =
-    draws (writing_of old t names) (machine_of old t) t.body [] 0 0 [] (done_of (has_end Acts t.body)) refl enough refl refl (omega arith) (end_stands old t) (fits_named t.body (first_scene old.roles old.labels) fits.body) (λ x m i. absurd (cc i)) (λ x m i lt. lt)
+    draws (writing_of old t names) (machine_of old t) t.body [] 0 0 [] (done_of (has_end Acts t.body)) refl enough refl refl (omega arith) (end_stands old t) (fits_named Acts t.body (first_scene old.roles old.labels) fits.body) (λ x m i. absurd (cc i)) (λ x m i lt. lt)
 
 abbrev pub canonical_tree : Names_data → MachineTree → Names_data → MachineTree
 canonical_tree old t names = record { role = role_as (writing_of old t names) t.role; body = canon (writing_of old t names) t.body [] 0 }

@@ -20,6 +20,7 @@ use Rattle.rs_text.proofs.Arms.{arm_written}
 use Rattle.rs_bodies.specs.declared.dialects.Dialect.TheVariants.{Acts}
 use Rattle.rs_bodies.specs.Trees.{Body, ends, again, binds, acts, offers, Branches, one, more, body_signs, branch_signs, ends_by_name, ends_a_name}
 use Rattle.rs_bodies.specs.Dialects.{mark_sign, with_mark}
+use Rattle.rs_bodies.specs.Dialects.{with_mark}
 
 -- ---- bodies
 

@@ -15,8 +15,8 @@ use Rattle.rs_text.specs.Names.{Bound, bound_to, number_or, grown, is_among}
 use Rattle.rs_machines.specs.declared.shapes.Walk.{Walk}
 use Rattle.rs_machines.specs.Machines.{state_of, act_of, states_of, states_of_arms}
 use Rattle.rs_machines.specs.Shapes.{leads_to, act_leads, leads_from, last_of, met, or_none, arms_met, closed, deeper, are_more, is_none, nested, is_fit, one_more, act_met, state_met, visited}
-use Rattle.rs_machines.proofs.CanonForms.{Low, low_rec, low_up, Ins, ins_rec, Named, NamedArms, leads_as}
-use Rattle.rs_machines.proofs.CanonNest.{Recs, RecsArms, scene}
+use Rattle.rs_machines.proofs.CanonForms.{Low, low_rec, low_up, Ins, ins_rec, leads_as}
+use Rattle.rs_machines.proofs.CanonNest.{scene}
 use Rattle.rs_machines.proofs.Existence.{states_length, arms_length, one_longer, at_seam}
 use Rattle.rs_text.proofs.Basics.{both, or_true, or_false, or_assoc, false_or, and_false, not_equal}
 use Rattle.rs_bodies.specs.declared.dialects.Dialect.TheVariants.{Acts}
@@ -24,6 +24,7 @@ use Rattle.rs_bodies.specs.Trees.{Body, ends, again, binds, acts, offers, Branch
 use Rattle.rs_bodies.specs.Graph.{labels_of, acts_in, acts_in_arms, has_end, has_end_arms, Numbering, role_of, first_of, arm_of, arms_of}
 use Rattle.rs_bodies.specs.Fits.{is_guarded, has_room_for, body_fits, arms_fit}
 use Rattle.rs_bodies.specs.Dialects.{with_mark}
+use Rattle.rs_bodies.proofs.Fitting.{Named, NamedArms, Recs, RecsArms}
 
 abbrev walk : ℕ → Bool → Walk
 walk count ended = record { count = count; ended = ended }
@@ -45,20 +46,20 @@ name_else : (x : List ℕ) (bound : Bound) (k v : ℕ) (found : Option ℕ) → 
 name_else x bound k v None e g un h = absurd (cc g)
 name_else x bound k v (Some n) e g un h = un x (e ∙ ap Some h)
 
-leads_else : (b : Body Acts) (bound : Bound) (k v last : ℕ) → Named b bound k → Unbound bound v → v < k → v < last → first_of Acts b bound k last ≢ v
+leads_else : (b : Body Acts) (bound : Bound) (k v last : ℕ) → Named Acts b bound k → Unbound bound v → v < k → v < last → first_of Acts b bound k last ≢ v
 leads_else ends bound k v last named un lt low h = omega arith
 leads_else (again x) bound k v last named un lt low h = name_else x bound k v (bound_to x bound) refl named un h
 leads_else (binds x b) bound k v last named un lt low h = leads_else b ((x, k) ∷ bound) k v last named (λ y. unbound_pick (bytes_eq x y) k v (bound_to y bound) (λ e. omega arith) (un y)) lt low h
 leads_else (acts s (with_mark r) l sort b) bound k v last named un lt low h = omega arith
 leads_else (offers s (with_mark r) arms) bound k v last named un lt low h = omega arith
 
-arms_else : (m : Numbering) (arms : Branches Acts) (bound : Bound) (k v : ℕ) → NamedArms arms bound k → Unbound bound v → v < k → v < m.last → list_any (leads_to v) (arms_of Acts m arms bound k) ≡ false
+arms_else : (m : Numbering) (arms : Branches Acts) (bound : Bound) (k v : ℕ) → NamedArms Acts arms bound k → Unbound bound v → v < k → v < m.last → list_any (leads_to v) (arms_of Acts m arms bound k) ≡ false
 arms_else m (one l sort b) bound k v named un lt low = false_or (first_of Acts b bound k m.last == v) false (not_equal (first_of Acts b bound k m.last) v (leads_else b bound k v m.last named un lt low)) refl
 arms_else m (more l sort b arms) bound k v named un lt low =
     false_or (first_of Acts b bound k m.last == v) (list_any (leads_to v) (arms_of Acts m arms bound (k + acts_in Acts b))) (not_equal (first_of Acts b bound k m.last) v (leads_else b bound k v m.last named.0 un lt low)) (arms_else m arms bound (k + acts_in Acts b) v named.1 un (omega arith) low)
 
 mutual
-  states_else : (m : Numbering) (b : Body Acts) (bound : Bound) (k v : ℕ) → Named b bound k → Unbound bound v → v < k → v < m.last → list_any (act_leads v) (states_of m b bound k) ≡ false
+  states_else : (m : Numbering) (b : Body Acts) (bound : Bound) (k v : ℕ) → Named Acts b bound k → Unbound bound v → v < k → v < m.last → list_any (act_leads v) (states_of m b bound k) ≡ false
   states_else m ends bound k v named un lt low = refl
   states_else m (again x) bound k v named un lt low = refl
   states_else m (binds x b) bound k v named un lt low = states_else m b ((x, k) ∷ bound) k v named (λ y. unbound_pick (bytes_eq x y) k v (bound_to y bound) (λ e. omega arith) (un y)) lt low
@@ -69,7 +70,7 @@ mutual
   states_else m (offers s (with_mark r) arms) bound k v named un lt low =
       false_or (act_leads v (act_of m s r (arms_of Acts m arms bound (suc k)))) (list_any (act_leads v) (states_of_arms m arms bound (suc k))) (leads_as v r (role_of m s) (arms_of Acts m arms bound (suc k)) ∙ arms_else m arms bound (suc k) v named un (omega arith) low) (arm_states_else m arms bound (suc k) v named un (omega arith) low)
 
-  arm_states_else : (m : Numbering) (arms : Branches Acts) (bound : Bound) (k v : ℕ) → NamedArms arms bound k → Unbound bound v → v < k → v < m.last → list_any (act_leads v) (states_of_arms m arms bound k) ≡ false
+  arm_states_else : (m : Numbering) (arms : Branches Acts) (bound : Bound) (k v : ℕ) → NamedArms Acts arms bound k → Unbound bound v → v < k → v < m.last → list_any (act_leads v) (states_of_arms m arms bound k) ≡ false
   arm_states_else m (one l sort b) bound k v named un lt low = states_else m b bound k v named un lt low
   arm_states_else m (more l sort b arms) bound k v named un lt low =
       list_any-append (act_leads v) (states_of m b bound k) (states_of_arms m arms bound (k + acts_in Acts b))
@@ -144,7 +145,7 @@ act_goes m p g s r arms xs from k inner fuel count ended ended' pre post e h le 
 mutual
   pub goes : (m : Numbering) (p : Machine_data) (g : last_of p.states ≡ m.last) (b : Body Acts) (fuel : ℕ) (bound : Bound) (here : Bool) (from k d inner : ℕ) (ended : Bool) (roles ls : List (List ℕ)) (pre post : List State)
       → p.states ≡ pre ++ (states_of m b bound k ++ post) → length pre ≡ k → from ≤ k → k + acts_in Acts b ≤ m.last → acts_in Acts b < fuel → d ≤ 200 → inner ≤ d → (here ≡ true → inner < d) → body_fits Acts b (scene roles bound d k ls) ≡ true
-      → Recs (λ v. leads_from p.states v v) b here k → Named b bound k → Low bound k → Ins bound from k → ((v : ℕ) → k ≤ v → v < k + acts_in Acts b → list_any (act_leads v) post ≡ false)
+      → Recs Acts (λ v. leads_from p.states v v) b here k → Named Acts b bound k → Low bound k → Ins bound from k → ((v : ℕ) → k ≤ v → v < k + acts_in Acts b → list_any (act_leads v) post ≡ false)
       → met (visited fuel p inner) m.last from (first_of Acts b bound k m.last) (walk k ended) ≡ Some (walk (k + acts_in Acts b) (ended || has_end Acts b))
   goes m p g ends fuel bound here from k d inner ended roles ls pre post e h le few fl du di dh fits recs named low ins free =
       met_end (visited fuel p inner) m.last from k ended (omega arith) ∙ walk_is k (k + 0) true (ended || true) (omega arith) (or_true ended)
@@ -188,7 +189,7 @@ mutual
 
   arms_go : (m : Numbering) (p : Machine_data) (g : last_of p.states ≡ m.last) (arms : Branches Acts) (fuel : ℕ) (bound : Bound) (n k d inner : ℕ) (ended : Bool) (roles ls : List (List ℕ)) (pre post : List State)
       → p.states ≡ pre ++ (states_of_arms m arms bound k ++ post) → length pre ≡ k → n < k → k + acts_in_arms Acts arms ≤ m.last → acts_in_arms Acts arms < fuel → d ≤ 200 → inner ≤ d → arms_fit Acts arms (scene roles bound d k ls) ≡ true
-      → RecsArms (λ v. leads_from p.states v v) arms k → NamedArms arms bound k → Low bound n → ((v : ℕ) → k ≤ v → v < k + acts_in_arms Acts arms → list_any (act_leads v) post ≡ false)
+      → RecsArms Acts (λ v. leads_from p.states v v) arms k → NamedArms Acts arms bound k → Low bound n → ((v : ℕ) → k ≤ v → v < k + acts_in_arms Acts arms → list_any (act_leads v) post ≡ false)
       → arms_met (visited fuel p inner) m.last (suc n) (arms_of Acts m arms bound k) (walk k ended) ≡ Some (walk (k + acts_in_arms Acts arms) (ended || has_end_arms Acts arms))
   arms_go m p g (one l sort b) fuel bound n k d inner ended roles ls pre post e h lt few fl du di fits recs named low free =
       let a : Arm = arm_of m l sort (first_of Acts b bound k m.last) in

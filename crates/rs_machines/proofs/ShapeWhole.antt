@@ -22,8 +22,8 @@ use Rattle.rs_machines.specs.Texts.{machine_text}
 use Rattle.rs_machines.specs.Trees.{MachineTree}
 use Rattle.rs_machines.specs.Writable.{AreWords}
 use Rattle.rs_machines.proofs.Acts.{is_act}
-use Rattle.rs_machines.proofs.CanonForms.{back_is, fits_named}
-use Rattle.rs_machines.proofs.CanonNest.{Recs, tree_recs, fits_acts}
+use Rattle.rs_machines.proofs.CanonForms.{back_is}
+use Rattle.rs_machines.proofs.CanonNest.{tree_recs}
 use Rattle.rs_machines.proofs.EndsLast.{all_acts}
 use Rattle.rs_machines.proofs.Existence.{states_length}
 use Rattle.rs_text.proofs.PlainNames.{plain_name, plain_names, plain_place, plain_role}
@@ -34,6 +34,7 @@ use Rattle.rs_text.proofs.Basics.{some_is, both, seam}
 use Rattle.rs_bodies.specs.declared.dialects.Dialect.TheVariants.{Acts}
 use Rattle.rs_bodies.specs.Graph.{acts_in, has_end, Numbering, first_of}
 use Rattle.rs_bodies.specs.Scenes.{first_scene}
+use Rattle.rs_bodies.proofs.Fitting.{fits_named, Recs, fits_heads}
 
 -- ---- the end of a machine
 
@@ -102,11 +103,11 @@ tree_walks old t fits =
     let all : list_all is_act xs ≡ true = all_acts m t.body [] 0 in
     let size : length xs ≡ acts_in Acts t.body = states_length m t.body [] 0 in
     let last : last_of p.states ≡ acts_in Acts t.body = last_as xs c all ∙ size in
-    let few : 0 + acts_in Acts t.body ≤ 256 = fits_acts t.body (first_scene old.roles old.labels) fits.body (omega arith) in
-    let recs : Recs (λ v. leads_from p.states v v) t.body false 0 = tree_recs m p t.body c refl refl (fits_named t.body (first_scene old.roles old.labels) fits.body) (λ v. leads_from p.states v v) (λ v h. back_is p v h) in
+    let few : 0 + acts_in Acts t.body ≤ 256 = fits_heads Acts t.body (first_scene old.roles old.labels) fits.body (omega arith) in
+    let recs : Recs Acts (λ v. leads_from p.states v v) t.body false 0 = tree_recs m p t.body c refl refl (fits_named Acts t.body (first_scene old.roles old.labels) fits.body) (λ v. leads_from p.states v v) (λ v h. back_is p v h) in
     let run : met (visited (suc (last_of p.states)) p 0) (acts_in Acts t.body) 0 p.start begin ≡ Some (record { count = 0 + acts_in Acts t.body; ended = false || c }) =
     goes m p last t.body (suc (last_of p.states)) [] false 0 0 0 0 false old.roles old.labels [] (done_of c) refl refl (omega arith) (omega arith) (omega arith) (omega arith) (omega arith) (λ e. absurd (cc e)) fits.body recs
-    (fits_named t.body (first_scene old.roles old.labels) fits.body) (λ x n e. absurd (cc e)) (λ x n e lt. lt) (λ v lo hi. done_leads c v) in
+    (fits_named Acts t.body (first_scene old.roles old.labels) fits.body) (λ x n e. absurd (cc e)) (λ x n e lt. lt) (λ v lo hi. done_leads c v) in
     walks_by p (Some (record { count = 0 + acts_in Acts t.body; ended = false || c })) (omega arith)
     (ap (λ z. met (visited (suc (last_of p.states)) p 0) z 0 p.start begin) last ∙ run)
     (whole_by p (0 + acts_in Acts t.body) (false || c) (omega arith) (sym (ends_as xs c all)))

@@ -13,6 +13,7 @@ use Rattle.rs_bodies.specs.declared.dialects.Dialect.TheVariants.{Acts}
 use Rattle.rs_bodies.specs.Graph.{labels_of, labels_of_arms}
 use Rattle.rs_bodies.specs.Trees.{Body, ends, again, binds, acts, offers, Branches, one, more, body_signs, branch_signs}
 use Rattle.rs_bodies.specs.Dialects.{mark_sign, with_mark}
+use Rattle.rs_bodies.specs.Dialects.{with_mark}
 
 word_if : (a b : Bool) (l : List ℕ) (ts : List Sign) → (a ≡ true → l ≡ codes "rec") → (b ≡ true → l ≡ codes "end") → labels_among true ((if a then rec_word else if b then end_word else plain l) ∷ ts) ≡ l ∷ labels_among false ts
 word_if true b l ts e f = ap (λ z. z ∷ labels_among false ts) (sym (e refl))
