@@ -17,7 +17,7 @@ use crate::transcript_texts::push_transcripts;
 use crate::verdicts::Verdict;
 use rs_core::{Outcome, Run, SeededActor, Transcripts};
 use rs_documents::Document;
-use rs_exec::{ExecFault, run_inline};
+use rs_exec::{ExecFault, Ran, run_inline};
 use rs_model::{Names, NoMemory, Role};
 use rs_safety::Accepted;
 use rs_text::Text;
@@ -132,7 +132,10 @@ fn run_accepted(
     let actors = actors_of(alloc, accepted.machines().len(), options.seed)?;
     let capacity = capacity_of(options.ring, accepted.room());
     match run_inline(alloc, accepted, actors, capacity, options.limit) {
-        Ok(Run { outcome, .. }) => match outcome {
+        Ok(Ran {
+            run: Run { outcome, .. },
+            ..
+        }) => match outcome {
             Outcome::Ended(transcripts) => ended_answer(alloc, names, &transcripts),
             Outcome::Stopped(role) => stopped_answer(alloc, names, role),
         },

@@ -11,3 +11,4 @@ pub mod Turns
 pub mod Runs
 pub mod Draws
 pub mod Choosing
+pub mod Kinds

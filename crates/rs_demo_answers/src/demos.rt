@@ -17,7 +17,7 @@ use rs_answers::{
 use rs_core::{Outcome, Run};
 use rs_demos::{Demo, DemoActor, DemoFault, demo_actors, demo_document, demo_output};
 use rs_documents::{Document, read_document};
-use rs_exec::{ExecFault, run_inline};
+use rs_exec::{ExecFault, Ran, run_inline};
 use rs_model::{Names, NoMemory};
 use rs_safety::Accepted;
 use rs_words::DEFAULT_BOUND;
@@ -72,7 +72,10 @@ fn run_session(
     ensures { IfOk result (TellsRun kind actors.items names.now accepted.now.machines capacity) }
 {
     match run_inline(alloc, accepted, actors, capacity, DEMO_LIMIT) {
-        Ok(Run { outcome, actors }) => match outcome {
+        Ok(Ran {
+            run: Run { outcome, actors },
+            ..
+        }) => match outcome {
             Outcome::Ended(_) => ended_answer(alloc, kind, actors.as_slice()),
             Outcome::Stopped(role) => stopped_answer(alloc, names, role),
         },

@@ -17,13 +17,16 @@ use Rattle.rs_global.specs.Canonical as protocol
 use Rattle.rs_global.specs.Canonical.{IsCanonicalText}
 use Rattle.rs_global.specs.Texts as protocol_texts
 use Rattle.rs_global.specs.Trees as protocol_trees
+use Rattle.rs_bodies.specs.Dialects.{sends_to}
+use Rattle.rs_bodies.specs.Trees as bodies
+use Rattle.rs_bodies.specs.Dialects.{with_mark}
 use Rattle.rs_machines.specs.Canonical as machine'
 use Rattle.rs_machines.specs.Canonical.{IsCanonicalMachineText}
 use Rattle.rs_machines.specs.Machines.{state_of}
 use Rattle.rs_machines.specs.Texts as machine_texts
 use Rattle.rs_machines.specs.Trees as machine_trees
-use Rattle.rs_machines.specs.declared.marks.Mark.{Mark}
-use Rattle.rs_machines.specs.declared.marks.Mark.TheVariants as mark
+use Rattle.rs_bodies.specs.declared.dialects.Mark.{Mark}
+use Rattle.rs_bodies.specs.declared.dialects.Mark.TheVariants as mark
 use Rattle.rs_demos.specs.Sessions.{role, arm, double_protocol, double_kernel, stream_protocol, stream_source, demo_names}
 use Rattle.rs_documents.proofs.Lines.{without}
 use Rattle.rs_demos.specs.Texts.{IsDemoText}
@@ -106,27 +109,27 @@ double_tree = record {
   first = codes "K";
   second = codes "S";
   further = codes "T" ∷ [];
-  body = protocol_trees.binds (codes "X0") (protocol_trees.talks (codes "K") (codes "S") (codes "ready") None
-      (protocol_trees.talks (codes "T") (codes "K") (codes "ready") None
-      (protocol_trees.offers (codes "S") (codes "K")
-      (protocol_trees.more (codes "copy") (Some sort.Octets)
-      (protocol_trees.talks (codes "K") (codes "T") (codes "copy") (Some sort.Octets) (protocol_trees.again (codes "X0")))
-      (protocol_trees.one (codes "stop") None
-      (protocol_trees.talks (codes "K") (codes "S") (codes "ready") None
-      (protocol_trees.talks (codes "K") (codes "T") (codes "stop") None protocol_trees.ends)))))));
+  body = bodies.binds (codes "X0") (bodies.acts (codes "K") (sends_to (codes "S")) (codes "ready") None
+      (bodies.acts (codes "T") (sends_to (codes "K")) (codes "ready") None
+      (bodies.offers (codes "S") (sends_to (codes "K"))
+      (bodies.more (codes "copy") (Some sort.Octets)
+      (bodies.acts (codes "K") (sends_to (codes "T")) (codes "copy") (Some sort.Octets) (bodies.again (codes "X0")))
+      (bodies.one (codes "stop") None
+      (bodies.acts (codes "K") (sends_to (codes "S")) (codes "ready") None
+      (bodies.acts (codes "K") (sends_to (codes "T")) (codes "stop") None bodies.ends)))))));
 }
 
 double_kernel_tree : machine_trees.MachineTree
 double_kernel_tree = record {
   role = codes "K";
-  body = machine_trees.acts (codes "S") mark.Puts (codes "ready") None (machine_trees.binds (codes "X1")
-      (machine_trees.acts (codes "S") mark.Puts (codes "ready") None
-      (machine_trees.acts (codes "T") mark.Takes (codes "ready") None
-      (machine_trees.offers (codes "S") mark.Takes
-      (machine_trees.more (codes "copy") (Some sort.Octets)
-      (machine_trees.acts (codes "T") mark.Puts (codes "copy") (Some sort.Octets) (machine_trees.again (codes "X1")))
-      (machine_trees.one (codes "stop") None
-      (machine_trees.acts (codes "T") mark.Puts (codes "stop") None machine_trees.ends)))))));
+  body = bodies.acts (codes "S") (with_mark mark.Puts) (codes "ready") None (bodies.binds (codes "X1")
+      (bodies.acts (codes "S") (with_mark mark.Puts) (codes "ready") None
+      (bodies.acts (codes "T") (with_mark mark.Takes) (codes "ready") None
+      (bodies.offers (codes "S") (with_mark mark.Takes)
+      (bodies.more (codes "copy") (Some sort.Octets)
+      (bodies.acts (codes "T") (with_mark mark.Puts) (codes "copy") (Some sort.Octets) (bodies.again (codes "X1")))
+      (bodies.one (codes "stop") None
+      (bodies.acts (codes "T") (with_mark mark.Puts) (codes "stop") None bodies.ends)))))));
 }
 
 -- a talk of a protocol, with names
@@ -279,20 +282,20 @@ stream_tree = record {
   first = codes "S";
   second = codes "T";
   further = [];
-  body = protocol_trees.binds (codes "X0") (protocol_trees.talks (codes "T") (codes "S") (codes "ready") None
-      (protocol_trees.offers (codes "S") (codes "T")
-      (protocol_trees.more (codes "value") (Some sort.Octets) (protocol_trees.again (codes "X0"))
-      (protocol_trees.one (codes "stop") None protocol_trees.ends))));
+  body = bodies.binds (codes "X0") (bodies.acts (codes "T") (sends_to (codes "S")) (codes "ready") None
+      (bodies.offers (codes "S") (sends_to (codes "T"))
+      (bodies.more (codes "value") (Some sort.Octets) (bodies.again (codes "X0"))
+      (bodies.one (codes "stop") None bodies.ends))));
 }
 
 stream_source_tree : machine_trees.MachineTree
 stream_source_tree = record {
   role = codes "S";
-  body = machine_trees.acts (codes "T") mark.Puts (codes "value") (Some sort.Octets) (machine_trees.binds (codes "X1")
-      (machine_trees.acts (codes "T") mark.Takes (codes "ready") None
-      (machine_trees.offers (codes "T") mark.Puts
-      (machine_trees.more (codes "value") (Some sort.Octets) (machine_trees.again (codes "X1"))
-      (machine_trees.one (codes "stop") None (machine_trees.acts (codes "T") mark.Takes (codes "ready") None machine_trees.ends))))));
+  body = bodies.acts (codes "T") (with_mark mark.Puts) (codes "value") (Some sort.Octets) (bodies.binds (codes "X1")
+      (bodies.acts (codes "T") (with_mark mark.Takes) (codes "ready") None
+      (bodies.offers (codes "T") (with_mark mark.Puts)
+      (bodies.more (codes "value") (Some sort.Octets) (bodies.again (codes "X1"))
+      (bodies.one (codes "stop") None (bodies.acts (codes "T") (with_mark mark.Takes) (codes "ready") None bodies.ends))))));
 }
 
 stream_front : protocol.IsCanonical (demo_names demo.Stream 0) stream_protocol stream_tree

@@ -18,8 +18,8 @@ use Rattle.rs_global.proofs.ShapeWhole as protocols
 use Rattle.rs_machines.specs.Enough.{AreEnoughFor}
 use Rattle.rs_machines.specs.Machines.{state_of}
 use Rattle.rs_machines.specs.Shapes.{are_small, walks}
-use Rattle.rs_machines.specs.declared.marks.Mark.{Mark}
-use Rattle.rs_machines.specs.declared.marks.Mark.TheVariants as mark
+use Rattle.rs_bodies.specs.declared.dialects.Mark.{Mark}
+use Rattle.rs_bodies.specs.declared.dialects.Mark.TheVariants as mark
 use Rattle.rs_machines.proofs.ShapeWhole as machines
 use Rattle.rs_documents.proofs.Parts.{none_there}
 use Rattle.rs_documents.specs.Canonical.{AreShown, CanBeShown}

@@ -13,13 +13,17 @@ use Rattle.rs_model.specs.declared.values.Sort.TheVariants as sort
 use Rattle.rs_global.specs.Canonical as protocol
 use Rattle.rs_global.specs.Texts as protocol_texts
 use Rattle.rs_global.specs.Trees as protocol_trees
+use Rattle.rs_bodies.specs.Dialects.{sends_to}
+use Rattle.rs_bodies.specs.Trees as bodies
+use Rattle.rs_bodies.specs.declared.dialects.Dialect.TheVariants.{Talks, Acts}
+use Rattle.rs_bodies.specs.Dialects.{with_mark}
 use Rattle.rs_machines.specs.Canonical as machine'
 use Rattle.rs_machines.specs.Canonical.{IsCanonicalMachineText}
 use Rattle.rs_machines.specs.Machines.{state_of}
 use Rattle.rs_machines.specs.Texts as machine_texts
 use Rattle.rs_machines.specs.Trees as machine_trees
-use Rattle.rs_machines.specs.declared.marks.Mark.{Mark}
-use Rattle.rs_machines.specs.declared.marks.Mark.TheVariants as mark
+use Rattle.rs_bodies.specs.declared.dialects.Mark.{Mark}
+use Rattle.rs_bodies.specs.declared.dialects.Mark.TheVariants as mark
 use Rattle.rs_demos.specs.Sessions.{demo_names, Exchange, role, arm, machine, role_name, numbers_from, nodes_from, states_from, protocol_of, has_session, ring_exchanges, ring_pairs, butterfly_exchanges, butterfly_pairs, written}
 use Rattle.rs_documents.specs.Canonical.{AreCanonicalMachines}
 use Rattle.rs_documents.proofs.Lines.{without}
@@ -33,15 +37,15 @@ use Rattle.rs_demos.proofs.Ranges.{mapped-at}
 
 -- texts
 
-abbrev body_of : List Exchange → protocol_trees.Body
-body_of [] = protocol_trees.ends
-body_of (x ∷ xs) = protocol_trees.talks (role_name x.0) (role_name x.1) (codes "v") (Some sort.Whole) (body_of xs)
+abbrev body_of : List Exchange → bodies.Body Talks
+body_of [] = bodies.ends
+body_of (x ∷ xs) = bodies.acts (role_name x.0) (sends_to (role_name x.1)) (codes "v") (Some sort.Whole) (body_of xs)
 
-abbrev acts_of : List Exchange → machine_trees.Body
-acts_of [] = machine_trees.ends
+abbrev acts_of : List Exchange → bodies.Body Acts
+acts_of [] = bodies.ends
 acts_of (x ∷ xs) =
-    machine_trees.acts (role_name x.0) mark.Puts (codes "v") (Some sort.Whole)
-    (machine_trees.acts (role_name x.1) mark.Takes (codes "v") (Some sort.Whole) (acts_of xs))
+    bodies.acts (role_name x.0) (with_mark mark.Puts) (codes "v") (Some sort.Whole)
+    (bodies.acts (role_name x.1) (with_mark mark.Takes) (codes "v") (Some sort.Whole) (acts_of xs))
 
 shape : (s a r c b n f e : List ℕ) → b ++ n ≡ f ++ e → (s ++ (a ++ (r ++ (c ++ b)))) ++ n ≡ ((s ++ (a ++ (r ++ c))) ++ f) ++ e
 shape s a r c b n f e h = simp append_assoc (ap (λ (z : List ℕ). s ++ (a ++ (r ++ (c ++ z)))) h)

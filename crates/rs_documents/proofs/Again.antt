@@ -29,6 +29,9 @@ use Rattle.rs_global.specs.Canonical.{IsCanonicalText}
 use Rattle.rs_global.specs.Graph as of_protocols
 use Rattle.rs_global.specs.Spells.{SpellsProtocol}
 use Rattle.rs_global.specs.Trees as protocol_trees
+use Rattle.rs_bodies.specs.Graph as graphs
+use Rattle.rs_bodies.specs.Trees as bodies
+use Rattle.rs_bodies.specs.declared.dialects.Dialect.TheVariants.{Talks, Acts}
 use Rattle.rs_machines.proofs.CanonWhole.{IsReadable, readable}
 use Rattle.rs_machines.proofs.PrintedTrees.{tree_spelt}
 use Rattle.rs_machines.specs.Canonical.{IsCanonicalMachineText, IsMachineTextShaped}
@@ -47,12 +50,12 @@ use Rattle.rs_text.specs.Signs.{Sign, plain, finish}
 use Rattle.rs_text.specs.Sound.{IsSound, differ}
 
 -- what may stand behind a line ends a recursion name
-ends_machines : (sign : Sign) (text : List ℕ) → Begins sign text → machine_trees.ends_a_name sign ≡ true
+ends_machines : (sign : Sign) (text : List ℕ) → Begins sign text → bodies.ends_a_name Acts sign ≡ true
 ends_machines finish text b = refl
 ends_machines (plain word) text b = refl
 ends_machines _ text b = absurd b
 
-ends_protocols : (sign : Sign) (text : List ℕ) → Begins sign text → protocol_trees.ends_a_name sign ≡ true
+ends_protocols : (sign : Sign) (text : List ℕ) → Begins sign text → bodies.ends_a_name Talks sign ≡ true
 ends_protocols finish text b = refl
 ends_protocols (plain word) text b = refl
 ends_protocols _ text b = absurd b
@@ -64,10 +67,10 @@ all_known labels names e l a = subst (λ (z : List (List ℕ)). is_among l z ≡
 -- ---- machines
 
 machine_is_printed : (names : Names_data) (machine : Machine_data) (line : List ℕ) → IsSound names → IsMachineTextShaped machine → AreEnoughFor names machine → (c : IsCanonicalMachineText names machine line)
-    → IsPrinted machine_parts machine_by names machine line (of_lines.labels_of c.tree.body)
+    → IsPrinted machine_parts machine_by names machine line (graphs.labels_of Acts c.tree.body)
 machine_is_printed names machine line sound shaped enough c =
     let t : machine_trees.MachineTree = c.tree in
-    let labels : List (List ℕ) = of_lines.labels_of t.body in
+    let labels : List (List ℕ) = graphs.labels_of Acts t.body in
     let w : IsReadable names machine t = readable names machine t shaped sound enough c.canonical in
     let e : line ≡ machine_text t = c.is in
     record {
@@ -75,9 +78,9 @@ machine_is_printed names machine line sound shaped enough c =
       begins = (t.role ++ (codes ": " ++ (body_text t.body ++ codes "\n")), refl, e);
       role = λ number. refl;
       reads = λ bytes at old behind sign number parts b stands roles few f.
-          let ended : machine_trees.ends_a_name (next_lexeme bytes (at + length line)).sign ≡ true = ap machine_trees.ends_a_name stands ∙ ends_machines sign behind b in
+          let ended : bodies.ends_a_name Acts (next_lexeme bytes (at + length line)).sign ≡ true = ap (bodies.ends_a_name Acts) stands ∙ ends_machines sign behind b in
           let spelt = tree_spelt bytes at old t behind w.words (fits_again old names t w.fits roles few) (subst (λ (z : List ℕ). drop at bytes ≡ z ++ behind) e parts)
-          (λ _. subst (λ (z : List ℕ). machine_trees.ends_a_name (next_lexeme bytes (at + length z)).sign ≡ true) e ended) in
+          (λ _. subst (λ (z : List ℕ). bodies.ends_a_name Acts (next_lexeme bytes (at + length z)).sign ≡ true) e ended) in
           subst (λ (z : List ℕ). SpellsMachine bytes at old (of_lines.names_of old t) (machine_by number machine) (next_lexeme bytes (at + length z)).from) (sym e)
           (subst (λ (z : Machine_data). SpellsMachine bytes at old (of_lines.names_of old t) z (next_lexeme bytes (at + length (machine_text t))).from) (sym (machine_again old names machine t number w.spells w.names_are roles f)) spelt);
     }
@@ -88,7 +91,7 @@ machines_are_printed names (None ∷ machines) text sound shown lines = machines
 machines_are_printed names (Some machine ∷ machines) text sound shown lines = (
   lines.0,
   lines.1,
-  of_lines.labels_of lines.2.tree.body,
+  graphs.labels_of Acts lines.2.tree.body,
   labels_of_lines names machines lines.1 lines.3,
   machine_is_printed names machine lines.0 sound shown.0.0 shown.0.1 lines.2,
   machines_are_printed names machines lines.1 sound shown.1 lines.3,
@@ -131,7 +134,7 @@ derivations_are_printed names (Some d ∷ derivations) sound printable small = (
 
 -- the labels of the protocol, of the machines' lines and of the derivations' ones
 abbrev first_of : (d : Document_data) (text : List ℕ) → IsCanonicalDocument d text → List (List ℕ)
-first_of d text c = grown [] (of_protocols.labels_of c.protocol.tree.body)
+first_of d text c = grown [] (graphs.labels_of Talks c.protocol.tree.body)
 
 abbrev lines_of : (d : Document_data) (text : List ℕ) → IsCanonicalDocument d text → List (List ℕ)
 lines_of d text c = labels_of_lines d.names d.machines c.back c.machines
@@ -141,11 +144,11 @@ owns_of d = flat_map (labels_of_own d.names) d.derivations
 
 split_text : (d : Document_data) (text : List ℕ) (c : IsCanonicalDocument d text) → labels_of_text d text c ≡ grown (grown (first_of d text c) (lines_of d text c)) (owns_of d)
 split_text d text c =
-    grown_append (of_protocols.labels_of c.protocol.tree.body) (lines_of d text c ++ owns_of d) [] ∙ grown_append (lines_of d text c) (owns_of d) (first_of d text c)
+    grown_append (graphs.labels_of Talks c.protocol.tree.body) (lines_of d text c ++ owns_of d) [] ∙ grown_append (lines_of d text c) (owns_of d) (first_of d text c)
 
 -- all are labels of the document
 record LabelsKnown (d : Document_data) (text : List ℕ) (c : IsCanonicalDocument d text) : Type 0 where
-  protocol : AreAmong (of_protocols.labels_of c.protocol.tree.body) d.names.labels
+  protocol : AreAmong (graphs.labels_of Talks c.protocol.tree.body) d.names.labels
   machines : AreAmong (lines_of d text c) d.names.labels
   derivations : AreAmong (owns_of d) d.names.labels
 
@@ -160,7 +163,7 @@ parts_known d text r c =
 
 text_known : (d : Document_data) (text : List ℕ) (c : IsCanonicalDocument d text) → LabelsKnown d text c → AreAmong (labels_of_text d text c) d.names.labels
 text_known d text c k l a =
-    let of_protocol : List (List ℕ) = of_protocols.labels_of c.protocol.tree.body in
+    let of_protocol : List (List ℕ) = graphs.labels_of Talks c.protocol.tree.body in
     let there : Type 0 = is_among l d.names.labels ≡ true in
     grown_either l (of_protocol ++ (lines_of d text c ++ owns_of d)) [] there a (λ e. absurd (cc e))
     (λ e. either_among l of_protocol (lines_of d text c ++ owns_of d) there e (k.protocol l) (λ f. either_among l (lines_of d text c) (owns_of d) there f (k.machines l) (k.derivations l)))
@@ -168,7 +171,7 @@ text_known d text c k l a =
 -- and so they are few
 text_few : (d : Document_data) (text : List ℕ) → CanBeReadAgain d → (c : IsCanonicalDocument d text) → LabelsKnown d text c → length (labels_of_text d text c) ≤ MOST_LABELS
 text_few d text r c k =
-    let apart : differ (labels_of_text d text c) ≡ true = grown_differ (of_protocols.labels_of c.protocol.tree.body ++ (lines_of d text c ++ owns_of d)) [] refl in
+    let apart : differ (labels_of_text d text c) ≡ true = grown_differ (graphs.labels_of Talks c.protocol.tree.body ++ (lines_of d text c ++ owns_of d)) [] refl in
     let size = no_more (labels_of_text d text c) d.names.labels apart (text_known d text c k) in
     let few = r.few in
     omega (arith, size, few)
@@ -218,7 +221,7 @@ by_parts d text r c number few machine_numbers derivation_numbers =
     let here3 : drop at3 text ≡ [] = behind_text text at2 tail [] here2' in
     let next1 = begun begins1.own text at1 (back ++ tail) begins1.begins here1 in
     let next3 = begun finish text at3 [] refl here3 in
-    let ended : protocol_trees.ends_a_name (next_lexeme text at1).sign ≡ true = ap protocol_trees.ends_a_name next1.stands ∙ ends_protocols begins1.own (back ++ tail) begins1.begins in
+    let ended : bodies.ends_a_name Talks (next_lexeme text at1).sign ≡ true = ap (bodies.ends_a_name Talks) next1.stands ∙ ends_protocols begins1.own (back ++ tail) begins1.begins in
     let first_names : Names_data = record { roles = names.roles; labels = first } in
     let mid_names : Names_data = record { roles = names.roles; labels = grown first lines } in
     let protocol : SpellsProtocol text 0 first_names d.protocol at1
@@ -264,7 +267,7 @@ machines_printed_again : (names : Names_data) (others : List (List ℕ)) (number
 machines_printed_again names others number [] text lines f = lines
 machines_printed_again names others number (None ∷ machines) text lines f = machines_printed_again names others number machines text lines f
 machines_printed_again names others number (Some machine ∷ machines) text lines f =
-    let mine : List (List ℕ) = of_lines.labels_of lines.2.tree.body in
+    let mine : List (List ℕ) = graphs.labels_of Acts lines.2.tree.body in
     let more : List (List ℕ) = labels_of_lines names machines lines.1 lines.3 in (
       lines.0,
       lines.1,
@@ -291,7 +294,7 @@ printed_again d text r c =
     let first : List (List ℕ) = first_of d text c in
     let lines : List (List ℕ) = lines_of d text c in
     let owns : List (List ℕ) = owns_of d in
-    let split : all ≡ grown first (lines ++ owns) = grown_append (of_protocols.labels_of c.protocol.tree.body) (lines ++ owns) [] in
+    let split : all ≡ grown first (lines ++ owns) = grown_append (graphs.labels_of Talks c.protocol.tree.body) (lines ++ owns) [] in
     let there : AreAmong (lines ++ owns) all = λ l a. subst (λ (z : List (List ℕ)). is_among l z ≡ true) (sym split) (grown_new l (lines ++ owns) first a) in
     let protocol = front_printed_again names d.protocol c.front r.shown.shaped r.shown.sound r.shown.enough c.protocol (lines ++ owns) in
     let moves : Moves number names.labels all lines
@@ -313,9 +316,9 @@ as_itself d e text r c h =
 
 -- ---- where the labels stand in order
 
-machine_stays : (names : Names_data) (machine : Machine_data) (line : List ℕ) (number : ℕ → ℕ) → IsSound names → IsMachineTextShaped machine → AreEnoughFor names machine → (c : IsCanonicalMachineText names machine line) → Renumbers number names.labels names.labels (of_lines.labels_of c.tree.body) → machine_by number machine ≡ machine
+machine_stays : (names : Names_data) (machine : Machine_data) (line : List ℕ) (number : ℕ → ℕ) → IsSound names → IsMachineTextShaped machine → AreEnoughFor names machine → (c : IsCanonicalMachineText names machine line) → Renumbers number names.labels names.labels (graphs.labels_of Acts c.tree.body) → machine_by number machine ≡ machine
 machine_stays names machine line number sound shaped enough c f =
-    let labels : List (List ℕ) = of_lines.labels_of c.tree.body in
+    let labels : List (List ℕ) = graphs.labels_of Acts c.tree.body in
     let w : IsReadable names machine c.tree = readable names machine c.tree shaped sound enough c.canonical in
     let same : grown names.labels labels ≡ names.labels = ap (λ (z : Names_data). z.labels) w.names_are in
     machine_again names names machine c.tree number w.spells w.names_are refl (λ l a. f l a ∙ ap (λ (z : List (List ℕ)). number_or (place_of l z)) (sym same)) ∙ w.spells
@@ -325,7 +328,7 @@ machines_stay : (names : Names_data) (number : ℕ → ℕ) (machines : List (Op
 machines_stay names number [] text sound shown lines f = refl
 machines_stay names number (None ∷ machines) text sound shown lines f = ap (λ (z : List (Option Machine_data)). None ∷ z) (machines_stay names number machines text sound shown.1 lines f)
 machines_stay names number (Some machine ∷ machines) text sound shown lines f =
-    let mine : List (List ℕ) = of_lines.labels_of lines.2.tree.body in
+    let mine : List (List ℕ) = graphs.labels_of Acts lines.2.tree.body in
     let more : List (List ℕ) = labels_of_lines names machines lines.1 lines.3 in
     ap (λ (z : Machine_data). Some z ∷ map (option_map (machine_by number)) machines) (machine_stays names machine lines.0 number sound shown.0.0 shown.0.1 lines.2 (λ l a. f l (front_among l mine more a)))
     ∙ ap (λ (z : List (Option Machine_data)). Some machine ∷ z) (machines_stay names number machines lines.1 sound shown.1 lines.3 (λ l a. f l (back_among l mine more a)))
@@ -370,7 +373,7 @@ in_order d text r c all =
     let owns : List (List ℕ) = owns_of d in
     let k = parts_known d text r c in
     let first = all_are_first d.names d.protocol c.front r.shown.shaped r.shown.sound r.shown.enough c.protocol all in
-    let split : labels_of_text d text c ≡ grown (first_of d text c) (lines ++ owns) = grown_append (of_protocols.labels_of c.protocol.tree.body) (lines ++ owns) [] in
+    let split : labels_of_text d text c ≡ grown (first_of d text c) (lines ++ owns) = grown_append (graphs.labels_of Talks c.protocol.tree.body) (lines ++ owns) [] in
     sym (split ∙ ap (λ (z : List (List ℕ)). grown z (lines ++ owns)) first ∙ grown_same (lines ++ owns) d.names.labels (λ l a. either_among l lines owns (is_among l d.names.labels ≡ true) a (k.machines l) (k.derivations l)))
 
 pub read_as_itself_by_protocol : (d : Document_data) (text : List ℕ) → CanBeReadAgain d → HasAllLabels d.names d.protocol → IsCanonicalDocument d text → SpellsDocument text d

@@ -7,8 +7,7 @@ use Rattle.rs_documents.specs.Parts.{StandsAt, no_parts, Row, GoesOn, machine_pa
 use Rattle.rs_documents.proofs.FewLabels.{protocol_few}
 use Rattle.rs_documents.proofs.PartKinds.{of_machines, of_derivations, protocol_within}
 use Rattle.rs_documents.proofs.Parts.{good, keeps_few, keeps_within, one_row, size_of_none, some_row}
-use Rattle.rs_global.proofs.OneFault as global_faults
-use Rattle.rs_global.proofs.SpeltLaws as global
+use Rattle.rs_global.proofs.Spelt as global
 use Rattle.rs_global.specs.Faults as of_protocols
 use Rattle.rs_global.specs.Spells.{SpellsProtocol}
 use Rattle.rs_model.specs.Data.{Names_data, Protocol_data, Machine_data}
@@ -109,7 +108,7 @@ some_same : (j k : TextKind) → Some j ≡ Some k → j ≡ k
 some_same j k h = cc
 
 pub one_fault : (bytes : List ℕ) (j k : TextKind) (n i : ℕ) → FirstFault bytes j n → FirstFault bytes k i → SameFault j k n i
-one_fault bytes j k n i (InProtocol a f) (InProtocol b g) = global_faults.one_fault bytes 0 j k n i f g
+one_fault bytes j k n i (InProtocol a f) (InProtocol b g) = global.one_fault bytes 0 j k n i f g
 one_fault bytes j k n i (InProtocol a f) (InMachines b names p until s g) = absurd (no_protocol_fault bytes names p until j n s f)
 one_fault bytes j k n i (InProtocol a f) (InDerivations b p front s g) = absurd (no_protocol_fault bytes s.names p s.until j n s.protocol_is f)
 one_fault bytes j k n i (InProtocol a f) (BehindParts p front back s g) = absurd (no_protocol_fault bytes s.front_is.names p s.front_is.until j n s.front_is.protocol_is f)

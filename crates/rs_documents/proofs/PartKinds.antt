@@ -11,15 +11,15 @@ use Rattle.rs_derivations.specs.Spells.{SpellsDerivation}
 use Rattle.rs_derivations.proofs.Spelt as derivation_laws
 use Rattle.rs_derive.specs.Data.{Derivation_data}
 use Rattle.rs_global.specs.Spells.{SpellsProtocol}
-use Rattle.rs_machines.specs.Machines.{labels_of}
 use Rattle.rs_machines.specs.Spells.{SpellsMachine}
-use Rattle.rs_machines.specs.Trees.{body_signs}
-use Rattle.rs_machines.proofs.OneFault as machine_faults
-use Rattle.rs_machines.proofs.SpeltLaws as machine_laws
+use Rattle.rs_machines.proofs.Spelt as machines
 use Rattle.rs_text.proofs.Nexts.{within, next_is_next}
 use Rattle.rs_text.specs.Lexemes.{Lexeme, Lexed, next_lexeme, is_last}
 use Rattle.rs_text.specs.Names.{is_among, number_or, place_of}
 use Rattle.rs_text.specs.Signs.{plain, colon}
+use Rattle.rs_bodies.specs.declared.dialects.Dialect.TheVariants.{Acts}
+use Rattle.rs_bodies.specs.Graph.{labels_of}
+use Rattle.rs_bodies.specs.Trees.{body_signs}
 
 until_within : (bytes : List ℕ) (at : ℕ) → at ≤ length bytes → (next_lexeme bytes at).until ≤ length bytes
 until_within bytes at h = let w = within bytes at (next_lexeme bytes at) h (next_is_next bytes at) in w.inside
@@ -52,7 +52,7 @@ machine_within : (bytes : List ℕ) (at : ℕ) (old new : Names_data) (machine :
 machine_within bytes at old new machine until le s = subst (λ (n : ℕ). n ≤ length bytes) (sym s.goes_on) (lexed_within bytes s.lexemes at s.behind s.others le s.lexed)
 
 pub machine_begins : (bytes : List ℕ) (at : ℕ) (old new : Names_data) (machine : Machine_data) (until : ℕ) → SpellsMachine bytes at old new machine until → StandsAt bytes at (plain (codes "machine"))
-machine_begins bytes at old new machine until s = first_sign bytes at s.lexemes (s.behind ∷ s.others) (plain (codes "machine")) (plain s.tree.role ∷ colon ∷ body_signs s.tree.body) s.spelt s.lexed
+machine_begins bytes at old new machine until s = first_sign bytes at s.lexemes (s.behind ∷ s.others) (plain (codes "machine")) (plain s.tree.role ∷ colon ∷ body_signs Acts s.tree.body) s.spelt s.lexed
 
 pub machine_role : (bytes : List ℕ) (at : ℕ) (old new : Names_data) (machine : Machine_data) (until : ℕ) → SpellsMachine bytes at old new machine until → RoleStands bytes at old machine.role
 machine_role bytes at old new machine until s =
@@ -61,7 +61,7 @@ machine_role bytes at old new machine until s =
     record {
       name = s.tree.role;
       place = p.0;
-      word = second_sign bytes at s.lexemes (s.behind ∷ s.others) (plain (codes "machine")) (plain s.tree.role) (colon ∷ body_signs s.tree.body) refl s.spelt s.lexed;
+      word = second_sign bytes at s.lexemes (s.behind ∷ s.others) (plain (codes "machine")) (plain s.tree.role) (colon ∷ body_signs Acts s.tree.body) refl s.spelt s.lexed;
       known = p.1;
       few = omega (arith, lt);
       is = ap (λ (m : Machine_data). m.role.0) s.machine_is ∙ ap number_or p.1;
@@ -71,7 +71,7 @@ machine_roles : (bytes : List ℕ) (at : ℕ) (old new : Names_data) (machine : 
 machine_roles bytes at old new machine until s = ap (λ (z : Names_data). z.roles) s.names_are
 
 machine_labels : (bytes : List ℕ) (at : ℕ) (old new : Names_data) (machine : Machine_data) (until : ℕ) → SpellsMachine bytes at old new machine until → length old.labels ≤ length new.labels
-machine_labels bytes at old new machine until s = subst (λ (z : Names_data). length old.labels ≤ length z.labels) (sym s.names_are) (longer (labels_of s.tree.body) old.labels)
+machine_labels bytes at old new machine until s = subst (λ (z : Names_data). length old.labels ≤ length z.labels) (sym s.names_are) (longer (labels_of Acts s.tree.body) old.labels)
 
 pub of_machines : IsKind machine_parts
 of_machines = record {
@@ -81,10 +81,10 @@ of_machines = record {
   labels = machine_labels;
   few = machine_few;
   within = machine_within;
-  one = λ bytes at old new other part another until stop h k. machine_laws.one_spelling old bytes at new other part another until stop h k;
-  one_fault = λ bytes at old j k n i few h g. machine_faults.one_fault old bytes at j k n i h g;
-  not_both = λ bytes at old new part until k offset few h g. machine_laws.spelt_no_fault old bytes at new part until k offset h g;
-  either = λ bytes at old few le. machine_laws.spelt_or_faulty old bytes at le;
+  one = λ bytes at old new other part another until stop h k. machines.one_spelling old bytes at new other part another until stop h k;
+  one_fault = λ bytes at old j k n i few h g. machines.one_fault old bytes at j k n i h g;
+  not_both = λ bytes at old new part until k offset few h g. machines.spelt_no_fault old bytes at new part until k offset h g;
+  either = λ bytes at old few le. machines.spelt_or_faulty old bytes at le;
 }
 
 first_known : (a b : Bool) → (a && b) ≡ true → a ≡ true

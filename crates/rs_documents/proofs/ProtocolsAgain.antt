@@ -7,10 +7,9 @@ use Rattle.rs_global.proofs.EnoughNames.{spelt_enough}
 use Rattle.rs_global.proofs.PrintedTrees.{lone_tree_spelt, tree_spelt}
 use Rattle.rs_global.specs.Canonical.{Draws, DrawsArms, DrawsTalk, AreArms, IsCanonicalText, IsOneArm, IsTalkOf, IsTextShaped}
 use Rattle.rs_global.specs.Enough.{AreEnough}
-use Rattle.rs_global.specs.Graph.{labels_of, labels_of_arms, names_of}
+use Rattle.rs_global.specs.Graph.{names_of}
 use Rattle.rs_global.specs.Spells.{SpellsProtocol}
 use Rattle.rs_global.specs.Texts.{protocol_text}
-use Rattle.rs_global.specs.Trees.{Body, ends, again, binds, talks, offers, Branches, one, more, ends_a_name}
 use Rattle.rs_machines.proofs.CanonNumbers.{sound_parts}
 use Rattle.rs_model.specs.Data.{Names_data, Protocol_data}
 use Rattle.rs_model.specs.declared.graph.Arm.{Arm}
@@ -20,6 +19,10 @@ use Rattle.rs_text.proofs.Naming.{among_at, at_among, grown_stays, place_at, pla
 use Rattle.rs_text.specs.Lexemes.{next_lexeme}
 use Rattle.rs_text.specs.Names.{grown, is_among, place_of}
 use Rattle.rs_text.specs.Sound.{IsSound, differ}
+use Rattle.rs_bodies.specs.Dialects.{sends_to}
+use Rattle.rs_bodies.specs.declared.dialects.Dialect.TheVariants.{Talks}
+use Rattle.rs_bodies.specs.Graph.{labels_of, labels_of_arms}
+use Rattle.rs_bodies.specs.Trees.{Body, ends, again, binds, acts, offers, Branches, one, more, ends_a_name}
 
 abbrev with_others : Names_data → List (List ℕ) → Names_data
 with_others names others = record { roles = names.roles; labels = others }
@@ -27,14 +30,14 @@ with_others names others = record { roles = names.roles; labels = others }
 -- ---- read again
 
 pub front_again : (names : Names_data) (protocol : Protocol_data) (text : List ℕ) → IsTextShaped protocol → IsSound names → AreEnough names protocol → (c : IsCanonicalText names protocol text) → (bytes rest : List ℕ) → drop 0 bytes ≡ text ++ rest
-    → ends_a_name (next_lexeme bytes (0 + length text)).sign ≡ true
-    → SpellsProtocol bytes 0 (record { roles = names.roles; labels = grown [] (labels_of c.tree.body) }) protocol (next_lexeme bytes (0 + length text)).from
+    → ends_a_name Talks (next_lexeme bytes (0 + length text)).sign ≡ true
+    → SpellsProtocol bytes 0 (record { roles = names.roles; labels = grown [] (labels_of Talks c.tree.body) }) protocol (next_lexeme bytes (0 + length text)).from
 front_again names protocol text shaped sound enough c bytes rest parts ended =
     let w = written names protocol c.tree shaped sound enough c.canonical in
     let e : text ≡ protocol_text c.tree = c.is in
-    let spelt = tree_spelt bytes 0 c.tree rest w.words w.fits (subst (λ (z : List ℕ). drop 0 bytes ≡ z ++ rest) e parts) (λ _. subst (λ (z : List ℕ). ends_a_name (next_lexeme bytes (0 + length z)).sign ≡ true) e ended) in
-    subst (λ (z : List ℕ). SpellsProtocol bytes 0 (record { roles = names.roles; labels = grown [] (labels_of c.tree.body) }) protocol (next_lexeme bytes (0 + length z)).from) (sym e)
-    (subst (λ (z : List (List ℕ)). SpellsProtocol bytes 0 (record { roles = z; labels = grown [] (labels_of c.tree.body) }) protocol (next_lexeme bytes (0 + length (protocol_text c.tree))).from) c.canonical.roles
+    let spelt = tree_spelt bytes 0 c.tree rest w.words w.fits (subst (λ (z : List ℕ). drop 0 bytes ≡ z ++ rest) e parts) (λ _. subst (λ (z : List ℕ). ends_a_name Talks (next_lexeme bytes (0 + length z)).sign ≡ true) e ended) in
+    subst (λ (z : List ℕ). SpellsProtocol bytes 0 (record { roles = names.roles; labels = grown [] (labels_of Talks c.tree.body) }) protocol (next_lexeme bytes (0 + length z)).from) (sym e)
+    (subst (λ (z : List (List ℕ)). SpellsProtocol bytes 0 (record { roles = z; labels = grown [] (labels_of Talks c.tree.body) }) protocol (next_lexeme bytes (0 + length (protocol_text c.tree))).from) c.canonical.roles
     (subst (λ (z : Protocol_data). SpellsProtocol bytes 0 (names_of c.tree) z (next_lexeme bytes (0 + length (protocol_text c.tree))).from) w.graph spelt))
 
 -- ---- its labels are the first of the names
@@ -45,16 +48,16 @@ taken_at [] (suc n) i x e = absurd (cc e)
 taken_at (y ∷ xs) (suc n) zero x e = e
 taken_at (y ∷ xs) (suc n) (suc i) x e = taken_at xs n i x e
 
-pub labels_are_first : (names : Names_data) (protocol : Protocol_data) (text : List ℕ) → IsTextShaped protocol → IsSound names → AreEnough names protocol → (c : IsCanonicalText names protocol text) → grown [] (labels_of c.tree.body) ≡ take (length (grown [] (labels_of c.tree.body))) names.labels
+pub labels_are_first : (names : Names_data) (protocol : Protocol_data) (text : List ℕ) → IsTextShaped protocol → IsSound names → AreEnough names protocol → (c : IsCanonicalText names protocol text) → grown [] (labels_of Talks c.tree.body) ≡ take (length (grown [] (labels_of Talks c.tree.body))) names.labels
 labels_are_first names protocol text shaped sound enough c = let w = written names protocol c.tree shaped sound enough c.canonical in ap (λ (z : Names_data). z.labels) w.names_are
 
 stands_there : (labels first : List (List ℕ)) → first ≡ take (length first) labels → (k : ℕ) (l : List ℕ) → slice_get first k ≡ Some l → slice_get labels k ≡ Some l
 stands_there labels first e k l h = taken_at labels (length first) k l (subst (λ (z : List (List ℕ)). slice_get z k ≡ Some l) e h)
 
-pub labels_known : (names : Names_data) (protocol : Protocol_data) (text : List ℕ) → IsTextShaped protocol → IsSound names → AreEnough names protocol → (c : IsCanonicalText names protocol text) → AreAmong (labels_of c.tree.body) names.labels
+pub labels_known : (names : Names_data) (protocol : Protocol_data) (text : List ℕ) → IsTextShaped protocol → IsSound names → AreEnough names protocol → (c : IsCanonicalText names protocol text) → AreAmong (labels_of Talks c.tree.body) names.labels
 labels_known names protocol text shaped sound enough c l h =
-    let first : List (List ℕ) = grown [] (labels_of c.tree.body) in
-    let at = among_at first l (grown_new l (labels_of c.tree.body) [] h) in
+    let first : List (List ℕ) = grown [] (labels_of Talks c.tree.body) in
+    let at = among_at first l (grown_new l (labels_of Talks c.tree.body) [] h) in
     at_among names.labels at.0 l (stands_there names.labels first (labels_are_first names protocol text shaped sound enough c) at.0 l at.1)
 
 -- ---- printed again
@@ -73,51 +76,51 @@ stay labels first further d e l i a h =
 talk_again : (names : Names_data) (others : List (List ℕ)) (p : Protocol_data) (n : ℕ) (s r : List ℕ) (arms : List Arm) → IsTalkOf names p n s r arms → IsTalkOf (with_others names others) p n s r arms
 talk_again names others p n s r arms t = record { sender = t.sender; receiver = t.receiver; talks = t.talks; sends = t.sends; receives = t.receives }
 
-one_again : (names : Names_data) (others : List (List ℕ)) (p : Protocol_data) (n : ℕ) (s r l : List ℕ) (sort : Option Sort) (b : Body) → Stay names.labels others (l ∷ labels_of b) → ((next : ℕ) → Draws names p (n + 1) next b → Draws (with_others names others) p (n + 1) next b)
+one_again : (names : Names_data) (others : List (List ℕ)) (p : Protocol_data) (n : ℕ) (s r l : List ℕ) (sort : Option Sort) (b : Body Talks) → Stay names.labels others (l ∷ labels_of Talks b) → ((next : ℕ) → Draws names p (n + 1) next b → Draws (with_others names others) p (n + 1) next b)
     → IsOneArm names p n s r l sort (λ next. Draws names p (n + 1) next b) → IsOneArm (with_others names others) p n s r l sort (λ next. Draws (with_others names others) p (n + 1) next b)
-one_again names others p n s r l sort b f go x = (x.0, talk_again names others p n s r (x.0 ∷ []) x.1, (f l x.0.label.0 (first_among l (labels_of b)) x.2.0, x.2.1), go x.0.next x.3)
+one_again names others p n s r l sort b f go x = (x.0, talk_again names others p n s r (x.0 ∷ []) x.1, (f l x.0.label.0 (first_among l (labels_of Talks b)) x.2.0, x.2.1), go x.0.next x.3)
 
-more_again : (names : Names_data) (others : List (List ℕ)) (p : Protocol_data) (n : ℕ) (s r : List ℕ) (arms : Branches) → ((ours : List Arm) → DrawsArms names p (n + 1) ours arms → DrawsArms (with_others names others) p (n + 1) ours arms)
+more_again : (names : Names_data) (others : List (List ℕ)) (p : Protocol_data) (n : ℕ) (s r : List ℕ) (arms : Branches Talks) → ((ours : List Arm) → DrawsArms names p (n + 1) ours arms → DrawsArms (with_others names others) p (n + 1) ours arms)
     → AreArms names p n s r (λ ours. DrawsArms names p (n + 1) ours arms) → AreArms (with_others names others) p n s r (λ ours. DrawsArms (with_others names others) p (n + 1) ours arms)
 more_again names others p n s r arms go x = (x.0, x.1, x.2, talk_again names others p n s r (x.0 ∷ x.1 ∷ x.2) x.3, go (x.0 ∷ x.1 ∷ x.2) x.4)
 
 mutual
-  draws_again : (b : Body) (names : Names_data) (others : List (List ℕ)) (p : Protocol_data) (from n : ℕ) → Stay names.labels others (labels_of b) → Draws names p from n b → Draws (with_others names others) p from n b
+  draws_again : (b : Body Talks) (names : Names_data) (others : List (List ℕ)) (p : Protocol_data) (from n : ℕ) → Stay names.labels others (labels_of Talks b) → Draws names p from n b → Draws (with_others names others) p from n b
   draws_again ends names others p from n f h = h
   draws_again (again x) names others p from n f h = h
   draws_again (binds x b) names others p from n f h = (h.0, h.1, h.2, talk_draws_again b names others p n f h.3)
-  draws_again (talks s r l sort b) names others p from n f h = (h.0, h.1, one_again names others p n s r l sort b f (λ next d. draws_again b names others p (n + 1) next (λ y i a. f y i (later_among y l (labels_of b) a)) d) h.2)
-  draws_again (offers s r arms) names others p from n f h = (h.0, h.1, more_again names others p n s r arms (λ ours d. arms_draw_again arms ours names others p (n + 1) f d) h.2)
+  draws_again (acts s (sends_to r) l sort b) names others p from n f h = (h.0, h.1, one_again names others p n s r l sort b f (λ next d. draws_again b names others p (n + 1) next (λ y i a. f y i (later_among y l (labels_of Talks b) a)) d) h.2)
+  draws_again (offers s (sends_to r) arms) names others p from n f h = (h.0, h.1, more_again names others p n s r arms (λ ours d. arms_draw_again arms ours names others p (n + 1) f d) h.2)
 
-  talk_draws_again : (b : Body) (names : Names_data) (others : List (List ℕ)) (p : Protocol_data) (n : ℕ) → Stay names.labels others (labels_of b) → DrawsTalk names p n b → DrawsTalk (with_others names others) p n b
+  talk_draws_again : (b : Body Talks) (names : Names_data) (others : List (List ℕ)) (p : Protocol_data) (n : ℕ) → Stay names.labels others (labels_of Talks b) → DrawsTalk names p n b → DrawsTalk (with_others names others) p n b
   talk_draws_again ends names others p n f h = h
   talk_draws_again (again x) names others p n f h = h
   talk_draws_again (binds x b) names others p n f h = h
-  talk_draws_again (talks s r l sort b) names others p n f h = one_again names others p n s r l sort b f (λ next d. draws_again b names others p (n + 1) next (λ y i a. f y i (later_among y l (labels_of b) a)) d) h
-  talk_draws_again (offers s r arms) names others p n f h = more_again names others p n s r arms (λ ours d. arms_draw_again arms ours names others p (n + 1) f d) h
+  talk_draws_again (acts s (sends_to r) l sort b) names others p n f h = one_again names others p n s r l sort b f (λ next d. draws_again b names others p (n + 1) next (λ y i a. f y i (later_among y l (labels_of Talks b) a)) d) h
+  talk_draws_again (offers s (sends_to r) arms) names others p n f h = more_again names others p n s r arms (λ ours d. arms_draw_again arms ours names others p (n + 1) f d) h
 
-  arms_draw_again : (arms : Branches) (ours : List Arm) (names : Names_data) (others : List (List ℕ)) (p : Protocol_data) (from : ℕ) → Stay names.labels others (labels_of_arms arms) → DrawsArms names p from ours arms → DrawsArms (with_others names others) p from ours arms
+  arms_draw_again : (arms : Branches Talks) (ours : List Arm) (names : Names_data) (others : List (List ℕ)) (p : Protocol_data) (from : ℕ) → Stay names.labels others (labels_of_arms Talks arms) → DrawsArms names p from ours arms → DrawsArms (with_others names others) p from ours arms
   arms_draw_again arms [] names others p from f h = absurd h
-  arms_draw_again (one l sort b) (o ∷ []) names others p from f h = ((f l o.label.0 (first_among l (labels_of b)) h.0.0, h.0.1), draws_again b names others p from o.next (λ y i a. f y i (later_among y l (labels_of b) a)) h.1)
+  arms_draw_again (one l sort b) (o ∷ []) names others p from f h = ((f l o.label.0 (first_among l (labels_of Talks b)) h.0.0, h.0.1), draws_again b names others p from o.next (λ y i a. f y i (later_among y l (labels_of Talks b) a)) h.1)
   arms_draw_again (one l sort b) (o ∷ c ∷ cs) names others p from f h = absurd h
   arms_draw_again (more l sort b arms) (o ∷ []) names others p from f h = absurd h.2
   arms_draw_again (more l sort b arms) (o ∷ c ∷ cs) names others p from f h = (
-    (f l o.label.0 (first_among l (labels_of b ++ labels_of_arms arms)) h.0.0, h.0.1),
-    draws_again b names others p from o.next (λ y i a. f y i (later_among y l (labels_of b ++ labels_of_arms arms) (front_among y (labels_of b) (labels_of_arms arms) a))) h.1,
-    arms_draw_again arms (c ∷ cs) names others p from (λ y i a. f y i (later_among y l (labels_of b ++ labels_of_arms arms) (back_among y (labels_of b) (labels_of_arms arms) a))) h.2,
+    (f l o.label.0 (first_among l (labels_of Talks b ++ labels_of_arms Talks arms)) h.0.0, h.0.1),
+    draws_again b names others p from o.next (λ y i a. f y i (later_among y l (labels_of Talks b ++ labels_of_arms Talks arms) (front_among y (labels_of Talks b) (labels_of_arms Talks arms) a))) h.1,
+    arms_draw_again arms (c ∷ cs) names others p from (λ y i a. f y i (later_among y l (labels_of Talks b ++ labels_of_arms Talks arms) (back_among y (labels_of Talks b) (labels_of_arms Talks arms) a))) h.2,
   )
 
 pub front_printed_again : (names : Names_data) (protocol : Protocol_data) (text : List ℕ) → IsTextShaped protocol → IsSound names → AreEnough names protocol → (c : IsCanonicalText names protocol text) → (further : List (List ℕ))
-    → IsCanonicalText (record { roles = names.roles; labels = grown (grown [] (labels_of c.tree.body)) further }) protocol text
+    → IsCanonicalText (record { roles = names.roles; labels = grown (grown [] (labels_of Talks c.tree.body)) further }) protocol text
 front_printed_again names protocol text shaped sound enough c further =
-    let first : List (List ℕ) = grown [] (labels_of c.tree.body) in
+    let first : List (List ℕ) = grown [] (labels_of Talks c.tree.body) in
     let d : differ names.labels ≡ true = (sound_parts names sound).labels_differ in
     let e = labels_are_first names protocol text shaped sound enough c in
     record {
       tree = c.tree;
       canonical = record {
         roles = c.canonical.roles;
-        body = draws_again c.tree.body names (grown first further) protocol 0 protocol.root (λ l i a h. stay names.labels first further d e l i (grown_new l (labels_of c.tree.body) [] a) h) c.canonical.body;
+        body = draws_again c.tree.body names (grown first further) protocol 0 protocol.root (λ l i a h. stay names.labels first further d e l i (grown_new l (labels_of Talks c.tree.body) [] a) h) c.canonical.body;
       };
       is = c.is;
     }
@@ -135,9 +138,9 @@ all_below zero m f = omega arith
 all_below (suc n) m f = let h = f n (omega arith) in omega (arith, h)
 
 pub all_are_first : (names : Names_data) (protocol : Protocol_data) (text : List ℕ) → IsTextShaped protocol → IsSound names → AreEnough names protocol → (c : IsCanonicalText names protocol text) → HasAllLabels names protocol
-    → grown [] (labels_of c.tree.body) ≡ names.labels
+    → grown [] (labels_of Talks c.tree.body) ≡ names.labels
 all_are_first names protocol text shaped sound enough c all =
-    let first : List (List ℕ) = grown [] (labels_of c.tree.body) in
+    let first : List (List ℕ) = grown [] (labels_of Talks c.tree.body) in
     let w = written names protocol c.tree shaped sound enough c.canonical in
     let spelt : SpellsProtocol (protocol_text c.tree) 0 (names_of c.tree) protocol (length (protocol_text c.tree)) = subst (λ (z : Protocol_data). SpellsProtocol (protocol_text c.tree) 0 (names_of c.tree) z (length (protocol_text c.tree))) w.graph (lone_tree_spelt c.tree w.words w.fits) in
     let own = spelt_enough (protocol_text c.tree) 0 (names_of c.tree) protocol (length (protocol_text c.tree)) spelt in

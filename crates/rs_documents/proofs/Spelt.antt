@@ -10,7 +10,7 @@ use Rattle.rs_documents.proofs.FewLabels.{protocol_few}
 use Rattle.rs_documents.proofs.PartKinds.{machine_begins, machine_role, of_machines}
 use Rattle.rs_documents.proofs.Parts.{good, keeps, one_row, role_of_twice, row_of, second_of, size_of_none, twice_of_role}
 use Rattle.rs_global.proofs.EnoughNames.{spelt_enough}
-use Rattle.rs_global.proofs.SpeltLaws as global
+use Rattle.rs_global.proofs.Spelt as global
 use Rattle.rs_model.specs.Data.{Names_data, Protocol_data, Machine_data}
 use Rattle.rs_text.proofs.Nexts.{next_is_next, one_next}
 use Rattle.rs_text.specs.Lexemes.{Lexeme, next_lexeme}

@@ -21,12 +21,9 @@ use Rattle.rs_documents.proofs.CanShow.{can_show, kept}
 use Rattle.rs_documents.proofs.OneDocument.{front_few}
 use Rattle.rs_documents.proofs.PartKinds.{of_derivations, of_machines}
 use Rattle.rs_documents.proofs.Parts.{good, keeps, keeps_few, none_there, row_of, size_of_none}
-use Rattle.rs_global.proofs.Sounding.{is_sound}
-use Rattle.rs_global.proofs.SpeltRuns.{complete}
 use Rattle.rs_machines.proofs.CanonNumbers.{sound_parts}
-use Rattle.rs_machines.specs.Machines.{labels_of, labels_of_arms}
 use Rattle.rs_machines.specs.Spells.{SpellsMachine}
-use Rattle.rs_machines.specs.Trees.{Body, ends, again, binds, acts, offers, Branches, one, more, body_signs, branch_signs, machine_signs}
+use Rattle.rs_machines.specs.Trees.{machine_signs}
 use Rattle.rs_model.specs.Data.{Names_data, Machine_data}
 use Rattle.rs_model.specs.declared.limits.TheConstants.{MOST_NUMBER}
 use Rattle.rs_text.proofs.Basics.{both, two_true}
@@ -43,6 +40,11 @@ use Rattle.rs_text.specs.Sound.{IsSound, differ}
 use Rattle.rs_text.specs.Tokens.{IsNext, IsToken}
 use Rattle.rs_text.specs.Words.{is_role_word, is_word}
 use Rattle.rs_text.specs.declared.faults.TextFault.{TextFault}
+use Rattle.rs_bodies.specs.declared.dialects.Dialect.TheVariants.{Acts}
+use Rattle.rs_bodies.specs.Graph.{labels_of, labels_of_arms}
+use Rattle.rs_bodies.specs.Trees.{Body, ends, again, binds, acts, offers, Branches, one, more, body_signs, branch_signs}
+use Rattle.rs_bodies.specs.Dialects.{with_mark}
+use Rattle.rs_global.proofs.Spelt.{complete, is_sound}
 
 -- ---- tokens
 
@@ -113,24 +115,24 @@ words_both xs ys h k = list_all-append is_word xs ys ∙ two_true (list_all is_w
 -- ---- machines
 
 mutual
-  body_words : (b : Body) → AreGood (body_signs b) → AreWords (labels_of b)
+  body_words : (b : Body Acts) → AreGood (body_signs Acts b) → AreWords (labels_of Acts b)
   body_words ends h = refl
   body_words (again x) h = refl
-  body_words (binds x b) h = body_words b (tail_good dot (body_signs b) (tail_good (plain x) (dot ∷ body_signs b) (tail_good rec_word (plain x ∷ dot ∷ body_signs b) h)))
-  body_words (acts p m l sort b) h =
-      let rest : AreGood (arm_signs l sort ++ body_signs b) = tail_good _ _ (tail_good (plain p) _ h) in
-      two_true (is_word l) (list_all is_word (labels_of b)) (label_is_word l (head_good (word_sign l) _ (front_good (arm_signs l sort) (body_signs b) rest))) (body_words b (back_good (arm_signs l sort) (body_signs b) rest))
-  body_words (offers p m arms) h =
-      let rest : AreGood (branch_signs arms ++ signs.close_brace ∷ []) = tail_good _ _ (tail_good _ _ (tail_good (plain p) _ h)) in
-      arms_words arms (front_good (branch_signs arms) (signs.close_brace ∷ []) rest)
+  body_words (binds x b) h = body_words b (tail_good dot (body_signs Acts b) (tail_good (plain x) (dot ∷ body_signs Acts b) (tail_good rec_word (plain x ∷ dot ∷ body_signs Acts b) h)))
+  body_words (acts p (with_mark m) l sort b) h =
+      let rest : AreGood (arm_signs l sort ++ body_signs Acts b) = tail_good _ _ (tail_good (plain p) _ h) in
+      two_true (is_word l) (list_all is_word (labels_of Acts b)) (label_is_word l (head_good (word_sign l) _ (front_good (arm_signs l sort) (body_signs Acts b) rest))) (body_words b (back_good (arm_signs l sort) (body_signs Acts b) rest))
+  body_words (offers p (with_mark m) arms) h =
+      let rest : AreGood (branch_signs Acts arms ++ signs.close_brace ∷ []) = tail_good _ _ (tail_good _ _ (tail_good (plain p) _ h)) in
+      arms_words arms (front_good (branch_signs Acts arms) (signs.close_brace ∷ []) rest)
 
-  arms_words : (arms : Branches) → AreGood (branch_signs arms) → AreWords (labels_of_arms arms)
+  arms_words : (arms : Branches Acts) → AreGood (branch_signs Acts arms) → AreWords (labels_of_arms Acts arms)
   arms_words (one l sort b) h =
-      two_true (is_word l) (list_all is_word (labels_of b)) (label_is_word l (head_good (word_sign l) _ (front_good (arm_signs l sort) (body_signs b) h))) (body_words b (back_good (arm_signs l sort) (body_signs b) h))
+      two_true (is_word l) (list_all is_word (labels_of Acts b)) (label_is_word l (head_good (word_sign l) _ (front_good (arm_signs l sort) (body_signs Acts b) h))) (body_words b (back_good (arm_signs l sort) (body_signs Acts b) h))
   arms_words (more l sort b arms) h =
-      let rest : AreGood (body_signs b ++ comma ∷ branch_signs arms) = back_good (arm_signs l sort) (body_signs b ++ comma ∷ branch_signs arms) h in
-      two_true (is_word l) (list_all is_word (labels_of b ++ labels_of_arms arms)) (label_is_word l (head_good (word_sign l) _ (front_good (arm_signs l sort) (body_signs b ++ comma ∷ branch_signs arms) h)))
-      (words_both (labels_of b) (labels_of_arms arms) (body_words b (front_good (body_signs b) (comma ∷ branch_signs arms) rest)) (arms_words arms (tail_good comma (branch_signs arms) (back_good (body_signs b) (comma ∷ branch_signs arms) rest))))
+      let rest : AreGood (body_signs Acts b ++ comma ∷ branch_signs Acts arms) = back_good (arm_signs l sort) (body_signs Acts b ++ comma ∷ branch_signs Acts arms) h in
+      two_true (is_word l) (list_all is_word (labels_of Acts b ++ labels_of_arms Acts arms)) (label_is_word l (head_good (word_sign l) _ (front_good (arm_signs l sort) (body_signs Acts b ++ comma ∷ branch_signs Acts arms) h)))
+      (words_both (labels_of Acts b) (labels_of_arms Acts arms) (body_words b (front_good (body_signs Acts b) (comma ∷ branch_signs Acts arms) rest)) (arms_words arms (tail_good comma (branch_signs Acts arms) (back_good (body_signs Acts b) (comma ∷ branch_signs Acts arms) rest))))
 
 -- sound names stay so with further labels that are words
 sound_grown : (old : Names_data) (labels : List (List ℕ)) → IsSound old → AreWords labels → IsSound (record { roles = old.roles; labels = grown old.labels labels })
@@ -144,8 +146,8 @@ sound_grown old labels sound words =
 machine_sound : (bytes : List ℕ) (at : ℕ) (old new : Names_data) (machine : Machine_data) (until : ℕ) → SpellsMachine bytes at old new machine until → IsSound old → IsSound new
 machine_sound bytes at old new machine until s sound =
     let t : AreGood (machine_signs s.tree) = subst AreGood s.spelt (record { all = tokens_are_good bytes s.lexemes at s.behind s.others s.lexed }) in
-    let words : AreWords (labels_of s.tree.body) = body_words s.tree.body (tail_good _ _ (tail_good (plain s.tree.role) _ (tail_good (plain (codes "machine")) _ t))) in
-    subst IsSound (sym s.names_are) (sound_grown old (labels_of s.tree.body) sound words)
+    let words : AreWords (labels_of Acts s.tree.body) = body_words s.tree.body (tail_good _ _ (tail_good (plain s.tree.role) _ (tail_good (plain (codes "machine")) _ t))) in
+    subst IsSound (sym s.names_are) (sound_grown old (labels_of Acts s.tree.body) sound words)
 
 -- ---- derivations
 

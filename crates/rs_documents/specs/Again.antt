@@ -6,6 +6,8 @@ use Rattle.rs_derivations.specs.Derivations.{labels_of_nodes}
 use Rattle.rs_derivations.specs.Numbers.{AreSmall}
 use Rattle.rs_derive.specs.Data.{DNode_data, Derivation_data}
 use Rattle.rs_global.specs.Graph as of_protocols
+use Rattle.rs_bodies.specs.Graph as graphs
+use Rattle.rs_bodies.specs.declared.dialects.Dialect.TheVariants.{Talks, Acts}
 use Rattle.rs_machines.specs.Machines as of_machines
 use Rattle.rs_model.specs.Data.{Names_data, Protocol_data, Machine_data}
 use Rattle.rs_model.specs.declared.graph.Arm.{Arm}
@@ -40,7 +42,7 @@ pub record CanBeReadAgain (d : Document_data) : Type 0 where
 abbrev pub labels_of_lines : (names : Names_data) (machines : List (Option Machine_data)) (text : List ℕ) → AreCanonicalMachines names machines text → List (List ℕ)
 labels_of_lines names [] text lines = []
 labels_of_lines names (None ∷ machines) text lines = labels_of_lines names machines text lines
-labels_of_lines names (Some machine ∷ machines) text lines = of_machines.labels_of lines.2.tree.body ++ labels_of_lines names machines lines.1 lines.3
+labels_of_lines names (Some machine ∷ machines) text lines = graphs.labels_of Acts lines.2.tree.body ++ labels_of_lines names machines lines.1 lines.3
 
 -- .. of the derivations' lines
 abbrev pub labels_of_own : Names_data → Option Derivation_data → List (List ℕ)
@@ -50,7 +52,7 @@ labels_of_own names (Some derivation) = labels_of_nodes (tree_of names derivatio
 -- .. and of the whole text, each once, in order of first places
 abbrev pub labels_of_text : (d : Document_data) (text : List ℕ) → IsCanonicalDocument d text → List (List ℕ)
 labels_of_text d text canonical =
-    grown [] (of_protocols.labels_of canonical.protocol.tree.body ++ (labels_of_lines d.names d.machines canonical.back canonical.machines ++ flat_map (labels_of_own d.names) d.derivations))
+    grown [] (graphs.labels_of Talks canonical.protocol.tree.body ++ (labels_of_lines d.names d.machines canonical.back canonical.machines ++ flat_map (labels_of_own d.names) d.derivations))
 
 -- the number, among other labels, of the label that has this number
 abbrev pub number_among : (labels others : List (List ℕ)) → ℕ → ℕ

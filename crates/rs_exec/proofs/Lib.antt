@@ -3,3 +3,7 @@ pub mod Ends
 pub mod NeverFull
 pub mod Played
 pub mod PlayedOn
+pub mod Together
+pub mod MembersTurns
+pub mod MembersRounds
+pub mod Closing

@@ -1,5 +1,5 @@
 -- A plain run with queues of at least the room is never stuck.
-use Rattle.std.proofs.Common.{◌≡◌, ◌≢◌, inl, inr, ℕ, zero, suc, ◌+◌, ◌<◌, ◌≤◌, Bool, true, false, ◌||◌, List, [], Some, length, slice_index_or, refl, sym, ap, ◌∙◌, subst, arith}
+use Rattle.std.proofs.Common.{◌≡◌, ◌≢◌, inl, inr, ℕ, zero, suc, ◌+◌, ◌<◌, ◌≤◌, Bool, true, false, ◌||◌, List, [], Some, Result, Ok, Err, IfErr, length, slice_index_or, refl, sym, ap, ◌∙◌, subst, arith}
 use Rattle.std.proofs.lemmas.Bool.Decides.{eqb_tells}
 use Rattle.std.proofs.lemmas.Option.{get_or_from_slice_get}
 use Rattle.rs_model.specs.Data.{Machine_data}
@@ -16,6 +16,9 @@ use Rattle.rs_safety.specs.Room.{room_of}
 use Rattle.rs_walks.proofs.Walked.{of-accepted}
 use Rattle.rs_room.specs.Bounded.{CanMoveWithin, MayPut, MayTake}
 use Rattle.rs_room.proofs.Enough.{can-go-on}
+use Rattle.rs_exec.specs.Inline.{Tells}
+use Rattle.rs_exec.specs.declared.inline.ExecFault.{ExecFault}
+use Rattle.rs_exec.specs.declared.inline.ExecFault.TheVariants as fault
 
 module _ {A : Type 0} (b : Behaviour A) where
   -- who rests at its turn can't go on
@@ -109,3 +112,10 @@ module _ {A : Type 0} (b : Behaviour A) where
       let x = get-there xs 0 (omega (arith, many, s.is.a_machine_each, s.is.roles.0)) in
       let f = full (λ p. slice_index_or xs p x.0) (λ p y here. get_or_from_slice_get xs p y x.0 here) in
       never-stuck a (λ p. slice_index_or xs p x.0) limit capacity f.end s room f.plain
+
+  -- .. and memory is the one error
+  pub only-memory : {X : Type 0} (a : Accepted_data) (xs : List A) (limit capacity : ℕ) (r : Result X ExecFault) → IsAcceptedSession a → length xs ≡ length a.machines → room_of a.derivations ≤ capacity
+      → IfErr r (λ e. (given : ℕ → A) → IsGiven given xs → Tells a.machines b given limit capacity e) → IfErr r (λ e. e ≡ fault.NoMemory)
+  only-memory a xs limit capacity (Ok x) s many room full = tt
+  only-memory a xs limit capacity (Err fault.NoMemory) s many room full = refl
+  only-memory a xs limit capacity (Err (fault.Full sender receiver sent taken)) s many room full = absurd (never-full a xs limit capacity sender receiver sent taken s many room full)

@@ -20,7 +20,7 @@ use Rattle.rs_exec.specs.declared.tasks.Turn.TheVariants as turn
 use Rattle.rs_exec.specs.declared.tasks.Why.TheVariants as why
 
 module _ {A : Type 0} (b : Behaviour A) where
-  plays_more : (m : Machine_data) (s : ℕ) (x : A) (h : History) (t : ℕ) (y : A) (a : Action) (u : ℕ) (z : A) → PlaysFrom b m s x h t y → PlaysAction b m t y a u z → PlaysFrom b m s x (h ++ a ∷ []) u z
+  pub plays_more : (m : Machine_data) (s : ℕ) (x : A) (h : History) (t : ℕ) (y : A) (a : Action) (u : ℕ) (z : A) → PlaysFrom b m s x h t y → PlaysAction b m t y a u z → PlaysFrom b m s x (h ++ a ∷ []) u z
   plays_more m s x [] t y a u z so act = (u, z, subst (λ (k : ℕ × A). PlaysAction b m k.0 k.1 a u z) (λ i. (sym so.0 i, sym so.1 i)) act, (refl, refl))
   plays_more m s x (c ∷ h) t y a u z so act = (so.0, so.1, so.2, plays_more m so.0 so.1 h t y a u z so.3 act)
 
@@ -29,7 +29,7 @@ module _ {A : Type 0} (b : Behaviour A) where
     pub chooses : b.chooses mid arms ≡ choice
     pub asked : b.asked mid arms ≡ z
 
-  chose : (m : Machine_data) (s : ℕ) (mid : A) (kept : Option Choice) (y : A) (peer : Role) (arms : List Arm) (choice : Choice) (z : A) → Keeps b m s mid kept y → slice_get m.states s ≡ Some (Puts peer arms) → offered b y kept arms ≡ (choice, z) → Chose mid arms choice z
+  pub chose : (m : Machine_data) (s : ℕ) (mid : A) (kept : Option Choice) (y : A) (peer : Role) (arms : List Arm) (choice : Choice) (z : A) → Keeps b m s mid kept y → slice_get m.states s ≡ Some (Puts peer arms) → offered b y kept arms ≡ (choice, z) → Chose mid arms choice z
   chose m s mid None y peer arms choice z keeps puts is = record {
     chooses = ap (λ (k : A). b.chooses k arms) keeps ∙ ap (λ (k : Choice × A). k.0) is;
     asked = ap (λ (k : A). b.asked k arms) keeps ∙ ap (λ (k : Choice × A). k.1) is;
@@ -47,7 +47,7 @@ module _ {A : Type 0} (b : Behaviour A) where
     pub same : mid ≡ y
     pub none : kept ≡ None
 
-  keeps_none : (m : Machine_data) (s : ℕ) (mid : A) (kept : Option Choice) (y : A) (peer : Role) (arms : List Arm) → Keeps b m s mid kept y → slice_get m.states s ≡ Some (Takes peer arms) → KeepsNone mid kept y
+  pub keeps_none : (m : Machine_data) (s : ℕ) (mid : A) (kept : Option Choice) (y : A) (peer : Role) (arms : List Arm) → Keeps b m s mid kept y → slice_get m.states s ≡ Some (Takes peer arms) → KeepsNone mid kept y
   keeps_none m s mid None y peer arms keeps takes = record { same = keeps; none = refl }
   keeps_none m s mid (Some o) y peer arms keeps takes = let both : Some (Puts keeps.0 keeps.1) ≡ Some (Takes peer arms) = sym keeps.2 ∙ takes in absurd (cc (both))
 

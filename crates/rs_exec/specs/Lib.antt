@@ -4,3 +4,5 @@ pub mod Tasks
 pub mod Players
 pub mod Polling
 pub mod Runs
+pub mod Members
+pub mod Rounds

@@ -3,7 +3,10 @@
 
 mod inline;
 pub mod laws;
+mod members;
 mod polling;
+mod rounds;
+mod running;
 mod runs;
 mod tasks;
 #[cfg(test)]

@@ -1,4 +1,4 @@
--- The canonical form of a body, which talks are gone back to, and where names lead.
+-- The canonical form of a body, which acts are (sends_to gone) back to, and where names lead.
 use Rattle.std.proofs.Common.{◌≡◌, ℕ, suc, ◌+◌, ◌-◌, ◌<◌, ◌≤◌, List, [], ◌∷◌, drop, Bool, true, false, if◌then◌else◌, Option, Some, None, refl, sym, ap, ◌∙◌, arith, slice_get}
 use Rattle.std.proofs.lemmas.Bool.{eq-eqb, eqb-true}
 use Rattle.std.specs.Str.{bytes_eq}
@@ -9,13 +9,15 @@ use Rattle.rs_model.specs.declared.graph.Node.TheVariants.{Finished, Talk}
 use Rattle.rs_model.specs.declared.values.Sort.{Sort}
 use Rattle.rs_text.specs.Arms.{sort_or_unit, shown_sort}
 use Rattle.rs_text.specs.Names.{Bound, bound_to, number_or}
-use Rattle.rs_global.specs.Trees.{Body, ends, again, binds, talks, offers, Branches, one, more}
-use Rattle.rs_global.specs.Graph.{talks_in, Numbering, role_of, label_of}
-use Rattle.rs_global.specs.Scenes.{Scene, with_label, in_talk, in_braces, in_rec, behind}
-use Rattle.rs_global.specs.Spells.{is_guarded, body_fits, arms_fit}
 use Rattle.rs_global.specs.Canonical.{name_of_node, IsGoneBackTo}
 use Rattle.rs_global.specs.Shapes.{leads_to, talk_leads, leads_from}
 use Rattle.rs_text.proofs.Basics.{some_is, both, any_stands, stands_any, drop_get}
+use Rattle.rs_bodies.specs.Dialects.{sends_to}
+use Rattle.rs_bodies.specs.declared.dialects.Dialect.TheVariants.{Talks}
+use Rattle.rs_bodies.specs.Trees.{Body, ends, again, binds, acts, offers, Branches, one, more}
+use Rattle.rs_bodies.specs.Graph.{acts_in, Numbering, role_of, label_of}
+use Rattle.rs_bodies.specs.Scenes.{Scene, with_label, in_act, in_braces, in_rec, behind}
+use Rattle.rs_bodies.specs.Fits.{is_guarded, body_fits, arms_fit}
 
 -- ---- what stands in a list
 
@@ -69,54 +71,54 @@ abbrev pub sort_as : Option Sort → Option Sort
 sort_as sort = shown_sort (sort_or_unit sort)
 
 -- rec Xk where an arm goes back to k
-abbrev pub wrapped : Bool → ℕ → Body → Body
+abbrev pub wrapped : Bool → ℕ → Body Talks → Body Talks
 wrapped true k b = binds (name_of_node k) b
 wrapped false k b = b
 
 -- one arm by a colon, more by braces
-abbrev pub offered : (s r : List ℕ) → Branches → Body
-offered s r (one l sort b) = talks s r l sort b
-offered s r (more l sort b arms) = offers s r (more l sort b arms)
+abbrev pub offered : (s r : List ℕ) → Branches Talks → Body Talks
+offered s r (one l sort b) = acts s (sends_to r) l sort b
+offered s r (more l sort b arms) = offers s (sends_to r) (more l sort b arms)
 
 -- the canonical form of a body
 abbrev mutual
-  pub canon : Writing → Body → Bound → ℕ → Body
+  pub canon : Writing → Body Talks → Bound → ℕ → Body Talks
   canon w ends bound count = ends
   canon w (again x) bound count = again (name_of_node (number_or (bound_to x bound)))
   canon w (binds x b) bound count = canon w b ((x, count) ∷ bound) count
-  canon w (talks s r l sort b) bound count = wrapped (goes_back w.nodes count) count (talks (role_as w s) (role_as w r) (label_as w l) (sort_as sort) (canon w b bound (suc count)))
-  canon w (offers s r arms) bound count = wrapped (goes_back w.nodes count) count (offered (role_as w s) (role_as w r) (canon_arms w arms bound (suc count)))
+  canon w (acts s (sends_to r) l sort b) bound count = wrapped (goes_back w.nodes count) count (acts (role_as w s) (sends_to (role_as w r)) (label_as w l) (sort_as sort) (canon w b bound (suc count)))
+  canon w (offers s (sends_to r) arms) bound count = wrapped (goes_back w.nodes count) count (offered (role_as w s) (role_as w r) (canon_arms w arms bound (suc count)))
 
-  pub canon_arms : Writing → Branches → Bound → ℕ → Branches
+  pub canon_arms : Writing → Branches Talks → Bound → ℕ → Branches Talks
   canon_arms w (one l sort b) bound count = one (label_as w l) (sort_as sort) (canon w b bound count)
-  canon_arms w (more l sort b arms) bound count = more (label_as w l) (sort_as sort) (canon w b bound count) (canon_arms w arms bound (count + talks_in b))
+  canon_arms w (more l sort b arms) bound count = more (label_as w l) (sort_as sort) (canon w b bound count) (canon_arms w arms bound (count + acts_in Talks b))
 
 -- ---- where names lead
 
 -- names are bound and guarded
 abbrev mutual
-  pub Named : Body → Bound → ℕ → Type 0
+  pub Named : Body Talks → Bound → ℕ → Type 0
   Named ends bound count = Unit {0}
   Named (again x) bound count = is_guarded (bound_to x bound) count ≡ true
   Named (binds x b) bound count = Named b ((x, count) ∷ bound) count
-  Named (talks s r l sort b) bound count = Named b bound (suc count)
-  Named (offers s r arms) bound count = NamedArms arms bound (suc count)
+  Named (acts s (sends_to r) l sort b) bound count = Named b bound (suc count)
+  Named (offers s (sends_to r) arms) bound count = NamedArms arms bound (suc count)
 
-  pub NamedArms : Branches → Bound → ℕ → Type 0
+  pub NamedArms : Branches Talks → Bound → ℕ → Type 0
   NamedArms (one l sort b) bound count = Named b bound count
-  NamedArms (more l sort b arms) bound count = Named b bound count × NamedArms arms bound (count + talks_in b)
+  NamedArms (more l sort b arms) bound count = Named b bound count × NamedArms arms bound (count + acts_in Talks b)
 
 mutual
-  pub fits_named : (b : Body) (s : Scene) → body_fits b s ≡ true → Named b s.bound s.talks
+  pub fits_named : (b : Body Talks) (s : Scene) → body_fits Talks b s ≡ true → Named b s.bound s.acts
   fits_named ends s h = tt
   fits_named (again x) s h = h
   fits_named (binds x b) s h = fits_named b (in_rec x s) (both _ _ h).1
-  fits_named (talks x y l sort b) s h = fits_named b (with_label l (in_talk s)) (both _ _ h).1
-  fits_named (offers x y arms) s h = fits_named_arms arms (in_braces s) (both _ _ h).1
+  fits_named (acts x (sends_to y) l sort b) s h = fits_named b (with_label l (in_act s)) (both _ _ h).1
+  fits_named (offers x (sends_to y) arms) s h = fits_named_arms arms (in_braces s) (both _ _ h).1
 
-  fits_named_arms : (arms : Branches) (s : Scene) → arms_fit arms s ≡ true → NamedArms arms s.bound s.talks
+  fits_named_arms : (arms : Branches Talks) (s : Scene) → arms_fit Talks arms s ≡ true → NamedArms arms s.bound s.acts
   fits_named_arms (one l sort b) s h = fits_named b (with_label l s) (both _ _ h).1
-  fits_named_arms (more l sort b arms) s h = (fits_named b (with_label l s) (both _ _ (both _ _ h).0).1, fits_named_arms arms (behind b (with_label l s)) (both _ _ h).1)
+  fits_named_arms (more l sort b arms) s h = (fits_named b (with_label l s) (both _ _ (both _ _ h).0).1, fits_named_arms arms (behind Talks b (with_label l s)) (both _ _ h).1)
 
 -- no name leads behind k
 abbrev pub Low : Bound → ℕ → Type 0

@@ -13,11 +13,15 @@ use Rattle.rs_text.proofs.Naming.{grown_among, grown_differ, place_stands, decid
 use Rattle.rs_text.specs.Names.{Bound, number_or, grown, is_among, place_of}
 use Rattle.rs_text.specs.Sound.{differ, IsSound}
 use Rattle.rs_text.specs.Words.{is_word, is_role_word}
-use Rattle.rs_global.specs.Trees.{Body, ends, again, binds, talks, offers, Branches, one, more, ProtocolTree, roles_of}
-use Rattle.rs_global.specs.Graph.{labels_of, labels_of_arms, talks_in, has_end, Numbering, role_of, label_of, first_node, arm_of, arms_of, talk_of, nodes_of, nodes_of_arms, numbering, graph_of, finish_of}
+use Rattle.rs_global.specs.Trees.{ProtocolTree, roles_of}
+use Rattle.rs_global.specs.Graph.{talk_of, nodes_of, nodes_of_arms, numbering, graph_of, finish_of}
 use Rattle.rs_global.proofs.CanonForms.{role_as, label_as, or_empty}
 use Rattle.rs_global.proofs.Existence.{AreEnough, roles_stand, label_stands, one_longer, at_seam, nodes_length, writing_of}
 use Rattle.rs_text.proofs.Basics.{some_is, both, or_first, or_cases}
+use Rattle.rs_bodies.specs.Dialects.{sends_to}
+use Rattle.rs_bodies.specs.declared.dialects.Dialect.TheVariants.{Talks}
+use Rattle.rs_bodies.specs.Trees.{Body, ends, again, binds, acts, offers, Branches, one, more}
+use Rattle.rs_bodies.specs.Graph.{labels_of, labels_of_arms, acts_in, has_end, Numbering, role_of, label_of, first_of, arm_of, arms_of}
 
 -- ---- each label of a text is an arm's
 
@@ -25,40 +29,40 @@ abbrev FewLabels : Names_data → List Arm → Type 0
 FewLabels names arms = (place : ℕ) (arm : Arm) → slice_get arms place ≡ Some arm → arm.label.0 < length names.labels
 
 mutual
-  labels_few : (m : Numbering) (p : Protocol_data) (names : Names_data) (b : Body) (bound : Bound) (k : ℕ) (pre post : List Node) → AreEnough names p → p.nodes ≡ pre ++ (nodes_of m b bound k ++ post) → length pre ≡ k → (l : List ℕ) → is_among l (labels_of b) ≡ true → (label_of m l).0 < length names.labels
+  labels_few : (m : Numbering) (p : Protocol_data) (names : Names_data) (b : Body Talks) (bound : Bound) (k : ℕ) (pre post : List Node) → AreEnough names p → p.nodes ≡ pre ++ (nodes_of m b bound k ++ post) → length pre ≡ k → (l : List ℕ) → is_among l (labels_of Talks b) ≡ true → (label_of m l).0 < length names.labels
   labels_few m p names ends bound k pre post enough e h l i = absurd (cc i)
   labels_few m p names (again x) bound k pre post enough e h l i = absurd (cc i)
   labels_few m p names (binds x b) bound k pre post enough e h l i = labels_few m p names b ((x, k) ∷ bound) k pre post enough e h l i
-  labels_few m p names (talks s r label sort b) bound k pre post enough e h l i =
-      let a : Arm = arm_of m label sort (first_node b bound (suc k) m.last) in
+  labels_few m p names (acts s (sends_to r) label sort b) bound k pre post enough e h l i =
+      let a : Arm = arm_of m label sort (first_of Talks b bound (suc k) m.last) in
       let node : Node = talk_of m s r (a ∷ []) in
       let there : slice_get p.nodes k ≡ Some node = at_seam p.nodes pre node (nodes_of m b bound (suc k) ++ post) k e h in
-      or_cases ((label_of m l).0 < length names.labels) (bytes_eq label l) (is_among l (labels_of b)) i
+      or_cases ((label_of m l).0 < length names.labels) (bytes_eq label l) (is_among l (labels_of Talks b)) i
       (λ same. subst (λ (z : List ℕ). (label_of m z).0 < length names.labels) ((bytes_eq-Decides label l).0 same) (enough k 0 (role_of m s) (role_of m r) (a ∷ []) a there refl))
       (λ rest. labels_few m p names b bound (suc k) (pre ++ node ∷ []) post enough (e ∙ sym (append_assoc pre (node ∷ []) (nodes_of m b bound (suc k) ++ post))) (one_longer pre node k h) l rest)
-  labels_few m p names (offers s r arms) bound k pre post enough e h l i =
-      let ours : List Arm = arms_of m arms bound (suc k) in
+  labels_few m p names (offers s (sends_to r) arms) bound k pre post enough e h l i =
+      let ours : List Arm = arms_of Talks m arms bound (suc k) in
       let node : Node = talk_of m s r ours in
       let there : slice_get p.nodes k ≡ Some node = at_seam p.nodes pre node (nodes_of_arms m arms bound (suc k) ++ post) k e h in
       arm_labels_few m p names arms bound (suc k) (pre ++ node ∷ []) post enough (e ∙ sym (append_assoc pre (node ∷ []) (nodes_of_arms m arms bound (suc k) ++ post))) (one_longer pre node k h) (λ place arm stands. enough k place (role_of m s) (role_of m r) ours arm there stands) l i
 
-  arm_labels_few : (m : Numbering) (p : Protocol_data) (names : Names_data) (arms : Branches) (bound : Bound) (k : ℕ) (pre post : List Node) → AreEnough names p → p.nodes ≡ pre ++ (nodes_of_arms m arms bound k ++ post) → length pre ≡ k → FewLabels names (arms_of m arms bound k)
-      → (l : List ℕ) → is_among l (labels_of_arms arms) ≡ true → (label_of m l).0 < length names.labels
+  arm_labels_few : (m : Numbering) (p : Protocol_data) (names : Names_data) (arms : Branches Talks) (bound : Bound) (k : ℕ) (pre post : List Node) → AreEnough names p → p.nodes ≡ pre ++ (nodes_of_arms m arms bound k ++ post) → length pre ≡ k → FewLabels names (arms_of Talks m arms bound k)
+      → (l : List ℕ) → is_among l (labels_of_arms Talks arms) ≡ true → (label_of m l).0 < length names.labels
   arm_labels_few m p names (one label sort b) bound k pre post enough e h few l i =
-      or_cases ((label_of m l).0 < length names.labels) (bytes_eq label l) (is_among l (labels_of b)) i
-      (λ same. subst (λ (z : List ℕ). (label_of m z).0 < length names.labels) ((bytes_eq-Decides label l).0 same) (few 0 (arm_of m label sort (first_node b bound k m.last)) refl))
+      or_cases ((label_of m l).0 < length names.labels) (bytes_eq label l) (is_among l (labels_of Talks b)) i
+      (λ same. subst (λ (z : List ℕ). (label_of m z).0 < length names.labels) ((bytes_eq-Decides label l).0 same) (few 0 (arm_of m label sort (first_of Talks b bound k m.last)) refl))
       (λ rest. labels_few m p names b bound k pre post enough e h l rest)
   arm_labels_few m p names (more label sort b arms) bound k pre post enough e h few l i =
-      let j : ℕ = k + talks_in b in
-      or_cases ((label_of m l).0 < length names.labels) (bytes_eq label l) (is_among l (labels_of b ++ labels_of_arms arms)) i
-      (λ same. subst (λ (z : List ℕ). (label_of m z).0 < length names.labels) ((bytes_eq-Decides label l).0 same) (few 0 (arm_of m label sort (first_node b bound k m.last)) refl))
-      (λ rest. or_cases ((label_of m l).0 < length names.labels) (is_among l (labels_of b)) (is_among l (labels_of_arms arms)) (sym (list_any-append (λ z. bytes_eq z l) (labels_of b) (labels_of_arms arms)) ∙ rest)
+      let j : ℕ = k + acts_in Talks b in
+      or_cases ((label_of m l).0 < length names.labels) (bytes_eq label l) (is_among l (labels_of Talks b ++ labels_of_arms Talks arms)) i
+      (λ same. subst (λ (z : List ℕ). (label_of m z).0 < length names.labels) ((bytes_eq-Decides label l).0 same) (few 0 (arm_of m label sort (first_of Talks b bound k m.last)) refl))
+      (λ rest. or_cases ((label_of m l).0 < length names.labels) (is_among l (labels_of Talks b)) (is_among l (labels_of_arms Talks arms)) (sym (list_any-append (λ z. bytes_eq z l) (labels_of Talks b) (labels_of_arms Talks arms)) ∙ rest)
       (λ first. labels_few m p names b bound k pre (nodes_of_arms m arms bound j ++ post) enough (e ∙ ap (λ z. pre ++ z) (append_assoc (nodes_of m b bound k) (nodes_of_arms m arms bound j) post)) h l first)
       (λ last. arm_labels_few m p names arms bound j (pre ++ nodes_of m b bound k) post enough (e ∙ ap (λ z. pre ++ z) (append_assoc (nodes_of m b bound k) (nodes_of_arms m arms bound j) post) ∙ sym (append_assoc pre (nodes_of m b bound k) (nodes_of_arms m arms bound j ++ post)))
       (length-append pre (nodes_of m b bound k) ∙ ap (λ z. z + length (nodes_of m b bound k)) h ∙ ap (λ z. k + z) (nodes_length m b bound k)) (λ place arm stands. few (suc place) arm stands) l last))
 
-pub tree_labels_few : (t : ProtocolTree) (names : Names_data) → AreEnough names (graph_of t) → (l : List ℕ) → is_among l (labels_of t.body) ≡ true → (label_of (numbering t) l).0 < length names.labels
-tree_labels_few t names enough l i = labels_few (numbering t) (graph_of t) names t.body [] 0 [] (finish_of (has_end t.body)) enough refl refl l i
+pub tree_labels_few : (t : ProtocolTree) (names : Names_data) → AreEnough names (graph_of t) → (l : List ℕ) → is_among l (labels_of Talks t.body) ≡ true → (label_of (numbering t) l).0 < length names.labels
+tree_labels_few t names enough l i = labels_few (numbering t) (graph_of t) names t.body [] 0 [] (finish_of (has_end Talks t.body)) enough refl refl l i
 
 -- ---- names that are mapped
 
@@ -111,16 +115,16 @@ take_map f (x ∷ all) (l ∷ labels) h = ap (λ z. z ∷ map f all) (sym (some_
 -- ---- the labels
 
 abbrev pub labels_read : ProtocolTree → List (List ℕ)
-labels_read t = grown [] (labels_of t.body)
+labels_read t = grown [] (labels_of Talks t.body)
 
 pub labels_differ : (t : ProtocolTree) → differ (labels_read t) ≡ true
-labels_differ t = grown_differ (labels_of t.body) [] refl
+labels_differ t = grown_differ (labels_of Talks t.body) [] refl
 
-read_among : (t : ProtocolTree) (l : List ℕ) → is_among l (labels_read t) ≡ true → is_among l (labels_of t.body) ≡ true
-read_among t l h = sym (grown_among (labels_of t.body) [] l) ∙ h
+read_among : (t : ProtocolTree) (l : List ℕ) → is_among l (labels_read t) ≡ true → is_among l (labels_of Talks t.body) ≡ true
+read_among t l h = sym (grown_among (labels_of Talks t.body) [] l) ∙ h
 
-among_read : (t : ProtocolTree) (l : List ℕ) → is_among l (labels_of t.body) ≡ true → is_among l (labels_read t) ≡ true
-among_read t l h = grown_among (labels_of t.body) [] l ∙ h
+among_read : (t : ProtocolTree) (l : List ℕ) → is_among l (labels_of Talks t.body) ≡ true → is_among l (labels_read t) ≡ true
+among_read t l h = grown_among (labels_of Talks t.body) [] l ∙ h
 
 -- the label that was read at the place i is written by the name there
 pub label_at : (t : ProtocolTree) (names : Names_data) → AreEnough names (graph_of t) → (i : ℕ) (l : List ℕ) → slice_get (labels_read t) i ≡ Some l → slice_get names.labels i ≡ Some (label_as (writing_of t names) l)
@@ -139,8 +143,8 @@ labels_inject t names enough d x y a b e =
     some_is x y (sym i.1 ∙ ap (λ z. slice_get (labels_read t) z) same ∙ j.1)
 
 -- the labels that are written, in order of first places
-pub labels_written : (t : ProtocolTree) (names : Names_data) → AreEnough names (graph_of t) → differ names.labels ≡ true → grown [] (map (label_as (writing_of t names)) (labels_of t.body)) ≡ map (label_as (writing_of t names)) (labels_read t)
-labels_written t names enough d = grown_map (label_as (writing_of t names)) (labels_read t) (labels_of t.body) [] (labels_inject t names enough d) (λ y h. absurd (cc h)) (λ y h. among_read t y h)
+pub labels_written : (t : ProtocolTree) (names : Names_data) → AreEnough names (graph_of t) → differ names.labels ≡ true → grown [] (map (label_as (writing_of t names)) (labels_of Talks t.body)) ≡ map (label_as (writing_of t names)) (labels_read t)
+labels_written t names enough d = grown_map (label_as (writing_of t names)) (labels_read t) (labels_of Talks t.body) [] (labels_inject t names enough d) (λ y h. absurd (cc h)) (λ y h. among_read t y h)
 
 pub labels_taken : (t : ProtocolTree) (names : Names_data) → AreEnough names (graph_of t) → map (label_as (writing_of t names)) (labels_read t) ≡ take (length (labels_read t)) names.labels
 labels_taken t names enough = take_map (label_as (writing_of t names)) (labels_read t) names.labels (label_at t names enough)
@@ -162,7 +166,7 @@ unread f (x ∷ all) l d h = ap (λ z. number_or (place_of z (map f (x ∷ all))
 pub label_number : (t : ProtocolTree) (names : Names_data) → AreEnough names (graph_of t) → differ names.labels ≡ true → (l : List ℕ) → number_or (place_of (label_as (writing_of t names) l) (map (label_as (writing_of t names)) (labels_read t))) ≡ number_or (place_of l (labels_read t))
 label_number t names enough d l =
     let f : List ℕ → List ℕ = label_as (writing_of t names) in
-    let both_differ : differ (map f (labels_read t)) ≡ true = subst (λ (z : List (List ℕ)). differ z ≡ true) (labels_written t names enough d) (grown_differ (map f (labels_of t.body)) [] refl) in
+    let both_differ : differ (map f (labels_read t)) ≡ true = subst (λ (z : List (List ℕ)). differ z ≡ true) (labels_written t names enough d) (grown_differ (map f (labels_of Talks t.body)) [] refl) in
     elim (none_or_some (place_of l (labels_read t))) [
       | inl none ↦ unread f (labels_read t) l both_differ (λ x e. ap (λ z. or_empty (slice_get names.labels (number_or z))) none ∙ ap or_empty (label_at t names enough 0 x e)) ∙ sym (ap number_or none)
       | inr some ↦ ap number_or (place_at (map f (labels_read t)) some.0 (f l) both_differ (mapped_at f (labels_read t) some.0 l (place_stands (labels_read t) l some.0 some.1).there)) ∙ sym (ap number_or some.1)

@@ -12,10 +12,14 @@ use Rattle.rs_text.proofs.Naming.{grown_stays, place_of_new, placed_by, absent_b
 use Rattle.rs_text.proofs.Numbers.{place_below}
 use Rattle.rs_global.specs.Canonical.{IsTextShaped}
 use Rattle.rs_global.specs.Enough.{AreEnough}
-use Rattle.rs_global.specs.Graph.{Numbering, numbering, label_of, labels_of, labels_of_arms, arms_of, nodes_of, nodes_of_arms, finish_of, has_end, talks_in, names_of, graph_of}
+use Rattle.rs_global.specs.Graph.{numbering, nodes_of, nodes_of_arms, finish_of, names_of, graph_of}
 use Rattle.rs_global.specs.Spells.{SpellsProtocol}
-use Rattle.rs_global.specs.Trees.{Body, ends, again, binds, talks, offers, Branches, one, more, ProtocolTree}
+use Rattle.rs_global.specs.Trees.{ProtocolTree}
 use Rattle.rs_text.proofs.Basics.{both, test_below, one_of, below_test, two_true}
+use Rattle.rs_bodies.specs.Dialects.{sends_to}
+use Rattle.rs_bodies.specs.declared.dialects.Dialect.TheVariants.{Talks}
+use Rattle.rs_bodies.specs.Graph.{Numbering, label_of, labels_of, labels_of_arms, arms_of, has_end, acts_in}
+use Rattle.rs_bodies.specs.Trees.{Body, ends, again, binds, acts, offers, Branches, one, more}
 
 -- a label has a number below the count of the labels
 abbrev is_numbered : Numbering → List ℕ → Bool
@@ -36,30 +40,30 @@ front_labels m xs ys h = both (list_all (is_numbered m) xs) (list_all (is_number
 joined_nodes : (m : Numbering) (xs ys : List Node) → list_all (is_node_numbered m) xs ≡ true → list_all (is_node_numbered m) ys ≡ true → list_all (is_node_numbered m) (xs ++ ys) ≡ true
 joined_nodes m xs ys h k = list_all-append (is_node_numbered m) xs ys ∙ two_true (list_all (is_node_numbered m) xs) (list_all (is_node_numbered m) ys) h k
 
-arms_numbered : (arms : Branches) (m : Numbering) (bound : Bound) (k : ℕ) → list_all (is_numbered m) (labels_of_arms arms) ≡ true → list_all (is_arm_numbered m) (arms_of m arms bound k) ≡ true
-arms_numbered (one l sort body) m bound k h = two_true (is_numbered m l) true (both (is_numbered m l) (list_all (is_numbered m) (labels_of body)) h).0 refl
+arms_numbered : (arms : Branches Talks) (m : Numbering) (bound : Bound) (k : ℕ) → list_all (is_numbered m) (labels_of_arms Talks arms) ≡ true → list_all (is_arm_numbered m) (arms_of Talks m arms bound k) ≡ true
+arms_numbered (one l sort body) m bound k h = two_true (is_numbered m l) true (both (is_numbered m l) (list_all (is_numbered m) (labels_of Talks body)) h).0 refl
 arms_numbered (more l sort body arms) m bound k h =
-    let p = both (is_numbered m l) (list_all (is_numbered m) (labels_of body ++ labels_of_arms arms)) h in
-    let q = front_labels m (labels_of body) (labels_of_arms arms) p.1 in
-    two_true (is_numbered m l) (list_all (is_arm_numbered m) (arms_of m arms bound (k + talks_in body))) p.0 (arms_numbered arms m bound (k + talks_in body) q.1)
+    let p = both (is_numbered m l) (list_all (is_numbered m) (labels_of Talks body ++ labels_of_arms Talks arms)) h in
+    let q = front_labels m (labels_of Talks body) (labels_of_arms Talks arms) p.1 in
+    two_true (is_numbered m l) (list_all (is_arm_numbered m) (arms_of Talks m arms bound (k + acts_in Talks body))) p.0 (arms_numbered arms m bound (k + acts_in Talks body) q.1)
 
 mutual
-  nodes_numbered : (b : Body) (m : Numbering) (bound : Bound) (k : ℕ) → list_all (is_numbered m) (labels_of b) ≡ true → list_all (is_node_numbered m) (nodes_of m b bound k) ≡ true
+  nodes_numbered : (b : Body Talks) (m : Numbering) (bound : Bound) (k : ℕ) → list_all (is_numbered m) (labels_of Talks b) ≡ true → list_all (is_node_numbered m) (nodes_of m b bound k) ≡ true
   nodes_numbered ends m bound k h = refl
   nodes_numbered (again name) m bound k h = refl
   nodes_numbered (binds name body) m bound k h = nodes_numbered body m ((name, k) ∷ bound) k h
-  nodes_numbered (talks s r l sort body) m bound k h =
-      let p = both (is_numbered m l) (list_all (is_numbered m) (labels_of body)) h in
+  nodes_numbered (acts s (sends_to r) l sort body) m bound k h =
+      let p = both (is_numbered m l) (list_all (is_numbered m) (labels_of Talks body)) h in
       two_true (is_numbered m l && true) (list_all (is_node_numbered m) (nodes_of m body bound (suc k))) (two_true (is_numbered m l) true p.0 refl) (nodes_numbered body m bound (suc k) p.1)
-  nodes_numbered (offers s r arms) m bound k h =
-      two_true (list_all (is_arm_numbered m) (arms_of m arms bound (suc k))) (list_all (is_node_numbered m) (nodes_of_arms m arms bound (suc k))) (arms_numbered arms m bound (suc k) h) (behind_numbered arms m bound (suc k) h)
+  nodes_numbered (offers s (sends_to r) arms) m bound k h =
+      two_true (list_all (is_arm_numbered m) (arms_of Talks m arms bound (suc k))) (list_all (is_node_numbered m) (nodes_of_arms m arms bound (suc k))) (arms_numbered arms m bound (suc k) h) (behind_numbered arms m bound (suc k) h)
 
-  behind_numbered : (arms : Branches) (m : Numbering) (bound : Bound) (k : ℕ) → list_all (is_numbered m) (labels_of_arms arms) ≡ true → list_all (is_node_numbered m) (nodes_of_arms m arms bound k) ≡ true
-  behind_numbered (one l sort body) m bound k h = nodes_numbered body m bound k (both (is_numbered m l) (list_all (is_numbered m) (labels_of body)) h).1
+  behind_numbered : (arms : Branches Talks) (m : Numbering) (bound : Bound) (k : ℕ) → list_all (is_numbered m) (labels_of_arms Talks arms) ≡ true → list_all (is_node_numbered m) (nodes_of_arms m arms bound k) ≡ true
+  behind_numbered (one l sort body) m bound k h = nodes_numbered body m bound k (both (is_numbered m l) (list_all (is_numbered m) (labels_of Talks body)) h).1
   behind_numbered (more l sort body arms) m bound k h =
-      let p = both (is_numbered m l) (list_all (is_numbered m) (labels_of body ++ labels_of_arms arms)) h in
-      let q = front_labels m (labels_of body) (labels_of_arms arms) p.1 in
-      joined_nodes m (nodes_of m body bound k) (nodes_of_arms m arms bound (k + talks_in body)) (nodes_numbered body m bound k q.0) (behind_numbered arms m bound (k + talks_in body) q.1)
+      let p = both (is_numbered m l) (list_all (is_numbered m) (labels_of Talks body ++ labels_of_arms Talks arms)) h in
+      let q = front_labels m (labels_of Talks body) (labels_of_arms Talks arms) p.1 in
+      joined_nodes m (nodes_of m body bound k) (nodes_of_arms m arms bound (k + acts_in Talks body)) (nodes_numbered body m bound k q.0) (behind_numbered arms m bound (k + acts_in Talks body) q.1)
 
 -- ---- the labels of a text
 
@@ -89,10 +93,10 @@ tree_enough : (t : ProtocolTree) → AreEnough (names_of t) (graph_of t)
 tree_enough t =
     let m = numbering t in
     let nodes = nodes_of m t.body [] 0 in
-    let all : list_all (is_node_numbered m) (nodes ++ finish_of (has_end t.body)) ≡ true = joined_nodes m nodes (finish_of (has_end t.body)) (nodes_numbered t.body m [] 0 (numbered_in (labels_of t.body) [] m refl)) (end_numbered (has_end t.body) m) in
+    let all : list_all (is_node_numbered m) (nodes ++ finish_of (has_end Talks t.body)) ≡ true = joined_nodes m nodes (finish_of (has_end Talks t.body)) (nodes_numbered t.body m [] 0 (numbered_in (labels_of Talks t.body) [] m refl)) (end_numbered (has_end Talks t.body) m) in
     record {
       roles = refl;
-      labels = λ n place s r arms arm talks stands. test_below arm.label.0 (length m.names.labels) (one_of (is_arm_numbered m) arms place arm (one_of (is_node_numbered m) (nodes ++ finish_of (has_end t.body)) n (Talk s r arms) all talks) stands);
+      labels = λ n place s r arms arm talks stands. test_below arm.label.0 (length m.names.labels) (one_of (is_arm_numbered m) arms place arm (one_of (is_node_numbered m) (nodes ++ finish_of (has_end Talks t.body)) n (Talk s r arms) all talks) stands);
     }
 
 pub spelt_enough : (bytes : List ℕ) (at : ℕ) (names : Names_data) (protocol : Protocol_data) (until : ℕ) → SpellsProtocol bytes at names protocol until → AreEnough names protocol

@@ -6,8 +6,13 @@ use Rattle.rs_text.specs.Faults.{kind_number}
 use Rattle.rs_text.specs.declared.faults.TextKind.{TextKind}
 use Rattle.rs_text.specs.declared.faults.TextKind.TheVariants as kind
 use Rattle.rs_text.specs.declared.faults.Wanted.TheVariants as wanted
-use Rattle.rs_global.specs.Cuts.{at_begin}
 use Rattle.rs_global.specs.Faults.{FirstFault}
+use Rattle.rs_bodies.specs.Cuts.{in_opening}
+use Rattle.rs_bodies.specs.Cuts.{at_roles}
+use Rattle.rs_bodies.specs.Openings.{Opening, of_roles, opening_signs}
+use Rattle.rs_bodies.specs.Trees.{Body, body_signs}
+use Rattle.rs_bodies.specs.Spells.{Tree, tree_signs}
+use Rattle.rs_bodies.specs.declared.dialects.Dialect.TheVariants.{Talks}
 use Rattle.rs_global.specs.Trees.{protocol_signs, ProtocolTree}
 use Rattle.rs_global.specs.Graph.{graph_of, names_of}
 use Rattle.rs_global.specs.Examples.{text, tree}
@@ -73,8 +78,11 @@ one_least : (k : TextKind) → 1 ≤ kind_number k
 one_least (kind.Expected w) = omega arith
 one_least _ = omega arith
 
-no_begin : (tree : ProtocolTree) (rest : List Sign) → protocol_signs tree ≡ finish ∷ rest → ⊥
-no_begin tree rest h = cc
+opening_no_end : (o : Opening Talks) (b : Body Talks) (rest : List Sign) → opening_signs Talks o ++ body_signs Talks b ≡ finish ∷ rest → ⊥
+opening_no_end (of_roles x y xs) b rest h = cc
+
+no_begin : (tree : Tree Talks) (rest : List Sign) → tree_signs Talks tree ≡ finish ∷ rest → ⊥
+no_begin tree rest h = opening_no_end tree.opening tree.body rest h
 
 pub lacks : FirstFault [] 0 (kind.Expected wanted.Roles) 0
 lacks = record {
@@ -83,7 +91,7 @@ lacks = record {
   others = [];
   lexed = (refl, (λ _. refl), λ k. absurd (cc k));
   stands = refl;
-  fault = inl (wanted.Roles, refl, record { whole = tt; place = at_begin; stands = refl; within = tt; wants = refl; stops = λ b. no_begin b.0 b.1 b.2 });
+  fault = inl (wanted.Roles, refl, record { whole = tt; place = in_opening at_roles; stands = refl; within = tt; wants = refl; stops = λ b. no_begin b.0 b.1 b.2 });
   clear = tt;
   least = λ k f. one_least k;
 }

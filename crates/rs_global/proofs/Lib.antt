@@ -1,19 +1,4 @@
-pub mod FaultRuns
-pub mod FaultPlaces
-pub mod FaultCuts
-pub mod FaultSteps
-pub mod FirstFaults
-pub mod OneFault
-pub mod Answers
-pub mod Sounding
 pub mod Examples
-pub mod Placing
-pub mod SpeltSteps
-pub mod SpeltBodies
-pub mod SpeltTrees
-pub mod SpeltCuts
-pub mod SpeltRuns
-pub mod SpeltLaws
 pub mod CanonForms
 pub mod Existence
 pub mod CanonOne
@@ -31,3 +16,4 @@ pub mod Printed
 pub mod BackFlags
 pub mod EndsLast
 pub mod EnoughNames
+pub mod Spelt

@@ -12,9 +12,12 @@ use Rattle.rs_global.specs.declared.printing.Target.{Target}
 use Rattle.rs_global.specs.Canonical.{name_of_node, IsGoneBackTo, IsTalkOf, IsArmOf, Draws, DrawsTalk, DrawsArms, IsCanonical, IsCanonicalText}
 use Rattle.rs_global.specs.Printing.{AreBack, pair_text, head_text, rec_text, others_text, Step, step, opened, target, Brace_data, arms_step, whole_step, node_step, brace_step, Printer_data, turned, turned_by, is_left, begins_with}
 use Rattle.rs_global.specs.Texts.{body_text, branches_text, names_text}
-use Rattle.rs_global.specs.Trees.{Body, ends, again, binds, talks, offers, Branches, one, more, ProtocolTree, roles_of}
+use Rattle.rs_global.specs.Trees.{ProtocolTree, roles_of}
 use Rattle.rs_text.specs.Names.{name_at}
 use Rattle.rs_text.specs.Arms.{arm_text}
+use Rattle.rs_bodies.specs.Dialects.{sends_to}
+use Rattle.rs_bodies.specs.declared.dialects.Dialect.TheVariants.{Talks}
+use Rattle.rs_bodies.specs.Trees.{Body, ends, again, binds, acts, offers, Branches, one, more}
 
 -- the names of a line, as they are written
 pub names_are : (names : List (List ℕ)) (name : List ℕ) → names_text (name ∷ names) ≡ name ++ others_text names
@@ -34,7 +37,7 @@ EndIsLast p = (n m : ℕ) (sender receiver : Role) (arms : List Arm) → slice_g
 -- of the arms in open braces
 abbrev ArmsLeft : Names_data → Protocol_data → ℕ → List Arm → List ℕ → Type 0
 ArmsLeft names p from [] own = own ≡ codes "}"
-ArmsLeft names p from (a ∷ others) own = (branches : Branches) × DrawsArms names p from (a ∷ others) branches × (own ≡ codes ", " ++ (branches_text branches ++ codes "}"))
+ArmsLeft names p from (a ∷ others) own = (branches : Branches Talks) × DrawsArms names p from (a ∷ others) branches × (own ≡ codes ", " ++ (branches_text branches ++ codes "}"))
 
 -- of all open braces
 abbrev BracesLeft : Names_data → Protocol_data → List Brace_data → List ℕ → Type 0
@@ -44,7 +47,7 @@ BracesLeft names p (b ∷ outer) text = (own rest : List ℕ) × NoEndBelow p b.
 -- of the next node, and then of the braces
 abbrev pub NextLeft : Names_data → Protocol_data → Option Target → List Brace_data → List ℕ → Type 0
 NextLeft names p None braces text = BracesLeft names p braces text
-NextLeft names p (Some t) braces text = (body : Body) × (rest : List ℕ) × NoEndBelow p t.from × Draws names p t.from t.node body × (text ≡ body_text body ++ rest) × BracesLeft names p braces rest
+NextLeft names p (Some t) braces text = (body : Body Talks) × (rest : List ℕ) × NoEndBelow p t.from × Draws names p t.from t.node body × (text ≡ body_text body ++ rest) × BracesLeft names p braces rest
 
 -- a step writes a front of it, and the rest is still to be written
 abbrev Onward : Names_data → Protocol_data → Step → List Brace_data → List ℕ → Type 0
@@ -65,27 +68,27 @@ last_shape : (m h b r : List ℕ) → (m ++ ((h ++ b) ++ codes "}")) ++ r ≡ (m
 last_shape m h b r = simp append_assoc refl
 
 -- the only arm
-one_onward : (names : Names_data) (p : Protocol_data) (from : ℕ) (a : Arm) (label : List ℕ) (sort : Option Sort) (body : Body) (mark rest : List ℕ) (braces : List Brace_data) → NoEndBelow p from → IsArmOf names label sort a → Draws names p from a.next body → BracesLeft names p braces rest
+one_onward : (names : Names_data) (p : Protocol_data) (from : ℕ) (a : Arm) (label : List ℕ) (sort : Option Sort) (body : Body Talks) (mark rest : List ℕ) (braces : List Brace_data) → NoEndBelow p from → IsArmOf names label sort a → Draws names p from a.next body → BracesLeft names p braces rest
     → Onward names p (step (mark ++ head_text names a) [] (target from a.next)) braces ((mark ++ (arm_text label sort ++ body_text body)) ++ rest)
 one_onward names p from a label sort body mark rest braces none is draws left =
     (body_text body ++ rest, (body, rest, none, draws, refl, left), (rw (head_is names a label sort is) (one_shape mark (arm_text label sort) (body_text body) rest)))
 
 -- an arm before others
-more_onward : (names : Names_data) (p : Protocol_data) (from : ℕ) (a b : Arm) (others : List Arm) (label : List ℕ) (sort : Option Sort) (body : Body) (arms : Branches) (mark rest : List ℕ) (braces : List Brace_data) → NoEndBelow p from → IsArmOf names label sort a → Draws names p from a.next body → DrawsArms names p from (b ∷ others) arms → BracesLeft names p braces rest
+more_onward : (names : Names_data) (p : Protocol_data) (from : ℕ) (a b : Arm) (others : List Arm) (label : List ℕ) (sort : Option Sort) (body : Body Talks) (arms : Branches Talks) (mark rest : List ℕ) (braces : List Brace_data) → NoEndBelow p from → IsArmOf names label sort a → Draws names p from a.next body → DrawsArms names p from (b ∷ others) arms → BracesLeft names p braces rest
     → Onward names p (step (mark ++ head_text names a) (opened from (b ∷ others)) (target from a.next)) braces ((mark ++ (branches_text (more label sort body arms) ++ codes "}")) ++ rest)
 more_onward names p from a b others label sort body arms mark rest braces none is draws drawn left =
     let own = codes ", " ++ (branches_text arms ++ codes "}") in
     (body_text body ++ (own ++ rest), (body, own ++ rest, none, draws, refl, (own, rest, none, (arms, drawn, refl), refl, left)), (rw (head_is names a label sort is) (more_shape mark (arm_text label sort) (body_text body) (branches_text arms) rest)))
 
 -- the last of several
-last_onward : (names : Names_data) (p : Protocol_data) (from : ℕ) (a : Arm) (label : List ℕ) (sort : Option Sort) (body : Body) (mark rest : List ℕ) (braces : List Brace_data) → NoEndBelow p from → IsArmOf names label sort a → Draws names p from a.next body → BracesLeft names p braces rest
+last_onward : (names : Names_data) (p : Protocol_data) (from : ℕ) (a : Arm) (label : List ℕ) (sort : Option Sort) (body : Body Talks) (mark rest : List ℕ) (braces : List Brace_data) → NoEndBelow p from → IsArmOf names label sort a → Draws names p from a.next body → BracesLeft names p braces rest
     → Onward names p (step (mark ++ head_text names a) (opened from []) (target from a.next)) braces ((mark ++ (branches_text (one label sort body) ++ codes "}")) ++ rest)
 last_onward names p from a label sort body mark rest braces none is draws left =
     (body_text body ++ (codes "}" ++ rest), (body, codes "}" ++ rest, none, draws, refl, (codes "}", rest, none, refl, refl, left)), (rw (head_is names a label sort is) (last_shape mark (arm_text label sort) (body_text body) rest)))
 
 -- ---- open braces
 
-further_onward : (arms : List Arm) (branches : Branches) (names : Names_data) (p : Protocol_data) (from : ℕ) (a : Arm) (rest : List ℕ) (braces : List Brace_data) → NoEndBelow p from → DrawsArms names p from (a ∷ arms) branches → BracesLeft names p braces rest
+further_onward : (arms : List Arm) (branches : Branches Talks) (names : Names_data) (p : Protocol_data) (from : ℕ) (a : Arm) (rest : List ℕ) (braces : List Brace_data) → NoEndBelow p from → DrawsArms names p from (a ∷ arms) branches → BracesLeft names p braces rest
     → Onward names p (step (codes ", " ++ head_text names a) (opened from arms) (target from a.next)) braces ((codes ", " ++ (branches_text branches ++ codes "}")) ++ rest)
 further_onward [] (one label sort body) names p from a rest braces none draws left = last_onward names p from a label sort body (codes ", ") rest braces none draws.0 draws.1 left
 further_onward [] (more label sort body (one _ _ _)) names p from a rest braces none draws left = absurd draws.2
@@ -99,7 +102,7 @@ brace_onward (a ∷ arms) names p from own rest braces none h left = rw h.2 (fur
 
 -- ---- talks
 
-first_onward : (arms : List Arm) (branches : Branches) (names : Names_data) (p : Protocol_data) (from : ℕ) (a b : Arm) (rest : List ℕ) (braces : List Brace_data) → NoEndBelow p from → DrawsArms names p from (a ∷ b ∷ arms) branches → BracesLeft names p braces rest
+first_onward : (arms : List Arm) (branches : Branches Talks) (names : Names_data) (p : Protocol_data) (from : ℕ) (a b : Arm) (rest : List ℕ) (braces : List Brace_data) → NoEndBelow p from → DrawsArms names p from (a ∷ b ∷ arms) branches → BracesLeft names p braces rest
     → Onward names p (arms_step names from (a ∷ b ∷ arms)) braces ((codes "{" ++ (branches_text branches ++ codes "}")) ++ rest)
 first_onward others (one label sort body) names p from a b rest braces none draws left = absurd draws
 first_onward others (more label sort body arms) names p from a b rest braces none draws left = more_onward names p from a b others label sort body arms (codes "{") rest braces none draws.0 draws.1 draws.2 left
@@ -116,12 +119,12 @@ behind_pair names p back n s r arms braces text is h =
 pair_shape : (c s m r x rest : List ℕ) → c ++ ((s ++ (m ++ (r ++ x))) ++ rest) ≡ c ++ (s ++ (m ++ (r ++ (x ++ rest))))
 pair_shape c s m r x rest = simp append_assoc refl
 
-talk_onward : (body : Body) (names : Names_data) (p : Protocol_data) (back : Bool) (n : ℕ) (rest : List ℕ) (braces : List Brace_data) → NoEndBelow p (n + 1) → DrawsTalk names p n body → BracesLeft names p braces rest
+talk_onward : (body : Body Talks) (names : Names_data) (p : Protocol_data) (back : Bool) (n : ℕ) (rest : List ℕ) (braces : List Brace_data) → NoEndBelow p (n + 1) → DrawsTalk names p n body → BracesLeft names p braces rest
     → Onward names p (whole_step names back n (slice_get p.nodes n)) braces (rec_text back n ++ (body_text body ++ rest))
-talk_onward (talks s r label sort body) names p back n rest braces none h left =
+talk_onward (acts s (sends_to r) label sort body) names p back n rest braces none h left =
     rw (pair_shape (rec_text back n) s (codes "->") r (codes ":" ++ (arm_text label sort ++ body_text body)) rest)
     (behind_pair names p back n s r (h.0 ∷ []) braces ((codes ":" ++ (arm_text label sort ++ body_text body)) ++ rest) h.1 (one_onward names p (n + 1) h.0 label sort body (codes ":") rest braces none h.2 h.3 left))
-talk_onward (offers s r arms) names p back n rest braces none h left =
+talk_onward (offers s (sends_to r) arms) names p back n rest braces none h left =
     rw (pair_shape (rec_text back n) s (codes "->") r (codes "{" ++ (branches_text arms ++ codes "}")) rest)
     (behind_pair names p back n s r (h.0 ∷ h.1 ∷ h.2) braces ((codes "{" ++ (branches_text arms ++ codes "}")) ++ rest) h.3 (first_onward h.2 arms names p (n + 1) h.0 h.1 rest braces none h.4 left))
 talk_onward ends names p back n rest braces none h left = absurd h
@@ -133,15 +136,15 @@ talk_onward (binds name body) names p back n rest braces none h left = absurd h
 none_below : (p : Protocol_data) (n : ℕ) (sender receiver : Role) (arms : List Arm) → EndIsLast p → slice_get p.nodes n ≡ Some (Talk sender receiver arms) → NoEndBelow p (n + 1)
 none_below p n sender receiver arms last h m e = let k : n < m = last m n sender receiver arms e h in omega arith
 
-drawn_none : (body : Body) (names : Names_data) (p : Protocol_data) (n : ℕ) → EndIsLast p → DrawsTalk names p n body → NoEndBelow p (n + 1)
-drawn_none (talks s r label sort body) names p n last h = none_below p n h.1.sender h.1.receiver (h.0 ∷ []) last h.1.talks
-drawn_none (offers s r arms) names p n last h = none_below p n h.3.sender h.3.receiver (h.0 ∷ h.1 ∷ h.2) last h.3.talks
+drawn_none : (body : Body Talks) (names : Names_data) (p : Protocol_data) (n : ℕ) → EndIsLast p → DrawsTalk names p n body → NoEndBelow p (n + 1)
+drawn_none (acts s (sends_to r) label sort body) names p n last h = none_below p n h.1.sender h.1.receiver (h.0 ∷ []) last h.1.talks
+drawn_none (offers s (sends_to r) arms) names p n last h = none_below p n h.3.sender h.3.receiver (h.0 ∷ h.1 ∷ h.2) last h.3.talks
 drawn_none ends names p n last h = absurd h
 drawn_none (again name) names p n last h = absurd h
 drawn_none (binds name body) names p n last h = absurd h
 
 -- the node isn't below `from`, and its flag is known
-drawn_onward : (body : Body) (names : Names_data) (p : Protocol_data) (flags : List Bool) (t : Target) (back : Bool) (rest : List ℕ) (braces : List Brace_data) → EndIsLast p → t.from ≤ t.node → get_or flags t.node false ≡ back → DrawsTalk names p t.node body → BracesLeft names p braces rest
+drawn_onward : (body : Body Talks) (names : Names_data) (p : Protocol_data) (flags : List Bool) (t : Target) (back : Bool) (rest : List ℕ) (braces : List Brace_data) → EndIsLast p → t.from ≤ t.node → get_or flags t.node false ≡ back → DrawsTalk names p t.node body → BracesLeft names p braces rest
     → Onward names p (node_step names p.nodes flags t) braces (rec_text back t.node ++ (body_text body ++ rest))
 drawn_onward body names p flags t back rest braces last whole flag h left = elim (leb_tells (suc t.node) t.from) [
   | inl e ↦ absurd (let k = e.1 in omega arith)
@@ -171,17 +174,17 @@ no_flag p flags n back h = elim (true_or_false (get_or flags n false)) [
 rec_shape : (x b rest : List ℕ) → (codes "rec " ++ (x ++ (codes ". " ++ b))) ++ rest ≡ (codes "rec " ++ (x ++ codes ". ")) ++ (b ++ rest)
 rec_shape x b rest = simp append_assoc refl
 
-node_onward : (body : Body) (names : Names_data) (p : Protocol_data) (flags : List Bool) (t : Target) (rest : List ℕ) (braces : List Brace_data) → EndIsLast p → AreBack p flags → NoEndBelow p t.from → Draws names p t.from t.node body → BracesLeft names p braces rest
+node_onward : (body : Body Talks) (names : Names_data) (p : Protocol_data) (flags : List Bool) (t : Target) (rest : List ℕ) (braces : List Brace_data) → EndIsLast p → AreBack p flags → NoEndBelow p t.from → Draws names p t.from t.node body → BracesLeft names p braces rest
     → Onward names p (node_step names p.nodes flags t) braces (body_text body ++ rest)
 node_onward ends names p flags t rest braces last back none h left = end_onward names p flags t rest braces (none t.node h) h left
 node_onward (again name) names p flags t rest braces last back none h left = rw h.1 (name_onward names p flags t rest braces h.0 left)
 node_onward (binds name body) names p flags t rest braces last back none h left =
     rw (h.1, rec_shape (name_of_node t.node) (body_text body) rest)
     (drawn_onward body names p flags t true rest braces last h.0 ((back t.node).1 h.2) h.3 left)
-node_onward (talks s r label sort body) names p flags t rest braces last back none h left =
-    drawn_onward (talks s r label sort body) names p flags t false rest braces last h.0 (no_flag p flags t.node back h.1) h.2 left
-node_onward (offers s r arms) names p flags t rest braces last back none h left =
-    drawn_onward (offers s r arms) names p flags t false rest braces last h.0 (no_flag p flags t.node back h.1) h.2 left
+node_onward (acts s (sends_to r) label sort body) names p flags t rest braces last back none h left =
+    drawn_onward (acts s (sends_to r) label sort body) names p flags t false rest braces last h.0 (no_flag p flags t.node back h.1) h.2 left
+node_onward (offers s (sends_to r) arms) names p flags t rest braces last back none h left =
+    drawn_onward (offers s (sends_to r) arms) names p flags t false rest braces last h.0 (no_flag p flags t.node back h.1) h.2 left
 
 -- ---- the printer
 
@@ -193,7 +196,7 @@ pub record Goes (names : Names_data) (p : Protocol_data) (start : List ℕ) (d :
   pub names_are : d.names ≡ names
   pub protocol_is : d.protocol ≡ p
   pub back : AreBack p d.flags
-  pub whole : (body : Body) → Draws names p 0 p.root body → Whole names p d (start ++ body_text body)
+  pub whole : (body : Body Talks) → Draws names p 0 p.root body → Whole names p d (start ++ body_text body)
 
 pub goes_first : (names : Names_data) (p : Protocol_data) (flags : List Bool) (start : List ℕ) → AreBack p flags → Goes names p start (begins_with names p flags start)
 goes_first names p flags start back = record {
@@ -247,7 +250,7 @@ nothing_left None (brace ∷ outer) names p left h k = elim (leb_tells 1 (length
 nothing_left (Some t) braces names p left h k = absurd (cc h)
 
 -- at the end the text is whole
-pub goes_to : (names : Names_data) (p : Protocol_data) (start : List ℕ) (d : Printer_data) → Goes names p start d → is_left d ≡ false → (body : Body) → Draws names p 0 p.root body → d.text ≡ start ++ body_text body
+pub goes_to : (names : Names_data) (p : Protocol_data) (start : List ℕ) (d : Printer_data) → Goes names p start d → is_left d ≡ false → (body : Body Talks) → Draws names p 0 p.root body → d.text ≡ start ++ body_text body
 goes_to names p start d g h body draws =
     let w = g.whole body draws in
     let none : w.0 ≡ [] = nothing_left d.next d.braces names p w.0 h w.1 in

@@ -10,12 +10,16 @@ use Rattle.rs_text.specs.Words.{begins, is_role_word}
 use Rattle.rs_text.specs.Writing.{IsWritten}
 use Rattle.rs_text.proofs.Written.{nothing_written, joined, before_blank, before_mark, before_word, before_role, word_written, role_written, written_cut}
 use Rattle.rs_text.proofs.Nexts.{exists, are_lexed, end_again}
-use Rattle.rs_global.specs.Trees.{Body, ends, again, binds, talks, offers, Branches, one, more, ProtocolTree, roles_of, body_signs, branch_signs, further_signs, protocol_signs, ends_by_name, ends_a_name}
+use Rattle.rs_global.specs.Trees.{ProtocolTree, roles_of, protocol_signs}
 use Rattle.rs_global.specs.Texts.{body_text, branches_text, names_text, protocol_text}
 use Rattle.rs_global.specs.Graph.{graph_of, names_of}
 use Rattle.rs_global.specs.Spells.{SpellsProtocol, Fits}
 use Rattle.rs_global.specs.Writable.{AreWordsIn, AreWordsInArms, AreWords}
 use Rattle.rs_text.proofs.Arms.{arm_written}
+use Rattle.rs_bodies.specs.Dialects.{sends_to}
+use Rattle.rs_bodies.specs.declared.dialects.Dialect.TheVariants.{Talks}
+use Rattle.rs_bodies.specs.Trees.{Body, ends, again, binds, acts, offers, Branches, one, more, body_signs, branch_signs, ends_by_name, ends_a_name}
+use Rattle.rs_bodies.specs.Openings.{further_signs}
 
 -- ---- bodies
 
@@ -24,34 +28,34 @@ talk_written : (s r : List ℕ) (signs : List Sign) (text behind : List ℕ) →
 talk_written s r signs text behind hs hr whole w = before_role s (arrow ∷ plain r ∷ signs) (codes "->" ++ (r ++ text)) behind hs refl (before_mark arrow (plain r ∷ signs) (codes "->") (r ++ text) behind refl refl (before_role r signs text behind hr whole w))
 
 mutual
-  pub body_written : (b : Body) (behind : List ℕ) → AreWordsIn b → begins is_word_byte behind ≡ false → IsWritten (body_signs b) (body_text b) behind
+  pub body_written : (b : Body Talks) (behind : List ℕ) → AreWordsIn b → begins is_word_byte behind ≡ false → IsWritten (body_signs Talks b) (body_text b) behind
   body_written ends behind h whole = word_written (codes "end") behind refl whole
   body_written (again name) behind h whole = role_written name behind h whole
   body_written (binds name body) behind h whole =
-      before_word (codes "rec") (plain name ∷ dot ∷ body_signs body) (codes " " ++ (name ++ (codes ". " ++ body_text body))) behind refl refl
-      (before_blank 32 (plain name ∷ dot ∷ body_signs body) (name ++ (codes ". " ++ body_text body)) behind refl
-      (before_role name (dot ∷ body_signs body) (codes ". " ++ body_text body) behind h.0 refl
-      (before_mark dot (body_signs body) (codes ".") (codes " " ++ body_text body) behind refl refl
-      (before_blank 32 (body_signs body) (body_text body) behind refl (body_written body behind h.1 whole)))))
-  body_written (talks s r label sort body) behind h whole =
-      talk_written s r (colon ∷ (arm_signs label sort ++ body_signs body)) (codes ":" ++ (arm_text label sort ++ body_text body)) behind h.0 h.1 refl
-      (before_mark colon (arm_signs label sort ++ body_signs body) (codes ":") (arm_text label sort ++ body_text body) behind refl refl
-      (joined (arm_signs label sort) (body_signs body) (arm_text label sort) (body_text body) behind (arm_written label sort (body_text body ++ behind) h.2) (body_written body behind h.3 whole)))
-  body_written (offers s r arms) behind h whole =
-      talk_written s r (open_brace ∷ (branch_signs arms ++ close_brace ∷ [])) (codes "{" ++ (branches_text arms ++ codes "}")) behind h.0 h.1 refl
-      (before_mark open_brace (branch_signs arms ++ close_brace ∷ []) (codes "{") (branches_text arms ++ codes "}") behind refl refl
-      (joined (branch_signs arms) (close_brace ∷ []) (branches_text arms) (codes "}") behind (branches_written arms (codes "}" ++ behind) h.2 refl)
+      before_word (codes "rec") (plain name ∷ dot ∷ body_signs Talks body) (codes " " ++ (name ++ (codes ". " ++ body_text body))) behind refl refl
+      (before_blank 32 (plain name ∷ dot ∷ body_signs Talks body) (name ++ (codes ". " ++ body_text body)) behind refl
+      (before_role name (dot ∷ body_signs Talks body) (codes ". " ++ body_text body) behind h.0 refl
+      (before_mark dot (body_signs Talks body) (codes ".") (codes " " ++ body_text body) behind refl refl
+      (before_blank 32 (body_signs Talks body) (body_text body) behind refl (body_written body behind h.1 whole)))))
+  body_written (acts s (sends_to r) label sort body) behind h whole =
+      talk_written s r (colon ∷ (arm_signs label sort ++ body_signs Talks body)) (codes ":" ++ (arm_text label sort ++ body_text body)) behind h.0 h.1 refl
+      (before_mark colon (arm_signs label sort ++ body_signs Talks body) (codes ":") (arm_text label sort ++ body_text body) behind refl refl
+      (joined (arm_signs label sort) (body_signs Talks body) (arm_text label sort) (body_text body) behind (arm_written label sort (body_text body ++ behind) h.2) (body_written body behind h.3 whole)))
+  body_written (offers s (sends_to r) arms) behind h whole =
+      talk_written s r (open_brace ∷ (branch_signs Talks arms ++ close_brace ∷ [])) (codes "{" ++ (branches_text arms ++ codes "}")) behind h.0 h.1 refl
+      (before_mark open_brace (branch_signs Talks arms ++ close_brace ∷ []) (codes "{") (branches_text arms ++ codes "}") behind refl refl
+      (joined (branch_signs Talks arms) (close_brace ∷ []) (branches_text arms) (codes "}") behind (branches_written arms (codes "}" ++ behind) h.2 refl)
       (before_mark close_brace [] (codes "}") [] behind refl refl (nothing_written behind))))
 
-  branches_written : (arms : Branches) (behind : List ℕ) → AreWordsInArms arms → begins is_word_byte behind ≡ false → IsWritten (branch_signs arms) (branches_text arms) behind
-  branches_written (one label sort body) behind h whole = joined (arm_signs label sort) (body_signs body) (arm_text label sort) (body_text body) behind (arm_written label sort (body_text body ++ behind) h.0) (body_written body behind h.1 whole)
+  branches_written : (arms : Branches Talks) (behind : List ℕ) → AreWordsInArms arms → begins is_word_byte behind ≡ false → IsWritten (branch_signs Talks arms) (branches_text arms) behind
+  branches_written (one label sort body) behind h whole = joined (arm_signs label sort) (body_signs Talks body) (arm_text label sort) (body_text body) behind (arm_written label sort (body_text body ++ behind) h.0) (body_written body behind h.1 whole)
   branches_written (more label sort body arms) behind h whole =
-      joined (arm_signs label sort) (body_signs body ++ comma ∷ branch_signs arms) (arm_text label sort) (body_text body ++ (codes ", " ++ branches_text arms)) behind
+      joined (arm_signs label sort) (body_signs Talks body ++ comma ∷ branch_signs Talks arms) (arm_text label sort) (body_text body ++ (codes ", " ++ branches_text arms)) behind
       (arm_written label sort ((body_text body ++ (codes ", " ++ branches_text arms)) ++ behind) h.0)
-      (joined (body_signs body) (comma ∷ branch_signs arms) (body_text body) (codes ", " ++ branches_text arms) behind
+      (joined (body_signs Talks body) (comma ∷ branch_signs Talks arms) (body_text body) (codes ", " ++ branches_text arms) behind
       (body_written body ((codes ", " ++ branches_text arms) ++ behind) h.1 refl)
-      (before_mark comma (branch_signs arms) (codes ",") (codes " " ++ branches_text arms) behind refl refl
-      (before_blank 32 (branch_signs arms) (branches_text arms) behind refl (branches_written arms behind h.2 whole))))
+      (before_mark comma (branch_signs Talks arms) (codes ",") (codes " " ++ branches_text arms) behind refl refl
+      (before_blank 32 (branch_signs Talks arms) (branches_text arms) behind refl (branches_written arms behind h.2 whole))))
 
 -- ---- the roles line
 
@@ -65,22 +69,22 @@ names_written (other ∷ names) name behind h whole =
 pub protocol_written : (t : ProtocolTree) (behind : List ℕ) → AreWords t → IsWritten (protocol_signs t) (protocol_text t) behind
 protocol_written t behind h =
     let line = codes "\nprotocol " ++ (body_text t.body ++ codes "\n") in
-    let body : IsWritten (body_signs t.body) (body_text t.body ++ codes "\n") behind =
-    subst (λ signs. IsWritten signs (body_text t.body ++ codes "\n") behind) (append-nil (body_signs t.body))
-    (joined (body_signs t.body) [] (body_text t.body) (codes "\n") behind (body_written t.body (codes "\n" ++ behind) h.body refl) (before_blank 10 [] [] behind refl (nothing_written behind))) in
-    let protocol : IsWritten (plain (codes "protocol") ∷ body_signs t.body) line behind =
-    before_blank 10 (plain (codes "protocol") ∷ body_signs t.body) (codes "protocol " ++ (body_text t.body ++ codes "\n")) behind refl
-    (before_role (codes "protocol") (body_signs t.body) (codes " " ++ (body_text t.body ++ codes "\n")) behind refl refl
-    (before_blank 32 (body_signs t.body) (body_text t.body ++ codes "\n") behind refl body)) in
+    let body : IsWritten (body_signs Talks t.body) (body_text t.body ++ codes "\n") behind =
+    subst (λ signs. IsWritten signs (body_text t.body ++ codes "\n") behind) (append-nil (body_signs Talks t.body))
+    (joined (body_signs Talks t.body) [] (body_text t.body) (codes "\n") behind (body_written t.body (codes "\n" ++ behind) h.body refl) (before_blank 10 [] [] behind refl (nothing_written behind))) in
+    let protocol : IsWritten (plain (codes "protocol") ∷ body_signs Talks t.body) line behind =
+    before_blank 10 (plain (codes "protocol") ∷ body_signs Talks t.body) (codes "protocol " ++ (body_text t.body ++ codes "\n")) behind refl
+    (before_role (codes "protocol") (body_signs Talks t.body) (codes " " ++ (body_text t.body ++ codes "\n")) behind refl refl
+    (before_blank 32 (body_signs Talks t.body) (body_text t.body ++ codes "\n") behind refl body)) in
     let names : IsWritten (plain t.first ∷ flat_map further_signs (t.second ∷ t.further)) (names_text (roles_of t)) (line ++ behind) = names_written (t.second ∷ t.further) t.first (line ++ behind) h.roles refl in
-    before_role (codes "roles") (plain t.first ∷ comma ∷ plain t.second ∷ (flat_map further_signs t.further ++ plain (codes "protocol") ∷ body_signs t.body)) (codes " " ++ (names_text (roles_of t) ++ line)) behind refl refl
-    (before_blank 32 (plain t.first ∷ comma ∷ plain t.second ∷ (flat_map further_signs t.further ++ plain (codes "protocol") ∷ body_signs t.body)) (names_text (roles_of t) ++ line) behind refl
-    (joined (plain t.first ∷ flat_map further_signs (t.second ∷ t.further)) (plain (codes "protocol") ∷ body_signs t.body) (names_text (roles_of t)) line behind names protocol))
+    before_role (codes "roles") (plain t.first ∷ comma ∷ plain t.second ∷ (flat_map further_signs t.further ++ plain (codes "protocol") ∷ body_signs Talks t.body)) (codes " " ++ (names_text (roles_of t) ++ line)) behind refl refl
+    (before_blank 32 (plain t.first ∷ comma ∷ plain t.second ∷ (flat_map further_signs t.further ++ plain (codes "protocol") ∷ body_signs Talks t.body)) (names_text (roles_of t) ++ line) behind refl
+    (joined (plain t.first ∷ flat_map further_signs (t.second ∷ t.further)) (plain (codes "protocol") ∷ body_signs Talks t.body) (names_text (roles_of t)) line behind names protocol))
 
 -- ---- and so it spells the tree
 
 spells_with : (ls : List Lexeme) (bytes : List ℕ) (at : ℕ) (t : ProtocolTree) (rest : List ℕ) → AreWords t → Fits t → drop at bytes ≡ protocol_text t ++ rest
-    → (ends_by_name t.body ≡ true → ends_a_name (next_lexeme bytes (at + length (protocol_text t))).sign ≡ true) → Lexed bytes (at + length (protocol_text t)) ls
+    → (ends_by_name Talks t.body ≡ true → ends_a_name Talks (next_lexeme bytes (at + length (protocol_text t))).sign ≡ true) → Lexed bytes (at + length (protocol_text t)) ls
     → SpellsProtocol bytes at (names_of t) (graph_of t) (next_lexeme bytes (at + length (protocol_text t))).from
 spells_with [] bytes at t rest words fits parts settled lexed = absurd lexed
 spells_with (l ∷ ls) bytes at t rest words fits parts settled lexed =
@@ -107,7 +111,7 @@ reaches bytes at t rest parts =
     omega arith
 
 pub tree_spelt : (bytes : List ℕ) (at : ℕ) (t : ProtocolTree) (rest : List ℕ) → AreWords t → Fits t → drop at bytes ≡ protocol_text t ++ rest
-    → (ends_by_name t.body ≡ true → ends_a_name (next_lexeme bytes (at + length (protocol_text t))).sign ≡ true)
+    → (ends_by_name Talks t.body ≡ true → ends_a_name Talks (next_lexeme bytes (at + length (protocol_text t))).sign ≡ true)
     → SpellsProtocol bytes at (names_of t) (graph_of t) (next_lexeme bytes (at + length (protocol_text t))).from
 tree_spelt bytes at t rest words fits parts settled =
     let e = exists bytes (at + length (protocol_text t)) (reaches bytes at t rest parts) in
@@ -118,4 +122,4 @@ lone_tree_spelt t words fits =
     let none : 0 + length (protocol_text t) ≡ length (protocol_text t) = omega arith in
     let stands : next_lexeme (protocol_text t) (0 + length (protocol_text t)) ≡ record { sign = finish; from = length (protocol_text t); until = length (protocol_text t) } = rw none (end_again (protocol_text t)) in
     subst (λ (n : ℕ). SpellsProtocol (protocol_text t) 0 (names_of t) (graph_of t) n) (ap (λ (x : Lexeme). x.from) stands)
-    (tree_spelt (protocol_text t) 0 t [] words fits (sym (append-nil (protocol_text t))) (λ _. ap (λ (x : Lexeme). ends_a_name x.sign) stands))
+    (tree_spelt (protocol_text t) 0 t [] words fits (sym (append-nil (protocol_text t))) (λ _. ap (λ (x : Lexeme). ends_a_name Talks x.sign) stands))

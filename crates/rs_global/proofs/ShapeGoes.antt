@@ -14,14 +14,17 @@ use Rattle.rs_model.specs.declared.graph.Role.{Role}
 use Rattle.rs_text.proofs.Naming.{grown_append, grown_stays, not_among, among, place_of_new, place_stands}
 use Rattle.rs_text.specs.Names.{Bound, bound_to, number_or, grown, is_among, place_of}
 use Rattle.rs_global.specs.declared.shapes.Walk.{Walk}
-use Rattle.rs_global.specs.Trees.{Body, ends, again, binds, talks, offers, Branches, one, more}
-use Rattle.rs_global.specs.Graph.{labels_of, labels_of_arms, talks_in, talks_in_arms, has_end, has_end_arms, Numbering, role_of, first_node, arm_of, arms_of, talk_of, nodes_of, nodes_of_arms}
-use Rattle.rs_global.specs.Spells.{is_guarded, has_room_for, body_fits, arms_fit}
+use Rattle.rs_global.specs.Graph.{talk_of, nodes_of, nodes_of_arms}
 use Rattle.rs_global.specs.Shapes.{leads_to, talk_leads, leads_from, last_of, labelled, met, or_none, arms_met, closed, deeper, are_more, is_none, nested, is_fit, one_more, talk_met, visited}
 use Rattle.rs_global.proofs.CanonForms.{Low, low_rec, low_up, Ins, ins_rec, Named, NamedArms}
 use Rattle.rs_global.proofs.CanonNest.{Recs, RecsArms, scene, few_labels, fits_labels}
 use Rattle.rs_global.proofs.Existence.{nodes_length, arms_length, one_longer, at_seam}
 use Rattle.rs_text.proofs.Basics.{both, or_true, or_false, or_assoc, false_or, and_false, not_equal}
+use Rattle.rs_bodies.specs.Dialects.{sends_to}
+use Rattle.rs_bodies.specs.declared.dialects.Dialect.TheVariants.{Talks}
+use Rattle.rs_bodies.specs.Trees.{Body, ends, again, binds, acts, offers, Branches, one, more}
+use Rattle.rs_bodies.specs.Graph.{labels_of, labels_of_arms, acts_in, acts_in_arms, has_end, has_end_arms, Numbering, role_of, first_of, arm_of, arms_of}
+use Rattle.rs_bodies.specs.Fits.{is_guarded, has_room_for, body_fits, arms_fit}
 
 abbrev walk : ℕ → ℕ → Bool → Walk
 walk count labels ended = record { count = count; labels = labels; ended = ended }
@@ -43,35 +46,35 @@ name_else : (x : List ℕ) (bound : Bound) (k v : ℕ) (found : Option ℕ) → 
 name_else x bound k v None e g un h = absurd (cc g)
 name_else x bound k v (Some n) e g un h = un x (e ∙ ap Some h)
 
-leads_else : (b : Body) (bound : Bound) (k v last : ℕ) → Named b bound k → Unbound bound v → v < k → v < last → first_node b bound k last ≢ v
+leads_else : (b : Body Talks) (bound : Bound) (k v last : ℕ) → Named b bound k → Unbound bound v → v < k → v < last → first_of Talks b bound k last ≢ v
 leads_else ends bound k v last named un lt low h = omega arith
 leads_else (again x) bound k v last named un lt low h = name_else x bound k v (bound_to x bound) refl named un h
 leads_else (binds x b) bound k v last named un lt low h = leads_else b ((x, k) ∷ bound) k v last named (λ y. unbound_pick (bytes_eq x y) k v (bound_to y bound) (λ e. omega arith) (un y)) lt low h
-leads_else (talks s r l sort b) bound k v last named un lt low h = omega arith
-leads_else (offers s r arms) bound k v last named un lt low h = omega arith
+leads_else (acts s (sends_to r) l sort b) bound k v last named un lt low h = omega arith
+leads_else (offers s (sends_to r) arms) bound k v last named un lt low h = omega arith
 
-arms_else : (m : Numbering) (arms : Branches) (bound : Bound) (k v : ℕ) → NamedArms arms bound k → Unbound bound v → v < k → v < m.last → list_any (leads_to v) (arms_of m arms bound k) ≡ false
-arms_else m (one l sort b) bound k v named un lt low = false_or (first_node b bound k m.last == v) false (not_equal (first_node b bound k m.last) v (leads_else b bound k v m.last named un lt low)) refl
+arms_else : (m : Numbering) (arms : Branches Talks) (bound : Bound) (k v : ℕ) → NamedArms arms bound k → Unbound bound v → v < k → v < m.last → list_any (leads_to v) (arms_of Talks m arms bound k) ≡ false
+arms_else m (one l sort b) bound k v named un lt low = false_or (first_of Talks b bound k m.last == v) false (not_equal (first_of Talks b bound k m.last) v (leads_else b bound k v m.last named un lt low)) refl
 arms_else m (more l sort b arms) bound k v named un lt low =
-    false_or (first_node b bound k m.last == v) (list_any (leads_to v) (arms_of m arms bound (k + talks_in b))) (not_equal (first_node b bound k m.last) v (leads_else b bound k v m.last named.0 un lt low)) (arms_else m arms bound (k + talks_in b) v named.1 un (omega arith) low)
+    false_or (first_of Talks b bound k m.last == v) (list_any (leads_to v) (arms_of Talks m arms bound (k + acts_in Talks b))) (not_equal (first_of Talks b bound k m.last) v (leads_else b bound k v m.last named.0 un lt low)) (arms_else m arms bound (k + acts_in Talks b) v named.1 un (omega arith) low)
 
 mutual
-  nodes_else : (m : Numbering) (b : Body) (bound : Bound) (k v : ℕ) → Named b bound k → Unbound bound v → v < k → v < m.last → list_any (talk_leads v) (nodes_of m b bound k) ≡ false
+  nodes_else : (m : Numbering) (b : Body Talks) (bound : Bound) (k v : ℕ) → Named b bound k → Unbound bound v → v < k → v < m.last → list_any (talk_leads v) (nodes_of m b bound k) ≡ false
   nodes_else m ends bound k v named un lt low = refl
   nodes_else m (again x) bound k v named un lt low = refl
   nodes_else m (binds x b) bound k v named un lt low = nodes_else m b ((x, k) ∷ bound) k v named (λ y. unbound_pick (bytes_eq x y) k v (bound_to y bound) (λ e. omega arith) (un y)) lt low
-  nodes_else m (talks s r l sort b) bound k v named un lt low =
-      false_or (list_any (leads_to v) (arm_of m l sort (first_node b bound (suc k) m.last) ∷ [])) (list_any (talk_leads v) (nodes_of m b bound (suc k)))
-      (false_or (first_node b bound (suc k) m.last == v) false (not_equal (first_node b bound (suc k) m.last) v (leads_else b bound (suc k) v m.last named un (omega arith) low)) refl)
+  nodes_else m (acts s (sends_to r) l sort b) bound k v named un lt low =
+      false_or (list_any (leads_to v) (arm_of m l sort (first_of Talks b bound (suc k) m.last) ∷ [])) (list_any (talk_leads v) (nodes_of m b bound (suc k)))
+      (false_or (first_of Talks b bound (suc k) m.last == v) false (not_equal (first_of Talks b bound (suc k) m.last) v (leads_else b bound (suc k) v m.last named un (omega arith) low)) refl)
       (nodes_else m b bound (suc k) v named un (omega arith) low)
-  nodes_else m (offers s r arms) bound k v named un lt low =
-      false_or (list_any (leads_to v) (arms_of m arms bound (suc k))) (list_any (talk_leads v) (nodes_of_arms m arms bound (suc k))) (arms_else m arms bound (suc k) v named un (omega arith) low) (arm_nodes_else m arms bound (suc k) v named un (omega arith) low)
+  nodes_else m (offers s (sends_to r) arms) bound k v named un lt low =
+      false_or (list_any (leads_to v) (arms_of Talks m arms bound (suc k))) (list_any (talk_leads v) (nodes_of_arms m arms bound (suc k))) (arms_else m arms bound (suc k) v named un (omega arith) low) (arm_nodes_else m arms bound (suc k) v named un (omega arith) low)
 
-  arm_nodes_else : (m : Numbering) (arms : Branches) (bound : Bound) (k v : ℕ) → NamedArms arms bound k → Unbound bound v → v < k → v < m.last → list_any (talk_leads v) (nodes_of_arms m arms bound k) ≡ false
+  arm_nodes_else : (m : Numbering) (arms : Branches Talks) (bound : Bound) (k v : ℕ) → NamedArms arms bound k → Unbound bound v → v < k → v < m.last → list_any (talk_leads v) (nodes_of_arms m arms bound k) ≡ false
   arm_nodes_else m (one l sort b) bound k v named un lt low = nodes_else m b bound k v named un lt low
   arm_nodes_else m (more l sort b arms) bound k v named un lt low =
-      list_any-append (talk_leads v) (nodes_of m b bound k) (nodes_of_arms m arms bound (k + talks_in b))
-      ∙ false_or (list_any (talk_leads v) (nodes_of m b bound k)) (list_any (talk_leads v) (nodes_of_arms m arms bound (k + talks_in b))) (nodes_else m b bound k v named.0 un lt low) (arm_nodes_else m arms bound (k + talks_in b) v named.1 un (omega arith) low)
+      list_any-append (talk_leads v) (nodes_of m b bound k) (nodes_of_arms m arms bound (k + acts_in Talks b))
+      ∙ false_or (list_any (talk_leads v) (nodes_of m b bound k)) (list_any (talk_leads v) (nodes_of_arms m arms bound (k + acts_in Talks b))) (nodes_else m b bound k v named.0 un lt low) (arm_nodes_else m arms bound (k + acts_in Talks b) v named.1 un (omega arith) low)
 
 -- ---- steps of the walk
 
@@ -131,7 +134,7 @@ braces_within : (c : Bool) (inner d : ℕ) → inner ≤ d → deeper c inner �
 braces_within true inner d le = omega arith
 braces_within false inner d le = omega arith
 
-some_arms : (m : Numbering) (arms : Branches) (bound : Bound) (k : ℕ) → is_none (arms_of m arms bound k) ≡ false
+some_arms : (m : Numbering) (arms : Branches Talks) (bound : Bound) (k : ℕ) → is_none (arms_of Talks m arms bound k) ≡ false
 some_arms m (one l sort b) bound k = refl
 some_arms m (more l sort b arms) bound k = refl
 
@@ -176,22 +179,22 @@ talk_goes m p g s r arms xs from k inner fuel count labels labels' ended ended' 
     (ap (list_any (talk_leads k)) (drop_post p.nodes pre (talk_of m s r arms ∷ xs) post count e (size ∙ (let z : length pre ≡ k = h in omega arith))) ∙ free)
 
 mutual
-  pub goes : (m : Numbering) (p : Protocol_data) (g : IsGraphBy m p) (b : Body) (fuel : ℕ) (bound : Bound) (here : Bool) (from k d inner : ℕ) (ended : Bool) (ls rest : List (List ℕ)) (pre post : List Node)
-      → p.nodes ≡ pre ++ (nodes_of m b bound k ++ post) → length pre ≡ k → from ≤ k → k + talks_in b ≤ m.last → talks_in b < fuel → d ≤ 200 → inner ≤ d → (here ≡ true → inner < d) → body_fits b (scene m.names.roles bound d k ls) ≡ true → length ls ≤ 256
-      → Recs (λ v. leads_from p.nodes v v) b here k → Named b bound k → Low bound k → Ins bound from k → m.names.labels ≡ grown (grown ls (labels_of b)) rest → ((v : ℕ) → k ≤ v → v < k + talks_in b → list_any (talk_leads v) post ≡ false)
-      → met (visited fuel p inner) m.last from (first_node b bound k m.last) (walk k (length ls) ended) ≡ Some (walk (k + talks_in b) (length (grown ls (labels_of b))) (ended || has_end b))
+  pub goes : (m : Numbering) (p : Protocol_data) (g : IsGraphBy m p) (b : Body Talks) (fuel : ℕ) (bound : Bound) (here : Bool) (from k d inner : ℕ) (ended : Bool) (ls rest : List (List ℕ)) (pre post : List Node)
+      → p.nodes ≡ pre ++ (nodes_of m b bound k ++ post) → length pre ≡ k → from ≤ k → k + acts_in Talks b ≤ m.last → acts_in Talks b < fuel → d ≤ 200 → inner ≤ d → (here ≡ true → inner < d) → body_fits Talks b (scene m.names.roles bound d k ls) ≡ true → length ls ≤ 256
+      → Recs (λ v. leads_from p.nodes v v) b here k → Named b bound k → Low bound k → Ins bound from k → m.names.labels ≡ grown (grown ls (labels_of Talks b)) rest → ((v : ℕ) → k ≤ v → v < k + acts_in Talks b → list_any (talk_leads v) post ≡ false)
+      → met (visited fuel p inner) m.last from (first_of Talks b bound k m.last) (walk k (length ls) ended) ≡ Some (walk (k + acts_in Talks b) (length (grown ls (labels_of Talks b))) (ended || has_end Talks b))
   goes m p g ends fuel bound here from k d inner ended ls rest pre post e h le few fl du di dh fits room recs named low ins labels free =
       met_end (visited fuel p inner) m.last from k (length ls) ended (omega arith) ∙ walk_is k (k + 0) (length ls) (length ls) true (ended || true) (omega arith) refl (or_true ended)
   goes m p g (again x) fuel bound here from k d inner ended ls rest pre post e h le few fl du di dh fits room recs named low ins labels free =
       met_back (visited fuel p inner) m.last from (number_or (bound_to x bound)) (walk k (length ls) ended) (name_from x bound from k (bound_to x bound) refl named ins) ∙ walk_is k (k + 0) (length ls) (length ls) ended (ended || false) (omega arith) refl (or_false ended)
   goes m p g (binds x b) fuel bound here from k d inner ended ls rest pre post e h le few fl du di dh fits room recs named low ins labels free =
-      let q = both (nat_lt d 200) (body_fits b (scene m.names.roles ((x, k) ∷ bound) (suc d) k ls)) fits in
+      let q = both (nat_lt d 200) (body_fits Talks b (scene m.names.roles ((x, k) ∷ bound) (suc d) k ls)) fits in
       let below : d < 200 = ltb-true d 200 q.0 in
       goes m p g b fuel ((x, k) ∷ bound) true from k (suc d) inner ended ls rest pre post e h le few fl (omega arith) (omega arith) (λ _. omega arith) q.1 room recs named (low_rec bound k x low) (ins_rec bound from k x ins) labels free
-  goes m p g (talks s r l sort b) zero bound here from k d inner ended ls rest pre post e h le few fl du di dh fits room recs named low ins labels free = absurd (omega arith)
-  goes m p g (talks s r l sort b) (suc f) bound here from k d inner ended ls rest pre post e h le few fl du di dh fits room recs named low ins labels free =
-      let a : Arm = arm_of m l sort (first_node b bound (suc k) m.last) in
-      let q = both (is_among s m.names.roles && nat_lt k 1024 && is_among r m.names.roles && has_room_for l (scene m.names.roles bound d k ls)) (body_fits b (scene m.names.roles bound d (suc k) (grown ls (l ∷ [])))) fits in
+  goes m p g (acts s (sends_to r) l sort b) zero bound here from k d inner ended ls rest pre post e h le few fl du di dh fits room recs named low ins labels free = absurd (omega arith)
+  goes m p g (acts s (sends_to r) l sort b) (suc f) bound here from k d inner ended ls rest pre post e h le few fl du di dh fits room recs named low ins labels free =
+      let a : Arm = arm_of m l sort (first_of Talks b bound (suc k) m.last) in
+      let q = both (is_among s m.names.roles && nat_lt k 1024 && is_among r m.names.roles && has_room_for l (scene m.names.roles bound d k ls)) (body_fits Talks b (scene m.names.roles bound d (suc k) (grown ls (l ∷ [])))) fits in
       let q3 = both (is_among s m.names.roles && nat_lt k 1024 && is_among r m.names.roles) (has_room_for l (scene m.names.roles bound d k ls)) q.0 in
       let q2 = both (is_among s m.names.roles && nat_lt k 1024) (is_among r m.names.roles) q3.0 in
       let q1 = both (is_among s m.names.roles) (nat_lt k 1024) q2.0 in
@@ -200,19 +203,19 @@ mutual
       let inner' : ℕ = deeper (leads_from p.nodes k k) inner in
       let all : List (List ℕ) = grown ls (l ∷ []) in
       let node : Node = talk_of m s r (a ∷ []) in
-      let size : length (nodes_of m b bound (suc k)) ≡ talks_in b = nodes_length m b bound (suc k) in
-      let here_goes : met (visited f p inner') m.last (suc k) a.next (walk (suc k) (length all) ended) ≡ Some (walk (suc k + talks_in b) (length (grown all (labels_of b))) (ended || has_end b)) =
+      let size : length (nodes_of m b bound (suc k)) ≡ acts_in Talks b = nodes_length m b bound (suc k) in
+      let here_goes : met (visited f p inner') m.last (suc k) a.next (walk (suc k) (length all) ended) ≡ Some (walk (suc k + acts_in Talks b) (length (grown all (labels_of Talks b))) (ended || has_end Talks b)) =
       goes m p g b f bound false (suc k) (suc k) d inner' ended all rest (pre ++ node ∷ []) post (e ∙ sym (append_assoc pre (node ∷ []) (nodes_of m b bound (suc k) ++ post))) (one_longer pre node k h) (omega arith) (omega arith) (omega arith) du depth (λ z. absurd (cc z)) q.1 more_room recs.1 named (low_up bound k (suc k) (omega arith) low) (λ x v i j. j) labels
       (λ v lo hi. free v (omega arith) (omega arith)) in
-      talk_goes m p g s r (a ∷ []) (nodes_of m b bound (suc k)) from k inner f (suc k + talks_in b) (length ls) (length (grown all (labels_of b))) ended (ended || has_end b) pre post e h le (omega arith) q1.0 q2.1 (omega arith) refl (omega arith)
-      (one_goes (visited f p inner') m.last (suc k) a [] (walk (suc k) (length ls) ended) (walk (suc k) (length all) ended) (walk (suc k + talks_in b) (length (grown all (labels_of b))) (ended || has_end b))
-      (label_goes m.names.labels ls (labels_of b ++ rest) l (suc k) ended (labels ∙ sym (grown_append (labels_of b) rest all)) more_room) here_goes)
+      talk_goes m p g s r (a ∷ []) (nodes_of m b bound (suc k)) from k inner f (suc k + acts_in Talks b) (length ls) (length (grown all (labels_of Talks b))) ended (ended || has_end Talks b) pre post e h le (omega arith) q1.0 q2.1 (omega arith) refl (omega arith)
+      (one_goes (visited f p inner') m.last (suc k) a [] (walk (suc k) (length ls) ended) (walk (suc k) (length all) ended) (walk (suc k + acts_in Talks b) (length (grown all (labels_of Talks b))) (ended || has_end Talks b))
+      (label_goes m.names.labels ls (labels_of Talks b ++ rest) l (suc k) ended (labels ∙ sym (grown_append (labels_of Talks b) rest all)) more_room) here_goes)
       (free k (omega arith) (omega arith))
-      ∙ walk_is (suc k + talks_in b) (k + suc (talks_in b)) (length (grown all (labels_of b))) (length (grown all (labels_of b))) (ended || has_end b) (ended || has_end b) (omega arith) refl refl
-  goes m p g (offers s r arms) zero bound here from k d inner ended ls rest pre post e h le few fl du di dh fits room recs named low ins labels free = absurd (omega arith)
-  goes m p g (offers s r arms) (suc f) bound here from k d inner ended ls rest pre post e h le few fl du di dh fits room recs named low ins labels free =
-      let ours : List Arm = arms_of m arms bound (suc k) in
-      let q = both (is_among s m.names.roles && nat_lt k 1024 && is_among r m.names.roles && nat_lt d 200) (arms_fit arms (scene m.names.roles bound (suc d) (suc k) ls)) fits in
+      ∙ walk_is (suc k + acts_in Talks b) (k + suc (acts_in Talks b)) (length (grown all (labels_of Talks b))) (length (grown all (labels_of Talks b))) (ended || has_end Talks b) (ended || has_end Talks b) (omega arith) refl refl
+  goes m p g (offers s (sends_to r) arms) zero bound here from k d inner ended ls rest pre post e h le few fl du di dh fits room recs named low ins labels free = absurd (omega arith)
+  goes m p g (offers s (sends_to r) arms) (suc f) bound here from k d inner ended ls rest pre post e h le few fl du di dh fits room recs named low ins labels free =
+      let ours : List Arm = arms_of Talks m arms bound (suc k) in
+      let q = both (is_among s m.names.roles && nat_lt k 1024 && is_among r m.names.roles && nat_lt d 200) (arms_fit Talks arms (scene m.names.roles bound (suc d) (suc k) ls)) fits in
       let q3 = both (is_among s m.names.roles && nat_lt k 1024 && is_among r m.names.roles) (nat_lt d 200) q.0 in
       let q2 = both (is_among s m.names.roles && nat_lt k 1024) (is_among r m.names.roles) q3.0 in
       let q1 = both (is_among s m.names.roles) (nat_lt k 1024) q2.0 in
@@ -221,41 +224,41 @@ mutual
       let inner' : ℕ = nested p.nodes inner k ours in
       let deep : inner' ≤ suc d = braces_within (are_more ours) (deeper (leads_from p.nodes k k) inner) d depth in
       let node : Node = talk_of m s r ours in
-      let size : length (nodes_of_arms m arms bound (suc k)) ≡ talks_in_arms arms = arms_length m arms bound (suc k) in
-      let here_goes : arms_met (visited f p inner') m.last (suc k) ours (walk (suc k) (length ls) ended) ≡ Some (walk (suc k + talks_in_arms arms) (length (grown ls (labels_of_arms arms))) (ended || has_end_arms arms)) =
+      let size : length (nodes_of_arms m arms bound (suc k)) ≡ acts_in_arms Talks arms = arms_length m arms bound (suc k) in
+      let here_goes : arms_met (visited f p inner') m.last (suc k) ours (walk (suc k) (length ls) ended) ≡ Some (walk (suc k + acts_in_arms Talks arms) (length (grown ls (labels_of_arms Talks arms))) (ended || has_end_arms Talks arms)) =
       arms_go m p g arms f bound k (suc k) (suc d) inner' ended ls rest (pre ++ node ∷ []) post (e ∙ sym (append_assoc pre (node ∷ []) (nodes_of_arms m arms bound (suc k) ++ post))) (one_longer pre node k h) (omega arith) (omega arith) (omega arith) (omega arith) deep q.1 room recs.1 named low labels
       (λ v lo hi. free v (omega arith) (omega arith)) in
-      talk_goes m p g s r ours (nodes_of_arms m arms bound (suc k)) from k inner f (suc k + talks_in_arms arms) (length ls) (length (grown ls (labels_of_arms arms))) ended (ended || has_end_arms arms) pre post e h le (omega arith) q1.0 q2.1 (omega arith) (some_arms m arms bound (suc k)) (omega arith) here_goes
+      talk_goes m p g s r ours (nodes_of_arms m arms bound (suc k)) from k inner f (suc k + acts_in_arms Talks arms) (length ls) (length (grown ls (labels_of_arms Talks arms))) ended (ended || has_end_arms Talks arms) pre post e h le (omega arith) q1.0 q2.1 (omega arith) (some_arms m arms bound (suc k)) (omega arith) here_goes
       (free k (omega arith) (omega arith))
-      ∙ walk_is (suc k + talks_in_arms arms) (k + suc (talks_in_arms arms)) (length (grown ls (labels_of_arms arms))) (length (grown ls (labels_of_arms arms))) (ended || has_end_arms arms) (ended || has_end_arms arms) (omega arith) refl refl
+      ∙ walk_is (suc k + acts_in_arms Talks arms) (k + suc (acts_in_arms Talks arms)) (length (grown ls (labels_of_arms Talks arms))) (length (grown ls (labels_of_arms Talks arms))) (ended || has_end_arms Talks arms) (ended || has_end_arms Talks arms) (omega arith) refl refl
 
-  arms_go : (m : Numbering) (p : Protocol_data) (g : IsGraphBy m p) (arms : Branches) (fuel : ℕ) (bound : Bound) (n k d inner : ℕ) (ended : Bool) (ls rest : List (List ℕ)) (pre post : List Node)
-      → p.nodes ≡ pre ++ (nodes_of_arms m arms bound k ++ post) → length pre ≡ k → n < k → k + talks_in_arms arms ≤ m.last → talks_in_arms arms < fuel → d ≤ 200 → inner ≤ d → arms_fit arms (scene m.names.roles bound d k ls) ≡ true → length ls ≤ 256
-      → RecsArms (λ v. leads_from p.nodes v v) arms k → NamedArms arms bound k → Low bound n → m.names.labels ≡ grown (grown ls (labels_of_arms arms)) rest → ((v : ℕ) → k ≤ v → v < k + talks_in_arms arms → list_any (talk_leads v) post ≡ false)
-      → arms_met (visited fuel p inner) m.last (suc n) (arms_of m arms bound k) (walk k (length ls) ended) ≡ Some (walk (k + talks_in_arms arms) (length (grown ls (labels_of_arms arms))) (ended || has_end_arms arms))
+  arms_go : (m : Numbering) (p : Protocol_data) (g : IsGraphBy m p) (arms : Branches Talks) (fuel : ℕ) (bound : Bound) (n k d inner : ℕ) (ended : Bool) (ls rest : List (List ℕ)) (pre post : List Node)
+      → p.nodes ≡ pre ++ (nodes_of_arms m arms bound k ++ post) → length pre ≡ k → n < k → k + acts_in_arms Talks arms ≤ m.last → acts_in_arms Talks arms < fuel → d ≤ 200 → inner ≤ d → arms_fit Talks arms (scene m.names.roles bound d k ls) ≡ true → length ls ≤ 256
+      → RecsArms (λ v. leads_from p.nodes v v) arms k → NamedArms arms bound k → Low bound n → m.names.labels ≡ grown (grown ls (labels_of_arms Talks arms)) rest → ((v : ℕ) → k ≤ v → v < k + acts_in_arms Talks arms → list_any (talk_leads v) post ≡ false)
+      → arms_met (visited fuel p inner) m.last (suc n) (arms_of Talks m arms bound k) (walk k (length ls) ended) ≡ Some (walk (k + acts_in_arms Talks arms) (length (grown ls (labels_of_arms Talks arms))) (ended || has_end_arms Talks arms))
   arms_go m p g (one l sort b) fuel bound n k d inner ended ls rest pre post e h lt few fl du di fits room recs named low labels free =
-      let a : Arm = arm_of m l sort (first_node b bound k m.last) in
-      let q = both (has_room_for l (scene m.names.roles bound d k ls)) (body_fits b (scene m.names.roles bound d k (grown ls (l ∷ [])))) fits in
+      let a : Arm = arm_of m l sort (first_of Talks b bound k m.last) in
+      let q = both (has_room_for l (scene m.names.roles bound d k ls)) (body_fits Talks b (scene m.names.roles bound d k (grown ls (l ∷ [])))) fits in
       let all : List (List ℕ) = grown ls (l ∷ []) in
       let more_room : length all ≤ 256 = few_labels ls l room q.0 in
-      one_goes (visited fuel p inner) m.last (suc n) a [] (walk k (length ls) ended) (walk k (length all) ended) (walk (k + talks_in b) (length (grown all (labels_of b))) (ended || has_end b))
-      (label_goes m.names.labels ls (labels_of b ++ rest) l k ended (labels ∙ sym (grown_append (labels_of b) rest all)) more_room)
+      one_goes (visited fuel p inner) m.last (suc n) a [] (walk k (length ls) ended) (walk k (length all) ended) (walk (k + acts_in Talks b) (length (grown all (labels_of Talks b))) (ended || has_end Talks b))
+      (label_goes m.names.labels ls (labels_of Talks b ++ rest) l k ended (labels ∙ sym (grown_append (labels_of Talks b) rest all)) more_room)
       (goes m p g b fuel bound false (suc n) k d inner ended all rest pre post e h (omega arith) few fl du di (λ z. absurd (cc z)) q.1 more_room recs named (low_up bound n k (omega arith) low) (λ x v i j. let c : v < n + 1 = low x v i in omega arith) labels free)
   arms_go m p g (more l sort b arms) fuel bound n k d inner ended ls rest pre post e h lt few fl du di fits room recs named low labels free =
-      let a : Arm = arm_of m l sort (first_node b bound k m.last) in
-      let j : ℕ = k + talks_in b in
-      let q0 = both (has_room_for l (scene m.names.roles bound d k ls) && body_fits b (scene m.names.roles bound d k (grown ls (l ∷ [])))) (arms_fit arms (scene m.names.roles bound d j (grown (grown ls (l ∷ [])) (labels_of b)))) fits in
-      let q = both (has_room_for l (scene m.names.roles bound d k ls)) (body_fits b (scene m.names.roles bound d k (grown ls (l ∷ [])))) q0.0 in
+      let a : Arm = arm_of m l sort (first_of Talks b bound k m.last) in
+      let j : ℕ = k + acts_in Talks b in
+      let q0 = both (has_room_for l (scene m.names.roles bound d k ls) && (body_fits Talks) b (scene m.names.roles bound d k (grown ls (l ∷ [])))) (arms_fit Talks arms (scene m.names.roles bound d j (grown (grown ls (l ∷ [])) (labels_of Talks b)))) fits in
+      let q = both (has_room_for l (scene m.names.roles bound d k ls)) (body_fits Talks b (scene m.names.roles bound d k (grown ls (l ∷ [])))) q0.0 in
       let all : List (List ℕ) = grown ls (l ∷ []) in
       let more_room : length all ≤ 256 = few_labels ls l room q.0 in
-      let later : List (List ℕ) = grown all (labels_of b) in
+      let later : List (List ℕ) = grown all (labels_of Talks b) in
       let later_room : length later ≤ 256 = fits_labels b (scene m.names.roles bound d k all) q.1 more_room in
-      let parts : m.names.labels ≡ grown (grown later (labels_of_arms arms)) rest = labels ∙ ap (λ z. grown z rest) (grown_append (labels_of b) (labels_of_arms arms) all) in
-      let first : m.names.labels ≡ grown later (labels_of_arms arms ++ rest) = parts ∙ sym (grown_append (labels_of_arms arms) rest later) in
-      one_goes (visited fuel p inner) m.last (suc n) a (arms_of m arms bound j) (walk k (length ls) ended) (walk k (length all) ended) (walk j (length later) (ended || has_end b))
-      (label_goes m.names.labels ls (labels_of b ++ (labels_of_arms arms ++ rest)) l k ended (first ∙ sym (grown_append (labels_of b) (labels_of_arms arms ++ rest) all)) more_room)
-      (goes m p g b fuel bound false (suc n) k d inner ended all (labels_of_arms arms ++ rest) pre (nodes_of_arms m arms bound j ++ post) (e ∙ ap (λ z. pre ++ z) (append_assoc (nodes_of m b bound k) (nodes_of_arms m arms bound j) post)) h (omega arith) (omega arith) (omega arith) du di (λ z. absurd (cc z)) q.1 more_room recs.0 named.0 (low_up bound n k (omega arith) low) (λ x v i c. let z : v < n + 1 = low x v i in omega arith) first
+      let parts : m.names.labels ≡ grown (grown later (labels_of_arms Talks arms)) rest = labels ∙ ap (λ z. grown z rest) (grown_append (labels_of Talks b) (labels_of_arms Talks arms) all) in
+      let first : m.names.labels ≡ grown later (labels_of_arms Talks arms ++ rest) = parts ∙ sym (grown_append (labels_of_arms Talks arms) rest later) in
+      one_goes (visited fuel p inner) m.last (suc n) a (arms_of Talks m arms bound j) (walk k (length ls) ended) (walk k (length all) ended) (walk j (length later) (ended || has_end Talks b))
+      (label_goes m.names.labels ls (labels_of Talks b ++ (labels_of_arms Talks arms ++ rest)) l k ended (first ∙ sym (grown_append (labels_of Talks b) (labels_of_arms Talks arms ++ rest) all)) more_room)
+      (goes m p g b fuel bound false (suc n) k d inner ended all (labels_of_arms Talks arms ++ rest) pre (nodes_of_arms m arms bound j ++ post) (e ∙ ap (λ z. pre ++ z) (append_assoc (nodes_of m b bound k) (nodes_of_arms m arms bound j) post)) h (omega arith) (omega arith) (omega arith) du di (λ z. absurd (cc z)) q.1 more_room recs.0 named.0 (low_up bound n k (omega arith) low) (λ x v i c. let z : v < n + 1 = low x v i in omega arith) first
       (λ v lo hi. list_any-append (talk_leads v) (nodes_of_arms m arms bound j) post ∙ false_or (list_any (talk_leads v) (nodes_of_arms m arms bound j)) (list_any (talk_leads v) post) (arm_nodes_else m arms bound j v named.1 (low_unbound bound n v low (omega arith)) hi (omega arith)) (free v lo (omega arith))))
-      ∙ arms_go m p g arms fuel bound n j d inner (ended || has_end b) later rest (pre ++ nodes_of m b bound k) post (e ∙ ap (λ z. pre ++ z) (append_assoc (nodes_of m b bound k) (nodes_of_arms m arms bound j) post) ∙ sym (append_assoc pre (nodes_of m b bound k) (nodes_of_arms m arms bound j ++ post)))
+      ∙ arms_go m p g arms fuel bound n j d inner (ended || has_end Talks b) later rest (pre ++ nodes_of m b bound k) post (e ∙ ap (λ z. pre ++ z) (append_assoc (nodes_of m b bound k) (nodes_of_arms m arms bound j) post) ∙ sym (append_assoc pre (nodes_of m b bound k) (nodes_of_arms m arms bound j ++ post)))
       (length-append pre (nodes_of m b bound k) ∙ ap (λ z. z + length (nodes_of m b bound k)) h ∙ ap (λ z. k + z) (nodes_length m b bound k)) (omega arith) (omega arith) (omega arith) du di q0.1 later_room recs.1 named.1 low parts (λ v lo hi. free v (omega arith) (omega arith))
-      ∙ walk_is (j + talks_in_arms arms) (k + (talks_in b + talks_in_arms arms)) (length (grown later (labels_of_arms arms))) (length (grown all (labels_of b ++ labels_of_arms arms))) ((ended || has_end b) || has_end_arms arms) (ended || (has_end b || has_end_arms arms)) (omega arith) (ap length (sym (grown_append (labels_of b) (labels_of_arms arms) all))) (or_assoc ended (has_end b) (has_end_arms arms))
+      ∙ walk_is (j + acts_in_arms Talks arms) (k + (acts_in Talks b + acts_in_arms Talks arms)) (length (grown later (labels_of_arms Talks arms))) (length (grown all (labels_of Talks b ++ labels_of_arms Talks arms))) ((ended || has_end Talks b) || has_end_arms Talks arms) (ended || (has_end Talks b || has_end_arms Talks arms)) (omega arith) (ap length (sym (grown_append (labels_of Talks b) (labels_of_arms Talks arms) all))) (or_assoc ended (has_end Talks b) (has_end_arms Talks arms))

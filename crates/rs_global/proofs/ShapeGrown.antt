@@ -17,9 +17,7 @@ use Rattle.rs_text.specs.Arms.{sort_or_unit, shown_sort}
 use Rattle.rs_text.specs.Names.{Bound, bound_to, number_or, grown, is_among}
 use Rattle.rs_text.specs.Words.{is_role_word}
 use Rattle.rs_global.specs.declared.shapes.Walk.{Walk}
-use Rattle.rs_global.specs.Trees.{Body, ends, again, Branches, one, more}
-use Rattle.rs_global.specs.Graph.{labels_of, labels_of_arms, talks_in, talks_in_arms, has_end, has_end_arms, Numbering, role_of, first_node, arm_of, arms_of, nodes_of, nodes_of_arms}
-use Rattle.rs_global.specs.Spells.{is_guarded, has_room_for, body_fits, arms_fit}
+use Rattle.rs_global.specs.Graph.{nodes_of, nodes_of_arms}
 use Rattle.rs_global.specs.Canonical.{name_of_node}
 use Rattle.rs_global.specs.Writable.{AreWordsIn, AreWordsInArms}
 use Rattle.rs_global.specs.Shapes.{leads_to, talk_leads, leads_from, last_of, labelled, met, or_none, arms_met, closed, deeper, are_more, nested, is_fit, one_more, talk_met, visited, to_end}
@@ -31,6 +29,10 @@ use Rattle.rs_global.proofs.NodeNames.{node_name_law}
 use Rattle.rs_text.proofs.PlainNames.{plain_name, plain_names, plain_stands, plain_place, plain_grown, plain_role, plain_label, plain_count}
 use Rattle.rs_text.proofs.Basics.{some_is, two_true, both, or_true, or_false, or_assoc, or_first, any_stands, stands_any, drop_get}
 use Rattle.rs_text.proofs.Arms.{sort_same}
+use Rattle.rs_bodies.specs.declared.dialects.Dialect.TheVariants.{Talks}
+use Rattle.rs_bodies.specs.Trees.{Body, ends, again, Branches, one, more}
+use Rattle.rs_bodies.specs.Graph.{labels_of, labels_of_arms, acts_in, acts_in_arms, has_end, has_end_arms, Numbering, role_of, first_of, arm_of, arms_of}
+use Rattle.rs_bodies.specs.Fits.{is_guarded, has_room_for, body_fits, arms_fit}
 
 -- ---- cases of options
 
@@ -86,31 +88,31 @@ abbrev Closed : Protocol_data → (from count : ℕ) → Type 0
 Closed p from count = (v : ℕ) → from ≤ v → v < count → leads_from p.nodes count v ≡ false
 
 pub record Grown (p : Protocol_data) (bound : Bound) (depth : ℕ) (w u : Walk) (to : ℕ) : Type 0 where
-  pub body : Body
-  pub first : first_node body bound w.count (last_of p.nodes) ≡ to
+  pub body : Body Talks
+  pub first : first_of Talks body bound w.count (last_of p.nodes) ≡ to
   pub parts : (n : ℕ) → u.labels ≤ n → n ≤ 256 → drop w.count p.nodes ≡ nodes_of (numbers p n) body bound w.count ++ drop u.count p.nodes
-  pub counts : w.count + talks_in body ≡ u.count
-  pub labels : grown (plain_names 108 w.labels) (labels_of body) ≡ plain_names 108 u.labels
-  pub ended : u.ended ≡ (w.ended || has_end body)
-  pub fits : body_fits body (scene (plain_names 82 p.roles) bound depth w.count (plain_names 108 w.labels)) ≡ true
+  pub counts : w.count + acts_in Talks body ≡ u.count
+  pub labels : grown (plain_names 108 w.labels) (labels_of Talks body) ≡ plain_names 108 u.labels
+  pub ended : u.ended ≡ (w.ended || has_end Talks body)
+  pub fits : body_fits Talks body (scene (plain_names 82 p.roles) bound depth w.count (plain_names 108 w.labels)) ≡ true
   pub words : AreWordsIn body
   pub shut : Closed p w.count u.count
   pub up : w.labels ≤ u.labels
   pub room : u.labels ≤ 256
   pub within : u.count ≤ last_of p.nodes
 
-abbrev two : Branches → Bool
+abbrev two : Branches Talks → Bool
 two (one l sort b) = false
 two (more l sort b arms) = true
 
 record GrownArms (p : Protocol_data) (bound : Bound) (depth : ℕ) (w u : Walk) (arms : List Arm) : Type 0 where
-  branches : Branches
-  are : (n : ℕ) → u.labels ≤ n → n ≤ 256 → arms_of (numbers p n) branches bound w.count ≡ arms
+  branches : Branches Talks
+  are : (n : ℕ) → u.labels ≤ n → n ≤ 256 → arms_of Talks (numbers p n) branches bound w.count ≡ arms
   parts : (n : ℕ) → u.labels ≤ n → n ≤ 256 → drop w.count p.nodes ≡ nodes_of_arms (numbers p n) branches bound w.count ++ drop u.count p.nodes
-  counts : w.count + talks_in_arms branches ≡ u.count
-  labels : grown (plain_names 108 w.labels) (labels_of_arms branches) ≡ plain_names 108 u.labels
-  ended : u.ended ≡ (w.ended || has_end_arms branches)
-  fits : arms_fit branches (scene (plain_names 82 p.roles) bound depth w.count (plain_names 108 w.labels)) ≡ true
+  counts : w.count + acts_in_arms Talks branches ≡ u.count
+  labels : grown (plain_names 108 w.labels) (labels_of_arms Talks branches) ≡ plain_names 108 u.labels
+  ended : u.ended ≡ (w.ended || has_end_arms Talks branches)
+  fits : arms_fit Talks branches (scene (plain_names 82 p.roles) bound depth w.count (plain_names 108 w.labels)) ≡ true
   words : AreWordsInArms branches
   shut : Closed p w.count u.count
   shape : two branches ≡ are_more arms
@@ -283,13 +285,13 @@ one_grown p bound depth a w v u l g =
     let few : u.labels ≤ 256 = g.room in
     record {
       branches = one (plain_name 108 a.label.0) (shown_sort a.sort) g.body;
-      are = λ n le small. ap (λ z. z ∷ []) (arm_is p n a (first_node g.body bound w.count (last_of p.nodes)) (omega arith) small g.first);
+      are = λ n le small. ap (λ z. z ∷ []) (arm_is p n a (first_of Talks g.body bound w.count (last_of p.nodes)) (omega arith) small g.first);
       parts = g.parts;
       counts = g.counts;
-      labels = ap (λ z. grown z (labels_of g.body)) l.grows ∙ g.labels;
+      labels = ap (λ z. grown z (labels_of Talks g.body)) l.grows ∙ g.labels;
       ended = g.ended;
-      fits = two_true (has_room_for (plain_name 108 a.label.0) (scene (plain_names 82 p.roles) bound depth w.count (plain_names 108 w.labels))) (body_fits g.body (scene (plain_names 82 p.roles) bound depth w.count (grown (plain_names 108 w.labels) (plain_name 108 a.label.0 ∷ []))))
-          (l.fits bound (plain_names 82 p.roles) depth w.count) (subst (λ (z : List (List ℕ)). body_fits g.body (scene (plain_names 82 p.roles) bound depth w.count z) ≡ true) (sym l.grows) g.fits);
+      fits = two_true (has_room_for (plain_name 108 a.label.0) (scene (plain_names 82 p.roles) bound depth w.count (plain_names 108 w.labels))) (body_fits Talks g.body (scene (plain_names 82 p.roles) bound depth w.count (grown (plain_names 108 w.labels) (plain_name 108 a.label.0 ∷ []))))
+          (l.fits bound (plain_names 82 p.roles) depth w.count) (subst (λ (z : List (List ℕ)). body_fits Talks g.body (scene (plain_names 82 p.roles) bound depth w.count z) ≡ true) (sym l.grows) g.fits);
       words = (plain_label a.label.0 (omega arith), g.words);
       shut = g.shut;
       shape = refl;
@@ -305,27 +307,27 @@ more_grown p bound depth a b bs w v x u l g r =
     let first : w.labels ≤ v.labels = l.up in
     let more_up : x.labels ≤ u.labels = r.up in
     let few : u.labels ≤ 256 = r.room in
-    let counts : w.count + talks_in g.body ≡ x.count = g.counts in
-    let rest : x.count + talks_in_arms r.branches ≡ u.count = r.counts in
+    let counts : w.count + acts_in Talks g.body ≡ x.count = g.counts in
+    let rest : x.count + acts_in_arms Talks r.branches ≡ u.count = r.counts in
     let roles : List (List ℕ) = plain_names 82 p.roles in
-    let labels : grown (grown (plain_names 108 w.labels) (plain_name 108 a.label.0 ∷ [])) (labels_of g.body) ≡ plain_names 108 x.labels = ap (λ z. grown z (labels_of g.body)) l.grows ∙ g.labels in
+    let labels : grown (grown (plain_names 108 w.labels) (plain_name 108 a.label.0 ∷ [])) (labels_of Talks g.body) ≡ plain_names 108 x.labels = ap (λ z. grown z (labels_of Talks g.body)) l.grows ∙ g.labels in
     record {
       branches = more (plain_name 108 a.label.0) (shown_sort a.sort) g.body r.branches;
       are = λ n le small.
-          ap (λ z. z ∷ arms_of (numbers p n) r.branches bound (w.count + talks_in g.body)) (arm_is p n a (first_node g.body bound w.count (last_of p.nodes)) (omega arith) small g.first)
-          ∙ ap (λ z. a ∷ arms_of (numbers p n) r.branches bound z) counts ∙ ap (λ z. a ∷ z) (r.are n le small);
+          ap (λ z. z ∷ arms_of Talks (numbers p n) r.branches bound (w.count + acts_in Talks g.body)) (arm_is p n a (first_of Talks g.body bound w.count (last_of p.nodes)) (omega arith) small g.first)
+          ∙ ap (λ z. a ∷ arms_of Talks (numbers p n) r.branches bound z) counts ∙ ap (λ z. a ∷ z) (r.are n le small);
       parts = λ n le small.
           g.parts n (omega arith) small ∙ ap (λ z. nodes_of (numbers p n) g.body bound w.count ++ z) (r.parts n le small ∙ ap (λ z. nodes_of_arms (numbers p n) r.branches bound z ++ drop u.count p.nodes) (sym counts))
-          ∙ sym (append_assoc (nodes_of (numbers p n) g.body bound w.count) (nodes_of_arms (numbers p n) r.branches bound (w.count + talks_in g.body)) (drop u.count p.nodes));
+          ∙ sym (append_assoc (nodes_of (numbers p n) g.body bound w.count) (nodes_of_arms (numbers p n) r.branches bound (w.count + acts_in Talks g.body)) (drop u.count p.nodes));
       counts = omega arith;
-      labels = grown_append (labels_of g.body) (labels_of_arms r.branches) (grown (plain_names 108 w.labels) (plain_name 108 a.label.0 ∷ [])) ∙ ap (λ z. grown z (labels_of_arms r.branches)) labels ∙ r.labels;
-      ended = r.ended ∙ ap (λ z. z || has_end_arms r.branches) g.ended ∙ or_assoc w.ended (has_end g.body) (has_end_arms r.branches);
-      fits = two_true (has_room_for (plain_name 108 a.label.0) (scene roles bound depth w.count (plain_names 108 w.labels)) && body_fits g.body (scene roles bound depth w.count (grown (plain_names 108 w.labels) (plain_name 108 a.label.0 ∷ []))))
-          (arms_fit r.branches (scene roles bound depth (w.count + talks_in g.body) (grown (grown (plain_names 108 w.labels) (plain_name 108 a.label.0 ∷ [])) (labels_of g.body))))
-          (two_true (has_room_for (plain_name 108 a.label.0) (scene roles bound depth w.count (plain_names 108 w.labels))) (body_fits g.body (scene roles bound depth w.count (grown (plain_names 108 w.labels) (plain_name 108 a.label.0 ∷ []))))
-          (l.fits bound roles depth w.count) (subst (λ (z : List (List ℕ)). body_fits g.body (scene roles bound depth w.count z) ≡ true) (sym l.grows) g.fits))
-          (subst (λ (z : ℕ). arms_fit r.branches (scene roles bound depth z (grown (grown (plain_names 108 w.labels) (plain_name 108 a.label.0 ∷ [])) (labels_of g.body))) ≡ true) (sym counts)
-          (subst (λ (z : List (List ℕ)). arms_fit r.branches (scene roles bound depth x.count z) ≡ true) (sym labels) r.fits));
+      labels = grown_append (labels_of Talks g.body) (labels_of_arms Talks r.branches) (grown (plain_names 108 w.labels) (plain_name 108 a.label.0 ∷ [])) ∙ ap (λ z. grown z (labels_of_arms Talks r.branches)) labels ∙ r.labels;
+      ended = r.ended ∙ ap (λ z. z || has_end_arms Talks r.branches) g.ended ∙ or_assoc w.ended (has_end Talks g.body) (has_end_arms Talks r.branches);
+      fits = two_true (has_room_for (plain_name 108 a.label.0) (scene roles bound depth w.count (plain_names 108 w.labels)) && (body_fits Talks) g.body (scene roles bound depth w.count (grown (plain_names 108 w.labels) (plain_name 108 a.label.0 ∷ []))))
+          (arms_fit Talks r.branches (scene roles bound depth (w.count + acts_in Talks g.body) (grown (grown (plain_names 108 w.labels) (plain_name 108 a.label.0 ∷ [])) (labels_of Talks g.body))))
+          (two_true (has_room_for (plain_name 108 a.label.0) (scene roles bound depth w.count (plain_names 108 w.labels))) (body_fits Talks g.body (scene roles bound depth w.count (grown (plain_names 108 w.labels) (plain_name 108 a.label.0 ∷ []))))
+          (l.fits bound roles depth w.count) (subst (λ (z : List (List ℕ)). body_fits Talks g.body (scene roles bound depth w.count z) ≡ true) (sym l.grows) g.fits))
+          (subst (λ (z : ℕ). arms_fit Talks r.branches (scene roles bound depth z (grown (grown (plain_names 108 w.labels) (plain_name 108 a.label.0 ∷ [])) (labels_of Talks g.body))) ≡ true) (sym counts)
+          (subst (λ (z : List (List ℕ)). arms_fit Talks r.branches (scene roles bound depth x.count z) ≡ true) (sym labels) r.fits));
       words = (plain_label a.label.0 (omega arith), g.words, r.words);
       shut = still_closed p w.count x.count u.count (omega arith) g.shut r.shut;
       shape = refl;
@@ -352,7 +354,7 @@ arms_grown (b ∷ bs) p bound depth visit from a w u small grows le within room 
     let x = chained (arms_met visit (last_of p.nodes) from (b ∷ bs)) (met visit (last_of p.nodes) from a.next d.0) u d.2 in
     let same : d.0 ≡ relabel w d.0.labels = relabelled w d.0 l.count l.ended in
     let g : Grown p bound depth (relabel w d.0.labels) x.0 a.next = met_grown p bound depth visit from a.next (relabel w d.0.labels) x.0 small grows le within l.room names (led 0 a refl) (subst (λ (z : Walk). met visit (last_of p.nodes) from a.next z ≡ Some x.0) same x.1) in
-    let counts : w.count + talks_in g.body ≡ x.0.count = g.counts in
+    let counts : w.count + acts_in Talks g.body ≡ x.0.count = g.counts in
     let r : GrownArms p bound depth x.0 u (b ∷ bs) = arms_grown bs p bound depth visit from b x.0 u small grows (omega arith) g.within g.room (still_bounded p bound w.count x.0.count (omega arith) names g.shut) (λ place arm e lt. led (suc place) arm e lt) x.2 in
     more_grown p bound depth a b bs w d.0 x.0 u l g r
 
@@ -365,18 +367,18 @@ opened_names true n v bound a b f g = elim (true_or_false (bytes_eq (name_of_nod
 ]
 opened_names false n v bound a b f g = f (λ same. cc (g same))
 
-offered_fits : (b : Branches) (s r : List ℕ) (roles : List (List ℕ)) (bound : Bound) (d k : ℕ) (ls : List (List ℕ)) → is_among s roles ≡ true → is_among r roles ≡ true → k < 1024 → deeper (two b) d ≤ 200 → arms_fit b (scene roles bound (deeper (two b) d) (suc k) ls) ≡ true → body_fits (offered s r b) (scene roles bound d k ls) ≡ true
+offered_fits : (b : Branches Talks) (s r : List ℕ) (roles : List (List ℕ)) (bound : Bound) (d k : ℕ) (ls : List (List ℕ)) → is_among s roles ≡ true → is_among r roles ≡ true → k < 1024 → deeper (two b) d ≤ 200 → arms_fit Talks b (scene roles bound (deeper (two b) d) (suc k) ls) ≡ true → body_fits Talks (offered s r b) (scene roles bound d k ls) ≡ true
 offered_fits (one l sort b) s r roles bound d k ls known known' few low h =
-    let q = both (has_room_for l (scene roles bound d (suc k) ls)) (body_fits b (scene roles bound d (suc k) (grown ls (l ∷ [])))) h in
-    two_true (is_among s roles && nat_lt k 1024 && is_among r roles && has_room_for l (scene roles bound d k ls)) (body_fits b (scene roles bound d (suc k) (grown ls (l ∷ []))))
+    let q = both (has_room_for l (scene roles bound d (suc k) ls)) (body_fits Talks b (scene roles bound d (suc k) (grown ls (l ∷ [])))) h in
+    two_true (is_among s roles && nat_lt k 1024 && is_among r roles && has_room_for l (scene roles bound d k ls)) (body_fits Talks b (scene roles bound d (suc k) (grown ls (l ∷ []))))
     (two_true (is_among s roles && nat_lt k 1024 && is_among r roles) (has_room_for l (scene roles bound d k ls))
     (two_true (is_among s roles && nat_lt k 1024) (is_among r roles) (two_true (is_among s roles) (nat_lt k 1024) known (lt-ltb k 1024 few)) known') q.0) q.1
 offered_fits (more l sort b arms) s r roles bound d k ls known known' few low h =
-    two_true (is_among s roles && nat_lt k 1024 && is_among r roles && nat_lt d 200) (arms_fit (more l sort b arms) (scene roles bound (suc d) (suc k) ls))
+    two_true (is_among s roles && nat_lt k 1024 && is_among r roles && nat_lt d 200) (arms_fit Talks (more l sort b arms) (scene roles bound (suc d) (suc k) ls))
     (two_true (is_among s roles && nat_lt k 1024 && is_among r roles) (nat_lt d 200)
     (two_true (is_among s roles && nat_lt k 1024) (is_among r roles) (two_true (is_among s roles) (nat_lt k 1024) known (lt-ltb k 1024 few)) known') (lt-ltb d 200 (omega arith))) h
 
-offered_words : (b : Branches) (s r : List ℕ) → is_role_word s ≡ true → is_role_word r ≡ true → AreWordsInArms b → AreWordsIn (offered s r b)
+offered_words : (b : Branches Talks) (s r : List ℕ) → is_role_word s ≡ true → is_role_word r ≡ true → AreWordsInArms b → AreWordsIn (offered s r b)
 offered_words (one l sort b) s r x y h = (x, y, h.0, h.1)
 offered_words (more l sort b arms) s r x y h = (x, y, h)
 
@@ -402,22 +404,22 @@ talk_grown p bound depth s r a arms w u small there sent received lt low free g 
     let from : List ℕ = plain_name 82 s.0 in
     let to : List ℕ = plain_name 82 r.0 in
     let roles : List (List ℕ) = plain_names 82 p.roles in
-    let talk : Body = offered from to g.branches in
-    let counts : suc w.count + talks_in_arms g.branches ≡ u.count = g.counts in
-    let size : talks_in (wrapped c n talk) ≡ suc (talks_in_arms g.branches) = wrapped_talks c n talk ∙ offered_talks from to g.branches in
+    let talk : Body Talks = offered from to g.branches in
+    let counts : suc w.count + acts_in_arms Talks g.branches ≡ u.count = g.counts in
+    let size : acts_in Talks (wrapped c n talk) ≡ suc (acts_in_arms Talks g.branches) = wrapped_talks c n talk ∙ offered_talks from to g.branches in
     record {
       body = wrapped c n talk;
       first = wrapped_first (last_of p.nodes) c n talk bound ∙ offered_first (last_of p.nodes) from to g.branches inner n;
       parts = λ k le small'.
           drop_at p.nodes n (Talk s r (a ∷ arms)) there ∙ ap (λ z. Talk s r (a ∷ arms) ∷ z) (g.parts k le small')
           ∙ ap (λ z. z ++ drop u.count p.nodes) (sym (wrapped_nodes (numbers p k) c n talk bound ∙ offered_nodes (numbers p k) from to g.branches inner n
-          ∙ ap (λ z. z ∷ nodes_of_arms (numbers p k) g.branches inner (suc n)) (ap (λ z. Talk z (role_of (numbers p k) to) (arms_of (numbers p k) g.branches inner (suc n))) (role_numbered p k s small sent) ∙ ap (λ z. Talk s z (arms_of (numbers p k) g.branches inner (suc n))) (role_numbered p k r small received) ∙ ap (λ z. Talk s r z) (g.are k le small'))));
+          ∙ ap (λ z. z ∷ nodes_of_arms (numbers p k) g.branches inner (suc n)) (ap (λ z. Talk z (role_of (numbers p k) to) (arms_of Talks (numbers p k) g.branches inner (suc n))) (role_numbered p k s small sent) ∙ ap (λ z. Talk s z (arms_of Talks (numbers p k) g.branches inner (suc n))) (role_numbered p k r small received) ∙ ap (λ z. Talk s r z) (g.are k le small'))));
       counts = omega arith;
       labels = ap (λ z. grown (plain_names 108 w.labels) z) (wrapped_labels c n talk ∙ offered_labels from to g.branches) ∙ g.labels;
       ended = g.ended ∙ ap (λ z. w.ended || z) (sym (wrapped_end c n talk ∙ offered_end from to g.branches));
       fits = wrapped_fits c n talk roles bound depth (plain_names 108 w.labels) (shallower c (are_more (a ∷ arms)) depth low)
           (offered_fits g.branches from to roles inner (deeper c depth) n (plain_names 108 w.labels) (at_among roles s.0 from (plain_stands 82 p.roles s.0 sent)) (at_among roles r.0 to (plain_stands 82 p.roles r.0 received)) (omega arith)
-          (subst (λ (z : Bool). deeper z (deeper c depth) ≤ 200) (sym g.shape) low) (subst (λ (z : Bool). arms_fit g.branches (scene roles inner (deeper z (deeper c depth)) (suc n) (plain_names 108 w.labels)) ≡ true) (sym g.shape) g.fits));
+          (subst (λ (z : Bool). deeper z (deeper c depth) ≤ 200) (sym g.shape) low) (subst (λ (z : Bool). arms_fit Talks g.branches (scene roles inner (deeper z (deeper c depth)) (suc n) (plain_names 108 w.labels)) ≡ true) (sym g.shape) g.fits));
       words = one_words c n talk (omega arith) (offered_words g.branches from to (plain_role s.0 (omega arith)) (plain_role r.0 (omega arith)) g.words);
       shut = λ v lo hi. elim (eqb_tells v n) [
         | inl e ↦ ap (λ z. leads_from p.nodes u.count z) e.1 ∙ free

@@ -14,9 +14,8 @@ use Rattle.rs_text.specs.Sound.{differ, IsSound}
 use Rattle.rs_text.specs.Words.{is_role_word}
 use Rattle.rs_global.specs.declared.shapes.Walk.{Walk}
 use Rattle.rs_global.specs.Canonical.{IsTextShaped}
-use Rattle.rs_global.specs.Graph.{labels_of, talks_in, has_end, Numbering, first_node, nodes_of, numbering, graph_of, names_of, finish_of}
-use Rattle.rs_global.specs.Scenes.{first_scene}
-use Rattle.rs_global.specs.Spells.{body_fits, Fits, SpellsProtocol}
+use Rattle.rs_global.specs.Graph.{nodes_of, numbering, graph_of, names_of, finish_of}
+use Rattle.rs_global.specs.Spells.{Fits, SpellsProtocol}
 use Rattle.rs_global.specs.Shapes.{talk_leads, leads_from, is_end_at, ends_last, last_of, met, visited, same_bool, is_whole, begin, is_shaped}
 use Rattle.rs_global.specs.Texts.{protocol_text}
 use Rattle.rs_global.specs.Trees.{ProtocolTree, roles_of}
@@ -30,6 +29,10 @@ use Rattle.rs_global.proofs.PrintedTrees.{lone_tree_spelt}
 use Rattle.rs_global.proofs.ShapeGoes.{goes}
 use Rattle.rs_global.proofs.ShapeGrown.{Small, Grown, numbers, met_grown, visited_grown}
 use Rattle.rs_text.proofs.Basics.{some_is, both, seam}
+use Rattle.rs_bodies.specs.declared.dialects.Dialect.TheVariants.{Talks}
+use Rattle.rs_bodies.specs.Graph.{labels_of, acts_in, has_end, Numbering, first_of}
+use Rattle.rs_bodies.specs.Scenes.{first_scene}
+use Rattle.rs_bodies.specs.Fits.{body_fits}
 
 -- ---- the end of a graph
 
@@ -92,20 +95,20 @@ graph_shaped t fits =
     let p : Protocol_data = graph_of t in
     let m : Numbering = numbering t in
     let xs : List Node = nodes_of m t.body [] 0 in
-    let c : Bool = has_end t.body in
+    let c : Bool = has_end Talks t.body in
     let all : list_all is_talk xs ≡ true = all_talks m t.body [] 0 in
-    let size : length xs ≡ talks_in t.body = nodes_length m t.body [] 0 in
-    let last : last_of p.nodes ≡ talks_in t.body = last_as xs c all ∙ size in
-    let few : 0 + talks_in t.body ≤ 1024 = fits_talks t.body (first_scene (roles_of t)) fits.body (omega arith) in
+    let size : length xs ≡ acts_in Talks t.body = nodes_length m t.body [] 0 in
+    let last : last_of p.nodes ≡ acts_in Talks t.body = last_as xs c all ∙ size in
+    let few : 0 + acts_in Talks t.body ≤ 1024 = fits_talks t.body (first_scene (roles_of t) []) fits.body (omega arith) in
     let sixteen : length (roles_of t) ≤ 16 = fits.few_roles in
     let two : length (roles_of t) ≡ suc (suc (length t.further)) = refl in
-    let recs : Recs (λ v. leads_from p.nodes v v) t.body false 0 = tree_recs m p t.body c refl refl (fits_named t.body (first_scene (roles_of t)) fits.body) (λ v. leads_from p.nodes v v) (λ v h. back_is p v h) in
-    let run : met (visited (suc (last_of p.nodes)) p 0) (talks_in t.body) 0 p.root begin ≡ Some (record { count = 0 + talks_in t.body; labels = length (grown [] (labels_of t.body)); ended = false || c }) =
+    let recs : Recs (λ v. leads_from p.nodes v v) t.body false 0 = tree_recs m p t.body c refl refl (fits_named t.body (first_scene (roles_of t) []) fits.body) (λ v. leads_from p.nodes v v) (λ v h. back_is p v h) in
+    let run : met (visited (suc (last_of p.nodes)) p 0) (acts_in Talks t.body) 0 p.root begin ≡ Some (record { count = 0 + acts_in Talks t.body; labels = length (grown [] (labels_of Talks t.body)); ended = false || c }) =
     goes m p (record { roles = refl; last = last }) t.body (suc (last_of p.nodes)) [] false 0 0 0 0 false [] [] [] (finish_of c) refl refl (omega arith) (omega arith) (omega arith) (omega arith) (omega arith) (λ e. absurd (cc e)) fits.body (omega arith) recs
-    (fits_named t.body (first_scene (roles_of t)) fits.body) (λ x n e. absurd (cc e)) (λ x n e lt. lt) refl (λ v lo hi. finish_leads c v) in
-    shaped_by p (Some (record { count = 0 + talks_in t.body; labels = length (grown [] (labels_of t.body)); ended = false || c })) (omega arith) (omega arith) (omega arith)
+    (fits_named t.body (first_scene (roles_of t) []) fits.body) (λ x n e. absurd (cc e)) (λ x n e lt. lt) refl (λ v lo hi. finish_leads c v) in
+    shaped_by p (Some (record { count = 0 + acts_in Talks t.body; labels = length (grown [] (labels_of Talks t.body)); ended = false || c })) (omega arith) (omega arith) (omega arith)
     (ap (λ z. met (visited (suc (last_of p.nodes)) p 0) z 0 p.root begin) last ∙ run)
-    (whole_by p (0 + talks_in t.body) (length (grown [] (labels_of t.body))) (false || c) (omega arith) (sym (ends_as xs c all)))
+    (whole_by p (0 + acts_in Talks t.body) (length (grown [] (labels_of Talks t.body))) (false || c) (omega arith) (sym (ends_as xs c all)))
 
 pub shaped_is_walked : (p : Protocol_data) → IsTextShaped p → is_shaped p ≡ true
 shaped_is_walked p s = ap is_shaped s.spells.graph_is ∙ graph_shaped s.spells.tree s.spells.fits
@@ -183,12 +186,12 @@ has_text p w =
     let few : p.roles ≤ 16 = w.few in
     let roles : roles_of t ≡ names = roles_with names g.body (omega arith) in
     let count : w.end.count ≡ last_of p.nodes = w.count in
-    let counts : 0 + talks_in g.body ≡ w.end.count = g.counts in
-    let talks_are : talks_in g.body ≡ last_of p.nodes = omega arith in
-    let same : numbering t ≡ numbers p w.end.labels = ap (λ z. numbered z (grown [] (labels_of g.body)) (talks_in g.body)) roles ∙ ap (λ z. numbered names z (talks_in g.body)) g.labels ∙ ap (λ z. numbered names (plain_names 108 w.end.labels) z) talks_are in
-    let end : has_end g.body ≡ ends_last p.nodes = sym g.ended ∙ w.ended in
-    let nodes : nodes_of (numbering t) g.body [] 0 ++ finish_of (has_end g.body) ≡ p.nodes =
-    ap (λ z. nodes_of z g.body [] 0 ++ finish_of (has_end g.body)) same
+    let counts : 0 + acts_in Talks g.body ≡ w.end.count = g.counts in
+    let talks_are : acts_in Talks g.body ≡ last_of p.nodes = omega arith in
+    let same : numbering t ≡ numbers p w.end.labels = ap (λ z. numbered z (grown [] (labels_of Talks g.body)) (acts_in Talks g.body)) roles ∙ ap (λ z. numbered names z (acts_in Talks g.body)) g.labels ∙ ap (λ z. numbered names (plain_names 108 w.end.labels) z) talks_are in
+    let end : has_end Talks g.body ≡ ends_last p.nodes = sym g.ended ∙ w.ended in
+    let nodes : nodes_of (numbering t) g.body [] 0 ++ finish_of (has_end Talks g.body) ≡ p.nodes =
+    ap (λ z. nodes_of z g.body [] 0 ++ finish_of (has_end Talks g.body)) same
     ∙ ap (λ z. nodes_of (numbers p w.end.labels) g.body [] 0 ++ z) (ap finish_of end ∙ sym (drop_last p.nodes) ∙ ap (λ z. drop z p.nodes) (sym count))
     ∙ sym (g.parts w.end.labels (omega arith) g.room) in
     let sixteen : length (roles_of t) ≡ p.roles = ap length roles ∙ size in
@@ -197,12 +200,12 @@ has_text p w =
       fits = record {
         roles_differ = ap differ roles ∙ plain_differ 82 p.roles (omega arith);
         few_roles = omega arith;
-        body = ap (λ z. body_fits g.body (scene z [] 0 0 [])) roles ∙ g.fits;
+        body = ap (λ z. body_fits Talks g.body (scene z [] 0 0 [])) roles ∙ g.fits;
       };
       words = record { roles = subst (λ (z : List (List ℕ)). All (λ x. is_role_word x ≡ true) z) (sym roles) (roles_sound p.roles few).roles_are_words; body = g.words };
-      graph_is = ap (λ z. graph z (nodes_of (numbering t) g.body [] 0 ++ finish_of (has_end g.body)) (first_node g.body [] 0 (talks_in g.body))) sixteen
-          ∙ ap (λ z. graph p.roles z (first_node g.body [] 0 (talks_in g.body))) nodes
-          ∙ ap (λ z. graph p.roles p.nodes z) (ap (λ z. first_node g.body [] 0 z) talks_are ∙ g.first);
+      graph_is = ap (λ z. graph z (nodes_of (numbering t) g.body [] 0 ++ finish_of (has_end Talks g.body)) (first_of Talks g.body [] 0 (acts_in Talks g.body))) sixteen
+          ∙ ap (λ z. graph p.roles z (first_of Talks g.body [] 0 (acts_in Talks g.body))) nodes
+          ∙ ap (λ z. graph p.roles p.nodes z) (ap (λ z. first_of Talks g.body [] 0 z) talks_are ∙ g.first);
     }
 
 pub walked_is_shaped : (p : Protocol_data) → is_shaped p ≡ true → IsTextShaped p

@@ -6,10 +6,13 @@ use Rattle.rs_model.specs.declared.graph.Arm.{Arm}
 use Rattle.rs_model.specs.declared.graph.Node.TheVariants.{Finished, Talk}
 use Rattle.rs_model.specs.declared.graph.Role.{Role}
 use Rattle.rs_model.specs.declared.values.Sort.{Sort}
-use Rattle.rs_global.specs.Trees.{Body, ends, again, binds, talks, offers, Branches, one, more, ProtocolTree, roles_of}
+use Rattle.rs_global.specs.Trees.{ProtocolTree, roles_of}
 use Rattle.rs_global.specs.Texts.{protocol_text}
 use Rattle.rs_global.specs.Spells.{SpellsProtocol}
 use Rattle.rs_text.specs.Arms.{shown_sort}
+use Rattle.rs_bodies.specs.Dialects.{sends_to}
+use Rattle.rs_bodies.specs.declared.dialects.Dialect.TheVariants.{Talks}
+use Rattle.rs_bodies.specs.Trees.{Body, ends, again, binds, acts, offers, Branches, one, more}
 
 -- some text reads to the protocol
 pub record IsTextShaped (protocol : Protocol_data) : Type 0 where
@@ -60,20 +63,20 @@ AreArms names protocol n s r Each = (a b : Arm) × (more : List Arm) × IsTalkOf
 -- talk of a lower number by its name, any other node whole. A talk that is gone back to has a rec in front; one arm
 -- stands behind a colon, more than one in braces.
 abbrev mutual
-  pub Draws : Names_data → Protocol_data → (from n : ℕ) → Body → Type 0
+  pub Draws : Names_data → Protocol_data → (from n : ℕ) → Body Talks → Type 0
   Draws names protocol from n ends = slice_get protocol.nodes n ≡ Some Finished
   Draws names protocol from n (again name) = (n < from) × (name ≡ name_of_node n)
   Draws names protocol from n (binds name body) = (from ≤ n) × (name ≡ name_of_node n) × IsGoneBackTo protocol n × DrawsTalk names protocol n body
-  Draws names protocol from n (talks s r label sort body) = (from ≤ n) × (IsGoneBackTo protocol n → ⊥) × IsOneArm names protocol n s r label sort (λ next. Draws names protocol (n + 1) next body)
-  Draws names protocol from n (offers s r arms) = (from ≤ n) × (IsGoneBackTo protocol n → ⊥) × AreArms names protocol n s r (λ ours. DrawsArms names protocol (n + 1) ours arms)
+  Draws names protocol from n (acts s (sends_to r) label sort body) = (from ≤ n) × (IsGoneBackTo protocol n → ⊥) × IsOneArm names protocol n s r label sort (λ next. Draws names protocol (n + 1) next body)
+  Draws names protocol from n (offers s (sends_to r) arms) = (from ≤ n) × (IsGoneBackTo protocol n → ⊥) × AreArms names protocol n s r (λ ours. DrawsArms names protocol (n + 1) ours arms)
 
   -- a talk without a rec of its own
-  pub DrawsTalk : Names_data → Protocol_data → (n : ℕ) → Body → Type 0
-  DrawsTalk names protocol n (talks s r label sort body) = IsOneArm names protocol n s r label sort (λ next. Draws names protocol (n + 1) next body)
-  DrawsTalk names protocol n (offers s r arms) = AreArms names protocol n s r (λ ours. DrawsArms names protocol (n + 1) ours arms)
+  pub DrawsTalk : Names_data → Protocol_data → (n : ℕ) → Body Talks → Type 0
+  DrawsTalk names protocol n (acts s (sends_to r) label sort body) = IsOneArm names protocol n s r label sort (λ next. Draws names protocol (n + 1) next body)
+  DrawsTalk names protocol n (offers s (sends_to r) arms) = AreArms names protocol n s r (λ ours. DrawsArms names protocol (n + 1) ours arms)
   DrawsTalk names protocol n _ = ⊥
 
-  pub DrawsArms : Names_data → Protocol_data → (from : ℕ) → List Arm → Branches → Type 0
+  pub DrawsArms : Names_data → Protocol_data → (from : ℕ) → List Arm → Branches Talks → Type 0
   DrawsArms names protocol from (a ∷ []) (one label sort body) = IsArmOf names label sort a × Draws names protocol from a.next body
   DrawsArms names protocol from (a ∷ others) (more label sort body arms) = IsArmOf names label sort a × Draws names protocol from a.next body × DrawsArms names protocol from others arms
   DrawsArms names protocol from _ _ = ⊥

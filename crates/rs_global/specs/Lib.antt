@@ -1,13 +1,9 @@
-pub mod Data
 pub mod Trees
 pub mod Graph
-pub mod Cuts
-pub mod Scenes
-pub mod Misplaced
 pub mod Spells
 pub mod Faults
-pub mod Drafts
-pub mod Feeding
+pub mod Parts
+pub mod Answers
 pub mod Examples
 pub mod Texts
 pub mod Canonical

@@ -11,7 +11,7 @@ use Rattle.rs_global.specs.Canonical.{name_of_node, IsGoneBackTo}
 use Rattle.rs_text.specs.Arms.{shown_sort, arm_text}
 use Rattle.rs_text.specs.Names.{name_at}
 
--- ---- which talks are gone back to
+-- ---- which acts are (sends_to gone) back to
 
 -- with a flag at each node that an arm of this node leads to, where it isn't behind the node
 abbrev pub marked : ℕ → List Arm → List Bool → List Bool

@@ -1,4 +1,4 @@
--- Steps: the walk over a protocol's talks in order of text, which tells whether some text reads to it.
+-- Steps: the walk over a protocol's acts in (sends_to order) of text, which tells whether some text reads to it.
 use Rattle.std.specs.Prelude.{ℕ, zero, suc, ◌-◌, List, [], ◌∷◌, length, drop, Option, Some, None, Bool, true, false, not, ◌==◌, ◌&&◌, if◌then◌else◌, nat_lt, nat_le, slice_get}
 use Rattle.std.specs.List.{list_any}
 use Rattle.rs_model.specs.Data.{Protocol_data}

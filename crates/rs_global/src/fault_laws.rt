@@ -6,8 +6,10 @@ ghost use Rattle.rs_text.specs.declared.faults.TextKind.{TextKind};
 ghost use Rattle.rs_text.specs.declared.faults.TextKind.TheVariants as kind;
 ghost use Rattle.rs_text.specs.declared.faults.Wanted.{Wanted};
 ghost use Rattle.rs_text.specs.Lexemes.{signs_of};
-ghost use Rattle.rs_global.specs.Faults.{Begins, FirstFault, IsUnexpected};
-ghost use Rattle.rs_global.specs.Feeding.{Answer, ReadsAs};
+ghost use Rattle.rs_bodies.specs.declared.dialects.Dialect.TheVariants.{Talks};
+ghost use Rattle.rs_bodies.specs.Faults.{Begins, IsUnexpected};
+ghost use Rattle.rs_global.specs.Faults.{FirstFault};
+ghost use Rattle.rs_global.specs.Answers.{Answer, ReadsAs};
 ghost use Rattle.rs_global.specs.Spells.{SpellsProtocol};
 
 /// Whatever fault the reader tells is the first fault of the text ..
@@ -32,13 +34,13 @@ pub fn read_text_has_no_fault()
 
 /// The tokens before the first fault begin a protocol.
 pub fn tokens_before_the_fault_begin_a_protocol()
-    ensures { (bytes : List ℕ) (at : ℕ) (kind : TextKind) (offset : ℕ) (fault : FirstFault bytes at kind offset) → Begins (signs_of fault.before) }
+    ensures { (bytes : List ℕ) (at : ℕ) (kind : TextKind) (offset : ℕ) (fault : FirstFault bytes at kind offset) → Begins Talks (signs_of fault.before) }
 {}
 
 /// Where another token is expected, the tokens up to that one begin a protocol and with it they begin none, and what is
 /// wanted is what its place wants.
 pub fn expected_is_unexpected()
-    ensures { (bytes : List ℕ) (at : ℕ) (wanted : Wanted) (offset : ℕ) (fault : FirstFault bytes at (kind.Expected wanted) offset) → IsUnexpected (signs_of fault.before) fault.token.sign wanted }
+    ensures { (bytes : List ℕ) (at : ℕ) (wanted : Wanted) (offset : ℕ) (fault : FirstFault bytes at (kind.Expected wanted) offset) → IsUnexpected Talks (signs_of fault.before) fault.token.sign wanted }
 {}
 
 /// A text that a tree spells is read ..

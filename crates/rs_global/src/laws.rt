@@ -4,7 +4,7 @@ ghost use Rattle.rs_text.specs.declared.faults.TextFault.{TextFault};
 ghost use Rattle.rs_text.specs.declared.faults.TextKind.TheVariants as kind;
 ghost use Rattle.rs_text.specs.declared.faults.Wanted.TheVariants as wanted;
 ghost use Rattle.rs_global.specs.Examples.{text, tree};
-ghost use Rattle.rs_global.specs.Feeding.{Answer, ReadsAs};
+ghost use Rattle.rs_global.specs.Answers.{Answer, ReadsAs};
 ghost use Rattle.rs_global.specs.Faults.{FirstFault};
 ghost use Rattle.rs_global.specs.Graph.{graph_of, names_of};
 ghost use Rattle.rs_global.specs.Spells.{SpellsProtocol};

@@ -2,7 +2,6 @@
 #![tactic(auto)]
 
 pub mod canonical_laws;
-mod drafts;
 pub mod fault_laws;
 pub mod laws;
 mod printing;
@@ -10,7 +9,6 @@ pub mod printing_laws;
 #[cfg(test)]
 mod printing_tests;
 mod protocols;
-mod reading;
 #[cfg(test)]
 mod shape_tests;
 mod shapes;

@@ -9,7 +9,8 @@ ghost use Rattle.rs_global.specs.Printing.{AreBack, Step, marked, marked_all, pa
 ghost use Rattle.rs_text.specs.Names.{name_at};
 ghost use Rattle.rs_global.specs.Texts.{body_text, names_text};
 ghost use Rattle.rs_text.specs.Arms.{shown_text};
-ghost use Rattle.rs_global.specs.Trees.{Body};
+ghost use Rattle.rs_bodies.specs.declared.dialects.Dialect.TheVariants.{Talks};
+ghost use Rattle.rs_bodies.specs.Trees.{Body};
 
 use rs_model::{Arm, Name, Names, NoMemory, Node, Protocol, Role, Sort};
 use rs_text::Text;
@@ -347,7 +348,7 @@ impl<'a> Printer<'a> {
 /// Writes the body of the protocol behind a text.
 fn body(alloc: Global, names: &Names, protocol: &Protocol, text: Text) -> Result<Text, NoMemory>
     requires { IsTextShaped protocol.now }
-    ensures { IfOk result (λ whole. (body : Body) → Draws names.now protocol.now 0 protocol.now.root body → whole ≡ text ++ body_text body) }
+    ensures { IfOk result (λ whole. (body : Body Talks) → Draws names.now protocol.now 0 protocol.now.root body → whole ≡ text ++ body_text body) }
 {
     let flags = gone_back_to(alloc, protocol.nodes.as_slice())?;
     let mut printer = Printer::new(alloc, names, protocol, flags, text);

@@ -9,7 +9,9 @@ ghost use Rattle.rs_global.specs.Enough.{AreEnough};
 ghost use Rattle.rs_global.specs.Graph.{graph_of, names_of};
 ghost use Rattle.rs_global.specs.Spells.{Fits, SpellsProtocol};
 ghost use Rattle.rs_global.specs.Texts.{protocol_text};
-ghost use Rattle.rs_global.specs.Trees.{ProtocolTree, ends_a_name, ends_by_name, protocol_signs};
+ghost use Rattle.rs_global.specs.Trees.{ProtocolTree, protocol_signs};
+ghost use Rattle.rs_bodies.specs.declared.dialects.Dialect.TheVariants.{Talks};
+ghost use Rattle.rs_bodies.specs.Trees.{ends_a_name, ends_by_name};
 ghost use Rattle.rs_global.specs.Writable.{AreWords};
 
 /// The text of a tree is written for its tokens, whatever stands behind it.
@@ -20,7 +22,7 @@ pub fn text_of_a_tree_is_written()
 /// Where the text of a tree stands, the tree is spelt, as far as the next token. That is no arrow and not faulty, where
 /// a recursion name ends the tree.
 pub fn text_of_a_tree_spells_it()
-    ensures { (bytes : List ℕ) (at : ℕ) (tree : ProtocolTree) (behind : List ℕ) → AreWords tree → Fits tree → drop at bytes ≡ protocol_text tree ++ behind → (ends_by_name tree.body ≡ true → ends_a_name (next_lexeme bytes (at + length (protocol_text tree))).sign ≡ true) → SpellsProtocol bytes at (names_of tree) (graph_of tree) (next_lexeme bytes (at + length (protocol_text tree))).from }
+    ensures { (bytes : List ℕ) (at : ℕ) (tree : ProtocolTree) (behind : List ℕ) → AreWords tree → Fits tree → drop at bytes ≡ protocol_text tree ++ behind → (ends_by_name Talks tree.body ≡ true → ends_a_name Talks (next_lexeme bytes (at + length (protocol_text tree))).sign ≡ true) → SpellsProtocol bytes at (names_of tree) (graph_of tree) (next_lexeme bytes (at + length (protocol_text tree))).from }
 {}
 
 /// A text that is the tree's alone spells it as far as its end.

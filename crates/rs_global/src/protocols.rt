@@ -1,16 +1,14 @@
-ghost use Rattle.std.specs.Prelude.{◌≡◌, ◌≤◌, length, IfOk, IfErr, ◌⊎◌, Ok};
+ghost use Rattle.std.specs.Prelude.{◌≡◌, ◌≤◌, ◌+◌, ◌++◌, length, map, IfOk, IfErr, ◌⊎◌};
 ghost use Rattle.rs_text.specs.declared.faults.TextKind.TheVariants as kind;
-ghost use Rattle.rs_global.specs.Drafts.{names_read, protocol_of};
-ghost use Rattle.rs_global.specs.Faults.{FirstFault};
-ghost use Rattle.rs_global.specs.Feeding.{begin, feeding, Reads};
-ghost use Rattle.rs_global.specs.Spells.{SpellsProtocol};
-ghost use Rattle.rs_text.specs.Readings.{StopsBy};
 ghost use Rattle.rs_text.specs.Sound.{IsSound};
+ghost use Rattle.rs_global.specs.Faults.{FirstFault};
+ghost use Rattle.rs_global.specs.Graph.{finish_of};
+ghost use Rattle.rs_global.specs.Parts.{graph_spelt, node_at, node_by};
+ghost use Rattle.rs_global.specs.Spells.{SpellsProtocol};
 
-use crate::drafts::{nodes, settled_number};
-use crate::reading::Reader;
-use rs_model::{Names, NoMemory, Protocol};
-use rs_text::{Lexer, Stop, TextFault};
+use rs_bodies::{Dialect, Head, Point, Spelling, read_part};
+use rs_model::{Arms, Names, NoMemory, Node, Protocol};
+use rs_text::{Stop, TextFault};
 use std::alloc::Global;
 
 /// Reads a roles line and a protocol from the offset `at` on, and gives the names, the protocol and the offset of the
@@ -37,45 +35,66 @@ pub fn read_protocol(
     ensures within { IfOk result (λ r. r.2 ≤ length bytes.now) }
     ensures place { IfErr result (λ e. e.at ≤ length bytes.now) }
 {
-    match read(alloc, bytes, at) {
-        Ok((reader, until)) => match graph(alloc, reader) {
-            Ok((names, protocol)) => Ok((names, protocol, until)),
-            Err(_) => Err(Stop::Memory.told(at)),
+    let mut names = Names {
+        roles: Vec::new(alloc),
+        labels: Vec::new(alloc),
+    };
+    let (spelling, until) = read_part(alloc, Dialect::Talks, bytes, at, &mut names)?;
+    let roles = names.roles.len() as u8;
+    match graph(alloc, roles, spelling) {
+        Ok(protocol) => Ok((names, protocol, until)),
+        Err(_) => Err(Stop::Memory.told(at)),
+    }
+}
+
+/// The graph of what was read.
+fn graph(alloc: Global, roles: u8, spelling: Spelling) -> Result<Protocol, NoMemory>
+    ensures protocol { IfOk result (λ r. r ≡ graph_spelt roles spelling) }
+    ensures count { IfOk result (λ r. length r.nodes ≤ length spelling.points + 1) }
+{
+    let root = spelling.start;
+    let ended = spelling.ended;
+    Ok(Protocol {
+        roles,
+        nodes: nodes(alloc, spelling.points, ended)?,
+        root,
+    })
+}
+
+/// The nodes of heads, with the end behind them where there is one.
+fn nodes(alloc: Global, points: Vec<Point>, ended: bool) -> Result<Vec<Node>, NoMemory>
+    ensures nodes { IfOk result (λ nodes. nodes.items ≡ map node_at points.items ++ finish_of ended) }
+    ensures count { IfOk result (λ nodes. length nodes.items ≤ length points.items + 1) }
+{
+    let mut nodes = talks(alloc, points)?;
+    if ended {
+        nodes.push(Node::Finished)?;
+    }
+    Ok(nodes)
+}
+
+fn talks(alloc: Global, points: Vec<Point>) -> Result<Vec<Node>, NoMemory>
+    ensures count { IfOk result (λ nodes. length nodes.items ≡ length points.items) }
+    ensures nodes { IfOk result (λ nodes. nodes.items ≡ map node_at points.items) }
+{
+    let mut nodes = Vec::new(alloc);
+    for point in points {
+        let Point { head, arms } = point;
+        nodes.push(node(head, arms))?;
+    }
+    Ok(nodes)
+}
+
+/// The node of a head. A protocol has talks alone.
+fn node(head: Head, arms: Arms) -> Node
+    ensures { result ≡ node_by head arms }
+{
+    match head {
+        Head::Talk { sender, receiver } => Node::Talk {
+            sender,
+            receiver,
+            arms,
         },
-        Err(stop) => Err(stop.told(at)),
+        Head::Act { .. } => Node::Finished,
     }
-}
-
-/// The names and the graph of what was read.
-fn graph(alloc: Global, reader: Reader) -> Result<(Names, Protocol), NoMemory>
-    ensures names { IfOk result (λ r. r.0 ≡ names_read reader.entry) }
-    ensures protocol { IfOk result (λ r. r.1 ≡ protocol_of reader.entry) }
-    ensures talks { IfOk result (λ r. length r.1.nodes ≤ 1025) }
-{
-    let last = reader.drafts.len() as u32;
-    let protocol = Protocol {
-        roles: reader.roles.len() as u8,
-        nodes: nodes(alloc, reader.drafts.as_slice(), last, reader.ended)?,
-        root: settled_number(last, reader.root),
-    };
-    let names = Names {
-        roles: reader.roles,
-        labels: reader.labels,
-    };
-    Ok((names, protocol))
-}
-
-fn read<'a>(alloc: Global, bytes: &'a [u8], at: usize) -> Result<(Reader<'a>, usize), Stop>
-    requires { at ≤ length bytes.now }
-    ensures ok { IfOk result (λ r. Reads bytes.now at (Ok (record { reader = r.0; until = r.1 }))) }
-    ensures within { IfOk result (λ r. r.1 ≤ length bytes.now) }
-    ensures err { IfErr result (λ e. StopsBy feeding e begin bytes.now at) }
-{
-    let mut reader = Reader::new(alloc);
-    let mut lexer = Lexer::new(bytes, at);
-    while !reader.is_read() {
-        let token = lexer.next()?;
-        reader.feed(bytes, token)?;
-    }
-    Ok((reader, lexer.next_offset()))
 }

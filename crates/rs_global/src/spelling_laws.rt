@@ -3,7 +3,7 @@ ghost use Rattle.std.specs.Prelude.{◌≡◌, ◌≤◌, ◌⊎◌, ℕ, List, 
 ghost use Rattle.rs_model.specs.Data.{Names_data, Protocol_data};
 ghost use Rattle.rs_text.specs.declared.faults.TextKind.{TextKind};
 ghost use Rattle.rs_global.specs.Faults.{FirstFault};
-ghost use Rattle.rs_global.specs.Feeding.{Answer, ReadsAs};
+ghost use Rattle.rs_global.specs.Answers.{Answer, ReadsAs};
 ghost use Rattle.rs_global.specs.Spells.{SpellsProtocol};
 
 /// Whatever protocol is read from a text, the text spells it ..

@@ -8,18 +8,21 @@ use Rattle.rs_model.specs.declared.graph.Arm.{Arm}
 use Rattle.rs_model.specs.declared.machines.State.{State}
 use Rattle.rs_model.specs.declared.machines.State.TheVariants.{Done, Puts, Takes}
 use Rattle.rs_model.specs.declared.graph.Role.{Role}
-use Rattle.rs_machines.specs.declared.marks.Mark.{Mark}
-use Rattle.rs_machines.specs.declared.marks.Mark.TheVariants as mark
+use Rattle.rs_bodies.specs.declared.dialects.Mark.{Mark}
+use Rattle.rs_bodies.specs.declared.dialects.Mark.TheVariants as mark
 use Rattle.rs_model.specs.declared.values.Sort.{Sort}
 use Rattle.rs_text.specs.Arms.{sort_or_unit, shown_sort}
 use Rattle.rs_text.specs.Names.{Bound, bound_to, number_or}
-use Rattle.rs_machines.specs.Trees.{Body, ends, again, binds, acts, offers, Branches, one, more}
-use Rattle.rs_machines.specs.Machines.{acts_in, state_of, Numbering, role_of, label_of}
-use Rattle.rs_machines.specs.Scenes.{Scene, with_label, in_act, in_braces, in_rec, behind}
-use Rattle.rs_machines.specs.Spells.{is_guarded, body_fits, arms_fit}
+use Rattle.rs_machines.specs.Machines.{state_of}
 use Rattle.rs_machines.specs.Canonical.{name_of_state, IsGoneBackTo}
 use Rattle.rs_machines.specs.Shapes.{leads_to, act_leads, leads_from}
 use Rattle.rs_text.proofs.Basics.{some_is, both, any_stands, stands_any, drop_get}
+use Rattle.rs_bodies.specs.declared.dialects.Dialect.TheVariants.{Acts}
+use Rattle.rs_bodies.specs.Trees.{Body, ends, again, binds, acts, offers, Branches, one, more}
+use Rattle.rs_bodies.specs.Graph.{acts_in, Numbering, role_of, label_of}
+use Rattle.rs_bodies.specs.Scenes.{Scene, with_label, in_act, in_braces, in_rec, behind}
+use Rattle.rs_bodies.specs.Fits.{is_guarded, body_fits, arms_fit}
+use Rattle.rs_bodies.specs.Dialects.{with_mark}
 
 -- ---- what stands in a list
 
@@ -80,54 +83,54 @@ abbrev pub sort_as : Option Sort → Option Sort
 sort_as sort = shown_sort (sort_or_unit sort)
 
 -- rec Xk where an arm goes back to k
-abbrev pub wrapped : Bool → ℕ → Body → Body
+abbrev pub wrapped : Bool → ℕ → Body Acts → Body Acts
 wrapped true k b = binds (name_of_state k) b
 wrapped false k b = b
 
 -- one arm right behind the mark, more in braces
-abbrev pub offered : (s : List ℕ) (r : Mark) → Branches → Body
-offered s r (one l sort b) = acts s r l sort b
-offered s r (more l sort b arms) = offers s r (more l sort b arms)
+abbrev pub offered : (s : List ℕ) (r : Mark) → Branches Acts → Body Acts
+offered s r (one l sort b) = acts s (with_mark r) l sort b
+offered s r (more l sort b arms) = offers s (with_mark r) (more l sort b arms)
 
 -- the canonical form of a body
 abbrev mutual
-  pub canon : Writing → Body → Bound → ℕ → Body
+  pub canon : Writing → Body Acts → Bound → ℕ → Body Acts
   canon w ends bound count = ends
   canon w (again x) bound count = again (name_of_state (number_or (bound_to x bound)))
   canon w (binds x b) bound count = canon w b ((x, count) ∷ bound) count
-  canon w (acts s r l sort b) bound count = wrapped (goes_back w.states count) count (acts (role_as w s) r (label_as w l) (sort_as sort) (canon w b bound (suc count)))
-  canon w (offers s r arms) bound count = wrapped (goes_back w.states count) count (offered (role_as w s) r (canon_arms w arms bound (suc count)))
+  canon w (acts s (with_mark r) l sort b) bound count = wrapped (goes_back w.states count) count (acts (role_as w s) (with_mark r) (label_as w l) (sort_as sort) (canon w b bound (suc count)))
+  canon w (offers s (with_mark r) arms) bound count = wrapped (goes_back w.states count) count (offered (role_as w s) r (canon_arms w arms bound (suc count)))
 
-  pub canon_arms : Writing → Branches → Bound → ℕ → Branches
+  pub canon_arms : Writing → Branches Acts → Bound → ℕ → Branches Acts
   canon_arms w (one l sort b) bound count = one (label_as w l) (sort_as sort) (canon w b bound count)
-  canon_arms w (more l sort b arms) bound count = more (label_as w l) (sort_as sort) (canon w b bound count) (canon_arms w arms bound (count + acts_in b))
+  canon_arms w (more l sort b arms) bound count = more (label_as w l) (sort_as sort) (canon w b bound count) (canon_arms w arms bound (count + acts_in Acts b))
 
 -- ---- where names lead
 
 -- names are bound and guarded
 abbrev mutual
-  pub Named : Body → Bound → ℕ → Type 0
+  pub Named : Body Acts → Bound → ℕ → Type 0
   Named ends bound count = Unit {0}
   Named (again x) bound count = is_guarded (bound_to x bound) count ≡ true
   Named (binds x b) bound count = Named b ((x, count) ∷ bound) count
-  Named (acts s r l sort b) bound count = Named b bound (suc count)
-  Named (offers s r arms) bound count = NamedArms arms bound (suc count)
+  Named (acts s (with_mark r) l sort b) bound count = Named b bound (suc count)
+  Named (offers s (with_mark r) arms) bound count = NamedArms arms bound (suc count)
 
-  pub NamedArms : Branches → Bound → ℕ → Type 0
+  pub NamedArms : Branches Acts → Bound → ℕ → Type 0
   NamedArms (one l sort b) bound count = Named b bound count
-  NamedArms (more l sort b arms) bound count = Named b bound count × NamedArms arms bound (count + acts_in b)
+  NamedArms (more l sort b arms) bound count = Named b bound count × NamedArms arms bound (count + acts_in Acts b)
 
 mutual
-  pub fits_named : (b : Body) (s : Scene) → body_fits b s ≡ true → Named b s.bound s.acts
+  pub fits_named : (b : Body Acts) (s : Scene) → body_fits Acts b s ≡ true → Named b s.bound s.acts
   fits_named ends s h = tt
   fits_named (again x) s h = h
   fits_named (binds x b) s h = fits_named b (in_rec x s) (both _ _ h).1
-  fits_named (acts x y l sort b) s h = fits_named b (with_label l (in_act s)) (both _ _ h).1
-  fits_named (offers x y arms) s h = fits_named_arms arms (in_braces s) (both _ _ h).1
+  fits_named (acts x (with_mark y) l sort b) s h = fits_named b (with_label l (in_act s)) (both _ _ h).1
+  fits_named (offers x (with_mark y) arms) s h = fits_named_arms arms (in_braces s) (both _ _ h).1
 
-  fits_named_arms : (arms : Branches) (s : Scene) → arms_fit arms s ≡ true → NamedArms arms s.bound s.acts
+  fits_named_arms : (arms : Branches Acts) (s : Scene) → arms_fit Acts arms s ≡ true → NamedArms arms s.bound s.acts
   fits_named_arms (one l sort b) s h = fits_named b (with_label l s) (both _ _ h).1
-  fits_named_arms (more l sort b arms) s h = (fits_named b (with_label l s) (both _ _ (both _ _ h).0).1, fits_named_arms arms (behind b (with_label l s)) (both _ _ h).1)
+  fits_named_arms (more l sort b arms) s h = (fits_named b (with_label l s) (both _ _ (both _ _ h).0).1, fits_named_arms arms (behind Acts b (with_label l s)) (both _ _ h).1)
 
 -- no name leads behind k
 abbrev pub Low : Bound → ℕ → Type 0
@@ -165,13 +168,13 @@ HasLabel w l = (label_of w.numbers l).0 < length w.names.labels
 
 -- and so for all peers and labels of a body
 abbrev mutual
-  pub HasNames : Writing → Body → Type 0
+  pub HasNames : Writing → Body Acts → Type 0
   HasNames w ends = Unit {0}
   HasNames w (again x) = Unit {0}
   HasNames w (binds x b) = HasNames w b
-  HasNames w (acts s r l sort b) = HasRole w s × HasLabel w l × HasNames w b
-  HasNames w (offers s r arms) = HasRole w s × HasNamesArms w arms
+  HasNames w (acts s (with_mark r) l sort b) = HasRole w s × HasLabel w l × HasNames w b
+  HasNames w (offers s (with_mark r) arms) = HasRole w s × HasNamesArms w arms
 
-  pub HasNamesArms : Writing → Branches → Type 0
+  pub HasNamesArms : Writing → Branches Acts → Type 0
   HasNamesArms w (one l sort b) = HasLabel w l × HasNames w b
   HasNamesArms w (more l sort b arms) = HasLabel w l × HasNames w b × HasNamesArms w arms

@@ -8,9 +8,8 @@ use Rattle.rs_text.specs.Sound.{IsSound}
 use Rattle.rs_text.specs.Words.{is_word, is_role_word}
 use Rattle.rs_machines.specs.Enough.{AreEnoughFor}
 use Rattle.rs_machines.specs.Texts.{machine_text}
-use Rattle.rs_machines.specs.Trees.{Body, ends, again, binds, acts, offers, Branches, one, more, MachineTree, ends_by_name, ends_a_name}
-use Rattle.rs_machines.specs.Machines.{labels_of, acts_in, acts_in_arms, has_end, role_of, label_of, first_state, states_of, numbering, machine_of, names_of, done_of}
-use Rattle.rs_machines.specs.Scenes.{first_scene}
+use Rattle.rs_machines.specs.Trees.{MachineTree}
+use Rattle.rs_machines.specs.Machines.{states_of, numbering, machine_of, names_of, done_of}
 use Rattle.rs_machines.specs.Spells.{Fits, SpellsMachine}
 use Rattle.rs_machines.specs.Writable.{AreWords, AreWordsIn, AreWordsInArms}
 use Rattle.rs_text.specs.Lexemes.{next_lexeme}
@@ -23,8 +22,13 @@ use Rattle.rs_machines.proofs.CanonNumbers.{role_place, label_place, role_known,
 use Rattle.rs_machines.proofs.Existence.{role_stands, label_stands, tree_has_names, writing_of, canonical_tree, canonical_of}
 use Rattle.rs_machines.proofs.StateNames.{state_name_law}
 use Rattle.rs_machines.proofs.PrintedTrees.{tree_spelt, lone_tree_spelt}
-use Rattle.rs_machines.proofs.SpeltLaws.{one_spelling}
 use Rattle.rs_text.proofs.Naming.{all_at}
+use Rattle.rs_bodies.specs.declared.dialects.Dialect.TheVariants.{Acts}
+use Rattle.rs_bodies.specs.Trees.{Body, ends, again, binds, acts, offers, Branches, one, more, ends_by_name, ends_a_name}
+use Rattle.rs_bodies.specs.Graph.{labels_of, acts_in, acts_in_arms, has_end, role_of, label_of, first_of}
+use Rattle.rs_bodies.specs.Scenes.{first_scene}
+use Rattle.rs_machines.proofs.Spelt.{one_spelling}
+use Rattle.rs_bodies.specs.Dialects.{with_mark}
 
 -- ---- the canonical tree of what a tree spells
 
@@ -33,14 +37,14 @@ record Ready (old : Names_data) (t : MachineTree) (names : Names_data) : Type 0 
   enough : AreEnoughFor names (machine_of old t)
   sound : Sound names
 
-written_labels : (old : Names_data) (t : MachineTree) (names : Names_data) → AreEnoughFor names (machine_of old t) → grown names.labels (labels_of (canonical_tree old t names).body) ≡ names.labels
+written_labels : (old : Names_data) (t : MachineTree) (names : Names_data) → AreEnoughFor names (machine_of old t) → grown names.labels (labels_of Acts (canonical_tree old t names).body) ≡ names.labels
 written_labels old t names enough = let w = writing_of old t names in canon_grown w t.body [] 0 names.labels (λ l has. label_known w l has) (tree_has_names old t names enough)
 
 named : (old : Names_data) (t : MachineTree) → Fits old t → Named t.body [] 0
-named old t fits = fits_named t.body (first_scene old) fits.body
+named old t fits = fits_named t.body (first_scene old.roles old.labels) fits.body
 
 pub is_fine : (old : Names_data) (t : MachineTree) → Fits old t → Fine (goes_back (machine_of old t).states) t.body [] 0
-is_fine old t fits = fine (numbering old t) (machine_of old t) t.body [] 0 0 [] (done_of (has_end t.body)) refl refl (named old t fits) (λ x m i. absurd (cc i)) (λ x m i lt. lt) (λ lt. absurd (omega arith))
+is_fine old t fits = fine (numbering old t) (machine_of old t) t.body [] 0 0 [] (done_of (has_end Acts t.body)) refl refl (named old t fits) (λ x m i. absurd (cc i)) (λ x m i lt. lt) (λ lt. absurd (omega arith))
 
 numbers_same : (old : Names_data) (t : MachineTree) (names : Names_data) → Ready old t names → SameNumbers (writing_of old t names) (numbering names (canonical_tree old t names))
 numbers_same old t names r =
@@ -51,8 +55,8 @@ numbers_same old t names r =
       last = canon_acts w t.body [] 0;
     }
 
-few_acts : (old : Names_data) (t : MachineTree) → Fits old t → 0 + acts_in t.body ≤ 256
-few_acts old t fits = fits_acts t.body (first_scene old) fits.body (omega arith)
+few_acts : (old : Names_data) (t : MachineTree) → Fits old t → 0 + acts_in Acts t.body ≤ 256
+few_acts old t fits = fits_acts t.body (first_scene old.roles old.labels) fits.body (omega arith)
 
 abbrev machine : Role → List State → ℕ → Machine_data
 machine role states start = record { role = role; states = states; start = start }
@@ -66,15 +70,15 @@ written_machine old t names r =
     let c = canonical_tree old t names in
     let n = numbers_same old t names r in
     let i : Same w (numbering names c) t.body c.body [] [] 0 = same w (numbering names c) t.body [] [] 0 n (few_acts old t r.fits) (is_fine old t r.fits) (λ x m e b lt. absurd (cc e)) (λ x m e. absurd (cc e)) (tree_has_names old t names r.enough) in
-    machine_parts (role_of (numbering names c) c.role) (role_of (numbering old t) t.role) (states_of (numbering names c) c.body [] 0 ++ done_of (has_end c.body)) (states_of (numbering old t) t.body [] 0 ++ done_of (has_end t.body)) (first_state c.body [] 0 (acts_in c.body)) (first_state t.body [] 0 (acts_in t.body))
+    machine_parts (role_of (numbering names c) c.role) (role_of (numbering old t) t.role) (states_of (numbering names c) c.body [] 0 ++ done_of (has_end Acts c.body)) (states_of (numbering old t) t.body [] 0 ++ done_of (has_end Acts t.body)) (first_of Acts c.body [] 0 (acts_in Acts c.body)) (first_of Acts t.body [] 0 (acts_in Acts t.body))
     (n.roles t.role r.enough.role)
-    (ap (λ z. z ++ done_of (has_end c.body)) i.states ∙ ap (λ z. states_of (numbering old t) t.body [] 0 ++ done_of z) (canon_end w t.body [] 0))
+    (ap (λ z. z ++ done_of (has_end Acts c.body)) i.states ∙ ap (λ z. states_of (numbering old t) t.body [] 0 ++ done_of z) (canon_end w t.body [] 0))
     i.first
 
 written_fits : (old : Names_data) (t : MachineTree) (names : Names_data) → Ready old t names → Fits names (canonical_tree old t names)
 written_fits old t names r =
     let w = writing_of old t names in
-    let recs : Recs (goes_back (machine_of old t).states) t.body false 0 = tree_recs (numbering old t) (machine_of old t) t.body (has_end t.body) refl refl (named old t r.fits) (goes_back (machine_of old t).states) (λ v h. back_is (machine_of old t) v h) in
+    let recs : Recs (goes_back (machine_of old t).states) t.body false 0 = tree_recs (numbering old t) (machine_of old t) t.body (has_end Acts t.body) refl refl (named old t r.fits) (goes_back (machine_of old t).states) (λ v h. back_is (machine_of old t) v h) in
     record {
       role = role_known w t.role r.enough.role;
       body = canon_fits w t.body [] [] false 0 0 0 old.roles names.roles old.labels names.labels (λ s has. role_known w s has) (λ l has. label_known w l has) (tree_has_names old t names r.enough) (omega arith) (omega arith) (λ e. absurd (cc e)) r.fits.body recs (is_fine old t r.fits) (λ x m e b lt. absurd (cc e)) (λ x m e. absurd (cc e));
@@ -89,31 +93,31 @@ below_all : (found : Option ℕ) (n : ℕ) → ((m : ℕ) → found ≡ Some m �
 below_all None n f = omega arith
 below_all (Some m) n f = let lt : m < n + 1 = f m refl in omega arith
 
-pub one_words : (c : Bool) (k : ℕ) (b : Body) → k ≤ 256 → AreWordsIn b → AreWordsIn (wrapped c k b)
+pub one_words : (c : Bool) (k : ℕ) (b : Body Acts) → k ≤ 256 → AreWordsIn b → AreWordsIn (wrapped c k b)
 one_words true k b small h = (state_name_law k small, h)
 one_words false k b small h = h
 
 mutual
-  words : (w : Writing) (t : Body) (bound : Bound) (k : ℕ) → k + acts_in t ≤ 256 → ((s : List ℕ) → HasRole w s → is_role_word (role_as w s) ≡ true) → ((l : List ℕ) → HasLabel w l → is_word (label_as w l) ≡ true) → HasNames w t → Low bound k → AreWordsIn (canon w t bound k)
+  words : (w : Writing) (t : Body Acts) (bound : Bound) (k : ℕ) → k + acts_in Acts t ≤ 256 → ((s : List ℕ) → HasRole w s → is_role_word (role_as w s) ≡ true) → ((l : List ℕ) → HasLabel w l → is_word (label_as w l) ≡ true) → HasNames w t → Low bound k → AreWordsIn (canon w t bound k)
   words w ends bound k few roles labels has low = tt
   words w (again x) bound k few roles labels has low = let le : number_or (bound_to x bound) ≤ k = below_all (bound_to x bound) k (λ m e. low x m e) in state_name_law (number_or (bound_to x bound)) (omega arith)
   words w (binds x b) bound k few roles labels has low = words w b ((x, k) ∷ bound) k few roles labels has (low_rec bound k x low)
-  words w (acts s r l sort b) bound k few roles labels has low =
-      one_words (goes_back w.states k) k (acts (role_as w s) r (label_as w l) (sort_as sort) (canon w b bound (suc k))) (omega arith)
+  words w (acts s (with_mark r) l sort b) bound k few roles labels has low =
+      one_words (goes_back w.states k) k (acts (role_as w s) (with_mark r) (label_as w l) (sort_as sort) (canon w b bound (suc k))) (omega arith)
       (roles s has.0, labels l has.1, words w b bound (suc k) (omega arith) roles labels has.2 (low_up bound k (suc k) (omega arith) low))
-  words w (offers s r (one l sort b)) bound k few roles labels has low =
-      one_words (goes_back w.states k) k (acts (role_as w s) r (label_as w l) (sort_as sort) (canon w b bound (suc k))) (omega arith)
+  words w (offers s (with_mark r) (one l sort b)) bound k few roles labels has low =
+      one_words (goes_back w.states k) k (acts (role_as w s) (with_mark r) (label_as w l) (sort_as sort) (canon w b bound (suc k))) (omega arith)
       (roles s has.0, labels l has.1.0, words w b bound (suc k) (omega arith) roles labels has.1.1 (low_up bound k (suc k) (omega arith) low))
-  words w (offers s r (more l sort b arms)) bound k few roles labels has low =
-      one_words (goes_back w.states k) k (offers (role_as w s) r (canon_arms w (more l sort b arms) bound (suc k))) (omega arith)
+  words w (offers s (with_mark r) (more l sort b arms)) bound k few roles labels has low =
+      one_words (goes_back w.states k) k (offers (role_as w s) (with_mark r) (canon_arms w (more l sort b arms) bound (suc k))) (omega arith)
       (roles s has.0, arm_words w (more l sort b arms) bound (suc k) (omega arith) roles labels has.1 (low_up bound k (suc k) (omega arith) low))
 
-  arm_words : (w : Writing) (arms : Branches) (bound : Bound) (k : ℕ) → k + acts_in_arms arms ≤ 256 → ((s : List ℕ) → HasRole w s → is_role_word (role_as w s) ≡ true) → ((l : List ℕ) → HasLabel w l → is_word (label_as w l) ≡ true) → HasNamesArms w arms → Low bound k → AreWordsInArms (canon_arms w arms bound k)
+  arm_words : (w : Writing) (arms : Branches Acts) (bound : Bound) (k : ℕ) → k + acts_in_arms Acts arms ≤ 256 → ((s : List ℕ) → HasRole w s → is_role_word (role_as w s) ≡ true) → ((l : List ℕ) → HasLabel w l → is_word (label_as w l) ≡ true) → HasNamesArms w arms → Low bound k → AreWordsInArms (canon_arms w arms bound k)
   arm_words w (one l sort b) bound k few roles labels has low = (labels l has.0, words w b bound k few roles labels has.1 low)
   arm_words w (more l sort b arms) bound k few roles labels has low = (
     labels l has.0,
     words w b bound k (omega arith) roles labels has.1 low,
-    arm_words w arms bound (k + acts_in b) (omega arith) roles labels has.2 (low_up bound k (k + acts_in b) (omega arith) low),
+    arm_words w arms bound (k + acts_in Acts b) (omega arith) roles labels has.2 (low_up bound k (k + acts_in Acts b) (omega arith) low),
   )
 
 written_words : (old : Names_data) (t : MachineTree) (names : Names_data) → Ready old t names → AreWords (canonical_tree old t names)
@@ -172,13 +176,13 @@ printed_text_is_read_again names machine text shaped sound enough c =
 
 -- at any place
 pub printed_text_is_read_anywhere : (bytes : List ℕ) (at : ℕ) (names : Names_data) (machine : Machine_data) (text behind : List ℕ) → IsMachineTextShaped machine → IsSound names → AreEnoughFor names machine → (c : IsCanonicalMachineText names machine text) → drop at bytes ≡ text ++ behind
-    → (ends_by_name c.tree.body ≡ true → ends_a_name (next_lexeme bytes (at + length text)).sign ≡ true) → SpellsMachine bytes at names names machine (next_lexeme bytes (at + length text)).from
+    → (ends_by_name Acts c.tree.body ≡ true → ends_a_name Acts (next_lexeme bytes (at + length text)).sign ≡ true) → SpellsMachine bytes at names names machine (next_lexeme bytes (at + length text)).from
 printed_text_is_read_anywhere bytes at names machine text behind shaped sound enough c parts settled =
     let w = readable names machine c.tree shaped sound enough c.canonical in
     let e : text ≡ machine_text c.tree = c.is in
     subst (λ (z : List ℕ). SpellsMachine bytes at names names machine (next_lexeme bytes (at + length z)).from) (sym e)
     (spells_again bytes at (next_lexeme bytes (at + length (machine_text c.tree))).from names machine c.tree w
-    (tree_spelt bytes at names c.tree behind w.words w.fits (subst (λ (z : List ℕ). drop at bytes ≡ z ++ behind) e parts) (subst (λ (z : List ℕ). ends_by_name c.tree.body ≡ true → ends_a_name (next_lexeme bytes (at + length z)).sign ≡ true) e settled)))
+    (tree_spelt bytes at names c.tree behind w.words w.fits (subst (λ (z : List ℕ). drop at bytes ≡ z ++ behind) e parts) (subst (λ (z : List ℕ). ends_by_name Acts c.tree.body ≡ true → ends_a_name Acts (next_lexeme bytes (at + length z)).sign ≡ true) e settled)))
 
 -- ---- printed again
 

@@ -8,30 +8,34 @@ use Rattle.rs_model.specs.declared.machines.State.{State}
 use Rattle.rs_model.specs.declared.machines.State.TheVariants.{Done}
 use Rattle.rs_model.specs.declared.graph.Role.{Role}
 use Rattle.rs_text.specs.Names.{Bound}
-use Rattle.rs_machines.specs.Trees.{Body, ends, again, binds, acts, offers, Branches, one, more, MachineTree}
-use Rattle.rs_machines.specs.Machines.{acts_in, has_end, state_of, role_of, first_state, arm_of, arms_of, act_of, Numbering, states_of, states_of_arms, numbering, machine_of, done_of}
+use Rattle.rs_machines.specs.Trees.{MachineTree}
+use Rattle.rs_machines.specs.Machines.{state_of, act_of, states_of, states_of_arms, numbering, machine_of, done_of}
 use Rattle.rs_machines.specs.Canonical.{IsMachineTextShaped}
-use Rattle.rs_machines.specs.declared.marks.Mark.{Mark}
+use Rattle.rs_bodies.specs.declared.dialects.Mark.{Mark}
 use Rattle.rs_machines.proofs.Acts.{is_act, acts_are, no_act}
 use Rattle.rs_text.proofs.Basics.{some_is, first_true, second_true, two_true}
+use Rattle.rs_bodies.specs.declared.dialects.Dialect.TheVariants.{Acts}
+use Rattle.rs_bodies.specs.Trees.{Body, ends, again, binds, acts, offers, Branches, one, more}
+use Rattle.rs_bodies.specs.Graph.{acts_in, has_end, role_of, first_of, arm_of, arms_of, Numbering}
+use Rattle.rs_bodies.specs.Dialects.{with_mark}
 
 -- ---- the end stands behind all acts
 
 mutual
-  pub all_acts : (m : Numbering) (b : Body) (bound : Bound) (k : ℕ) → list_all is_act (states_of m b bound k) ≡ true
+  pub all_acts : (m : Numbering) (b : Body Acts) (bound : Bound) (k : ℕ) → list_all is_act (states_of m b bound k) ≡ true
   all_acts m ends bound k = refl
   all_acts m (again x) bound k = refl
   all_acts m (binds x b) bound k = all_acts m b ((x, k) ∷ bound) k
-  all_acts m (acts s r l sort b) bound k =
-      let arms : List Arm = arm_of m l sort (first_state b bound (suc k) m.last) ∷ [] in
+  all_acts m (acts s (with_mark r) l sort b) bound k =
+      let arms : List Arm = arm_of m l sort (first_of Acts b bound (suc k) m.last) ∷ [] in
       two_true (is_act (act_of m s r arms)) (list_all is_act (states_of m b bound (suc k))) (acts_are r (role_of m s) arms) (all_acts m b bound (suc k))
-  all_acts m (offers s r arms) bound k =
-      let ours : List Arm = arms_of m arms bound (suc k) in
+  all_acts m (offers s (with_mark r) arms) bound k =
+      let ours : List Arm = arms_of Acts m arms bound (suc k) in
       two_true (is_act (act_of m s r ours)) (list_all is_act (states_of_arms m arms bound (suc k))) (acts_are r (role_of m s) ours) (all_arms_act m arms bound (suc k))
 
-  pub all_arms_act : (m : Numbering) (arms : Branches) (bound : Bound) (k : ℕ) → list_all is_act (states_of_arms m arms bound k) ≡ true
+  pub all_arms_act : (m : Numbering) (arms : Branches Acts) (bound : Bound) (k : ℕ) → list_all is_act (states_of_arms m arms bound k) ≡ true
   all_arms_act m (one l sort b) bound k = all_acts m b bound k
-  all_arms_act m (more l sort b arms) bound k = list_all-append is_act (states_of m b bound k) (states_of_arms m arms bound (k + acts_in b)) ∙ two_true (list_all is_act (states_of m b bound k)) (list_all is_act (states_of_arms m arms bound (k + acts_in b))) (all_acts m b bound k) (all_arms_act m arms bound (k + acts_in b))
+  all_arms_act m (more l sort b arms) bound k = list_all-append is_act (states_of m b bound k) (states_of_arms m arms bound (k + acts_in Acts b)) ∙ two_true (list_all is_act (states_of m b bound k)) (list_all is_act (states_of_arms m arms bound (k + acts_in Acts b))) (all_acts m b bound k) (all_arms_act m arms bound (k + acts_in Acts b))
 
 end_behind : (xs : List State) (c : Bool) (n : ℕ) → list_all is_act xs ≡ true → slice_get (xs ++ done_of c) n ≡ Some Done → length xs ≤ n
 end_behind [] c n h e = omega arith
@@ -51,8 +55,8 @@ EndsLast p = (n k : ℕ) (s : Role) (r : Mark) (arms : List Arm) → slice_get p
 
 tree_ends_last : (old : Names_data) (t : MachineTree) → EndsLast (machine_of old t)
 tree_ends_last old t n k s r arms e f =
-    let a = end_behind (states_of (numbering old t) t.body [] 0) (has_end t.body) n (all_acts (numbering old t) t.body [] 0) e in
-    let b = act_before (states_of (numbering old t) t.body [] 0) (has_end t.body) k s r arms f in
+    let a = end_behind (states_of (numbering old t) t.body [] 0) (has_end Acts t.body) n (all_acts (numbering old t) t.body [] 0) e in
+    let b = act_before (states_of (numbering old t) t.body [] 0) (has_end Acts t.body) k s r arms f in
     omega arith
 
 pub shaped_ends_last : (p : Machine_data) → IsMachineTextShaped p → EndsLast p

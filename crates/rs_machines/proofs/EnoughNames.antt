@@ -7,19 +7,23 @@ use Rattle.rs_model.specs.declared.graph.Arm.{Arm}
 use Rattle.rs_model.specs.declared.machines.State.{State}
 use Rattle.rs_model.specs.declared.machines.State.TheVariants.{Done, Puts, Takes}
 use Rattle.rs_model.specs.declared.graph.Role.{Role}
-use Rattle.rs_machines.specs.declared.marks.Mark.{Mark}
-use Rattle.rs_machines.specs.declared.marks.Mark.TheVariants as mark
+use Rattle.rs_bodies.specs.declared.dialects.Mark.{Mark}
+use Rattle.rs_bodies.specs.declared.dialects.Mark.TheVariants as mark
 use Rattle.rs_text.specs.Names.{Bound, grown, is_among, place_of}
 use Rattle.rs_text.proofs.Gaps.{true_or_false}
 use Rattle.rs_text.proofs.Naming.{grown_stays, place_of_new, placed_by, absent_by}
 use Rattle.rs_text.proofs.Numbers.{place_below}
 use Rattle.rs_machines.specs.Canonical.{IsMachineTextShaped}
 use Rattle.rs_machines.specs.Enough.{AreEnoughFor}
-use Rattle.rs_machines.specs.Machines.{state_of, role_of, first_state, arm_of, act_of, Numbering, numbering, label_of, labels_of, labels_of_arms, arms_of, states_of, states_of_arms, done_of, has_end, acts_in, names_of, machine_of}
+use Rattle.rs_machines.specs.Machines.{state_of, act_of, numbering, states_of, states_of_arms, done_of, names_of, machine_of}
 use Rattle.rs_machines.specs.Spells.{Fits, SpellsMachine}
 use Rattle.rs_machines.proofs.SpeltShapes.{Good, tree_good, peer_known}
-use Rattle.rs_machines.specs.Trees.{Body, ends, again, binds, acts, offers, Branches, one, more, MachineTree}
+use Rattle.rs_machines.specs.Trees.{MachineTree}
 use Rattle.rs_text.proofs.Basics.{both, test_below, one_of, below_test, two_true}
+use Rattle.rs_bodies.specs.declared.dialects.Dialect.TheVariants.{Acts}
+use Rattle.rs_bodies.specs.Graph.{role_of, first_of, arm_of, Numbering, label_of, labels_of, labels_of_arms, arms_of, has_end, acts_in}
+use Rattle.rs_bodies.specs.Trees.{Body, ends, again, binds, acts, offers, Branches, one, more}
+use Rattle.rs_bodies.specs.Dialects.{with_mark}
 
 -- a label has a number below the count of the labels
 abbrev is_numbered : Numbering → List ℕ → Bool
@@ -45,31 +49,31 @@ front_labels m xs ys h = both (list_all (is_numbered m) xs) (list_all (is_number
 joined_states : (m : Numbering) (xs ys : List State) → list_all (is_state_numbered m) xs ≡ true → list_all (is_state_numbered m) ys ≡ true → list_all (is_state_numbered m) (xs ++ ys) ≡ true
 joined_states m xs ys h k = list_all-append (is_state_numbered m) xs ys ∙ two_true (list_all (is_state_numbered m) xs) (list_all (is_state_numbered m) ys) h k
 
-arms_numbered : (arms : Branches) (m : Numbering) (bound : Bound) (k : ℕ) → list_all (is_numbered m) (labels_of_arms arms) ≡ true → list_all (is_arm_numbered m) (arms_of m arms bound k) ≡ true
-arms_numbered (one l sort body) m bound k h = two_true (is_numbered m l) true (both (is_numbered m l) (list_all (is_numbered m) (labels_of body)) h).0 refl
+arms_numbered : (arms : Branches Acts) (m : Numbering) (bound : Bound) (k : ℕ) → list_all (is_numbered m) (labels_of_arms Acts arms) ≡ true → list_all (is_arm_numbered m) (arms_of Acts m arms bound k) ≡ true
+arms_numbered (one l sort body) m bound k h = two_true (is_numbered m l) true (both (is_numbered m l) (list_all (is_numbered m) (labels_of Acts body)) h).0 refl
 arms_numbered (more l sort body arms) m bound k h =
-    let p = both (is_numbered m l) (list_all (is_numbered m) (labels_of body ++ labels_of_arms arms)) h in
-    let q = front_labels m (labels_of body) (labels_of_arms arms) p.1 in
-    two_true (is_numbered m l) (list_all (is_arm_numbered m) (arms_of m arms bound (k + acts_in body))) p.0 (arms_numbered arms m bound (k + acts_in body) q.1)
+    let p = both (is_numbered m l) (list_all (is_numbered m) (labels_of Acts body ++ labels_of_arms Acts arms)) h in
+    let q = front_labels m (labels_of Acts body) (labels_of_arms Acts arms) p.1 in
+    two_true (is_numbered m l) (list_all (is_arm_numbered m) (arms_of Acts m arms bound (k + acts_in Acts body))) p.0 (arms_numbered arms m bound (k + acts_in Acts body) q.1)
 
 mutual
-  states_numbered : (b : Body) (m : Numbering) (bound : Bound) (k : ℕ) → list_all (is_numbered m) (labels_of b) ≡ true → list_all (is_state_numbered m) (states_of m b bound k) ≡ true
+  states_numbered : (b : Body Acts) (m : Numbering) (bound : Bound) (k : ℕ) → list_all (is_numbered m) (labels_of Acts b) ≡ true → list_all (is_state_numbered m) (states_of m b bound k) ≡ true
   states_numbered ends m bound k h = refl
   states_numbered (again name) m bound k h = refl
   states_numbered (binds name body) m bound k h = states_numbered body m ((name, k) ∷ bound) k h
-  states_numbered (acts s r l sort body) m bound k h =
-      let p = both (is_numbered m l) (list_all (is_numbered m) (labels_of body)) h in
-      let arms : List Arm = arm_of m l sort (first_state body bound (suc k) m.last) ∷ [] in
+  states_numbered (acts s (with_mark r) l sort body) m bound k h =
+      let p = both (is_numbered m l) (list_all (is_numbered m) (labels_of Acts body)) h in
+      let arms : List Arm = arm_of m l sort (first_of Acts body bound (suc k) m.last) ∷ [] in
       two_true (is_state_numbered m (act_of m s r arms)) (list_all (is_state_numbered m) (states_of m body bound (suc k))) (numbered_as m r (role_of m s) arms ∙ two_true (is_numbered m l) true p.0 refl) (states_numbered body m bound (suc k) p.1)
-  states_numbered (offers s r arms) m bound k h =
-      two_true (is_state_numbered m (act_of m s r (arms_of m arms bound (suc k)))) (list_all (is_state_numbered m) (states_of_arms m arms bound (suc k))) (numbered_as m r (role_of m s) (arms_of m arms bound (suc k)) ∙ arms_numbered arms m bound (suc k) h) (behind_numbered arms m bound (suc k) h)
+  states_numbered (offers s (with_mark r) arms) m bound k h =
+      two_true (is_state_numbered m (act_of m s r (arms_of Acts m arms bound (suc k)))) (list_all (is_state_numbered m) (states_of_arms m arms bound (suc k))) (numbered_as m r (role_of m s) (arms_of Acts m arms bound (suc k)) ∙ arms_numbered arms m bound (suc k) h) (behind_numbered arms m bound (suc k) h)
 
-  behind_numbered : (arms : Branches) (m : Numbering) (bound : Bound) (k : ℕ) → list_all (is_numbered m) (labels_of_arms arms) ≡ true → list_all (is_state_numbered m) (states_of_arms m arms bound k) ≡ true
-  behind_numbered (one l sort body) m bound k h = states_numbered body m bound k (both (is_numbered m l) (list_all (is_numbered m) (labels_of body)) h).1
+  behind_numbered : (arms : Branches Acts) (m : Numbering) (bound : Bound) (k : ℕ) → list_all (is_numbered m) (labels_of_arms Acts arms) ≡ true → list_all (is_state_numbered m) (states_of_arms m arms bound k) ≡ true
+  behind_numbered (one l sort body) m bound k h = states_numbered body m bound k (both (is_numbered m l) (list_all (is_numbered m) (labels_of Acts body)) h).1
   behind_numbered (more l sort body arms) m bound k h =
-      let p = both (is_numbered m l) (list_all (is_numbered m) (labels_of body ++ labels_of_arms arms)) h in
-      let q = front_labels m (labels_of body) (labels_of_arms arms) p.1 in
-      joined_states m (states_of m body bound k) (states_of_arms m arms bound (k + acts_in body)) (states_numbered body m bound k q.0) (behind_numbered arms m bound (k + acts_in body) q.1)
+      let p = both (is_numbered m l) (list_all (is_numbered m) (labels_of Acts body ++ labels_of_arms Acts arms)) h in
+      let q = front_labels m (labels_of Acts body) (labels_of_arms Acts arms) p.1 in
+      joined_states m (states_of m body bound k) (states_of_arms m arms bound (k + acts_in Acts body)) (states_numbered body m bound k q.0) (behind_numbered arms m bound (k + acts_in Acts body) q.1)
 
 -- ---- the labels of a text
 
@@ -100,11 +104,11 @@ tree_enough old t fits =
     let m = numbering old t in
     let states = states_of m t.body [] 0 in
     let good : Good (machine_of old t) (length old.roles) = tree_good old t fits in
-    let all : list_all (is_state_numbered m) (states ++ done_of (has_end t.body)) ≡ true = joined_states m states (done_of (has_end t.body)) (states_numbered t.body m [] 0 (numbered_in (labels_of t.body) old.labels m refl)) (end_numbered (has_end t.body) m) in
+    let all : list_all (is_state_numbered m) (states ++ done_of (has_end Acts t.body)) ≡ true = joined_states m states (done_of (has_end Acts t.body)) (states_numbered t.body m [] 0 (numbered_in (labels_of Acts t.body) old.labels m refl)) (end_numbered (has_end Acts t.body) m) in
     record {
       role = good.role;
       peers = λ n y peer arms e. peer_known (machine_of old t) (length old.roles) n y peer arms good e;
-      labels = λ n place y peer arms arm e stands. test_below arm.label.0 (length m.names.labels) (one_of (is_arm_numbered m) arms place arm (sym (numbered_as m y peer arms) ∙ one_of (is_state_numbered m) (states ++ done_of (has_end t.body)) n (state_of y peer arms) all e) stands);
+      labels = λ n place y peer arms arm e stands. test_below arm.label.0 (length m.names.labels) (one_of (is_arm_numbered m) arms place arm (sym (numbered_as m y peer arms) ∙ one_of (is_state_numbered m) (states ++ done_of (has_end Acts t.body)) n (state_of y peer arms) all e) stands);
     }
 
 pub spelt_enough : (bytes : List ℕ) (at : ℕ) (old new : Names_data) (machine : Machine_data) (until : ℕ) → SpellsMachine bytes at old new machine until → AreEnoughFor new machine

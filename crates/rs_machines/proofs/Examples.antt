@@ -7,8 +7,13 @@ use Rattle.rs_text.specs.Faults.{kind_number}
 use Rattle.rs_text.specs.declared.faults.TextKind.{TextKind}
 use Rattle.rs_text.specs.declared.faults.TextKind.TheVariants as kind
 use Rattle.rs_text.specs.declared.faults.Wanted.TheVariants as wanted
-use Rattle.rs_machines.specs.Cuts.{at_begin}
 use Rattle.rs_machines.specs.Faults.{FirstFault}
+use Rattle.rs_bodies.specs.Cuts.{in_opening}
+use Rattle.rs_bodies.specs.Cuts.{at_machine}
+use Rattle.rs_bodies.specs.Openings.{Opening, of_role, opening_signs}
+use Rattle.rs_bodies.specs.Trees.{Body, body_signs}
+use Rattle.rs_bodies.specs.Spells.{Tree, tree_signs}
+use Rattle.rs_bodies.specs.declared.dialects.Dialect.TheVariants.{Acts}
 use Rattle.rs_machines.specs.Trees.{machine_signs, MachineTree}
 use Rattle.rs_machines.specs.Machines.{machine_of, names_of}
 use Rattle.rs_machines.specs.Examples.{text, old, tree}
@@ -71,8 +76,11 @@ one_least : (k : TextKind) → 1 ≤ kind_number k
 one_least (kind.Expected w) = omega arith
 one_least _ = omega arith
 
-no_begin : (tree : MachineTree) (rest : List Sign) → machine_signs tree ≡ finish ∷ rest → ⊥
-no_begin tree rest h = cc
+opening_no_end : (o : Opening Acts) (b : Body Acts) (rest : List Sign) → opening_signs Acts o ++ body_signs Acts b ≡ finish ∷ rest → ⊥
+opening_no_end (of_role r) b rest h = cc
+
+no_begin : (tree : Tree Acts) (rest : List Sign) → tree_signs Acts tree ≡ finish ∷ rest → ⊥
+no_begin tree rest h = opening_no_end tree.opening tree.body rest h
 
 pub lacks : (old : Names_data) → FirstFault old [] 0 (kind.Expected wanted.PartOrEnd) 0
 lacks old = record {
@@ -81,7 +89,7 @@ lacks old = record {
   others = [];
   lexed = (refl, (λ _. refl), λ k. absurd (cc k));
   stands = refl;
-  fault = inl (wanted.PartOrEnd, refl, record { whole = tt; place = at_begin; stands = refl; within = tt; wants = refl; stops = λ b. no_begin b.0 b.1 b.2 });
+  fault = inl (wanted.PartOrEnd, refl, record { whole = tt; place = in_opening at_machine; stands = refl; within = tt; wants = refl; stops = λ b. no_begin b.0 b.1 b.2 });
   clear = tt;
   least = λ k f. one_least k;
 }

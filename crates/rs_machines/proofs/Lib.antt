@@ -1,20 +1,3 @@
-pub mod Sounding
-pub mod FaultRuns
-pub mod FaultPlaces
-pub mod FaultCuts
-pub mod FaultSteps
-pub mod Labels
-pub mod FirstFaults
-pub mod OneFault
-pub mod SpeltSteps
-pub mod SpeltBodies
-pub mod SpeltTrees
-pub mod SpeltCuts
-pub mod SpeltRuns
-pub mod Answers
-pub mod SpeltLaws
-pub mod Placing
-pub mod Refusals
 pub mod Examples
 pub mod TreeLabels
 pub mod NamedStates
@@ -38,3 +21,4 @@ pub mod ShapeGoes
 pub mod ShapeGrown
 pub mod ShapeWhole
 pub mod CanonOlder
+pub mod Spelt

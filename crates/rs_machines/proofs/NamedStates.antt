@@ -9,15 +9,20 @@ use Rattle.rs_model.specs.declared.machines.State.{State}
 use Rattle.rs_text.specs.Names.{place_of, is_among, Bound}
 use Rattle.rs_text.proofs.Gaps.{true_or_false}
 use Rattle.rs_text.proofs.Naming.{grown_among}
-use Rattle.rs_machines.specs.declared.marks.Mark.{Mark}
-use Rattle.rs_machines.specs.declared.marks.Mark.TheVariants as mark
-use Rattle.rs_machines.specs.Machines.{labels_of, labels_of_arms, acts_in, has_end, Numbering, role_of, first_state, arm_of, arms_of, state_of, states_of, states_of_arms, numbering, done_of, machine_of, names_of}
+use Rattle.rs_bodies.specs.declared.dialects.Mark.{Mark}
+use Rattle.rs_bodies.specs.declared.dialects.Mark.TheVariants as mark
+use Rattle.rs_machines.specs.Machines.{state_of, states_of, states_of_arms, numbering, done_of, machine_of, names_of}
 use Rattle.rs_machines.specs.Named.{ArmHasName, StateHasNames, HasNames}
-use Rattle.rs_machines.specs.Scenes.{Scene, with_label, in_act, in_braces, in_rec, behind, first_scene}
-use Rattle.rs_machines.specs.Spells.{has_room_for, body_fits, arms_fit, Fits, SpellsMachine}
-use Rattle.rs_machines.specs.Trees.{Body, ends, again, binds, acts, offers, Branches, one, more, MachineTree}
+use Rattle.rs_machines.specs.Spells.{Fits, SpellsMachine}
+use Rattle.rs_machines.specs.Trees.{MachineTree}
 use Rattle.rs_machines.proofs.SpeltShapes.{and_split, or_right, known_by}
 use Rattle.rs_text.proofs.Basics.{or_first}
+use Rattle.rs_bodies.specs.declared.dialects.Dialect.TheVariants.{Acts}
+use Rattle.rs_bodies.specs.Graph.{labels_of, labels_of_arms, acts_in, has_end, Numbering, role_of, first_of, arm_of, arms_of}
+use Rattle.rs_bodies.specs.Scenes.{Scene, with_label, in_act, in_braces, in_rec, behind, first_scene}
+use Rattle.rs_bodies.specs.Fits.{has_room_for, body_fits, arms_fit}
+use Rattle.rs_bodies.specs.Trees.{Body, ends, again, binds, acts, offers, Branches, one, more}
+use Rattle.rs_bodies.specs.Dialects.{with_mark}
 
 -- all of these names are among those
 abbrev Has : List (List ℕ) → List (List ℕ) → Type 0
@@ -63,11 +68,11 @@ all_append : (xs ys : List State) (names : Names_data) → EachState names xs �
 all_append [] ys names h k = k
 all_append (x ∷ xs) ys names h k = (h.0, all_append xs ys names h.1 k)
 
-named_arms : (m : Numbering) (arms : Branches) (bound : Bound) (count : ℕ) → Has (labels_of_arms arms) m.names.labels → EachArm m.names (arms_of m arms bound count)
-named_arms m (one l s body) bound count h = (known_by (place_of l m.names.labels) l m.names.labels refl (has_first l (labels_of body) m.names.labels h), tt)
+named_arms : (m : Numbering) (arms : Branches Acts) (bound : Bound) (count : ℕ) → Has (labels_of_arms Acts arms) m.names.labels → EachArm m.names (arms_of Acts m arms bound count)
+named_arms m (one l s body) bound count h = (known_by (place_of l m.names.labels) l m.names.labels refl (has_first l (labels_of Acts body) m.names.labels h), tt)
 named_arms m (more l s body arms) bound count h = (
-  known_by (place_of l m.names.labels) l m.names.labels refl (has_first l (labels_of body ++ labels_of_arms arms) m.names.labels h),
-  named_arms m arms bound (count + acts_in body) (λ name e. has_later l (labels_of body ++ labels_of_arms arms) m.names.labels h name (among_right (labels_of body) name (labels_of_arms arms) e)),
+  known_by (place_of l m.names.labels) l m.names.labels refl (has_first l (labels_of Acts body ++ labels_of_arms Acts arms) m.names.labels h),
+  named_arms m arms bound (count + acts_in Acts body) (λ name e. has_later l (labels_of Acts body ++ labels_of_arms Acts arms) m.names.labels h name (among_right (labels_of Acts body) name (labels_of_arms Acts arms) e)),
 )
 
 marked : (y : Mark) (names : Names_data) (peer : Role) (arms : List Arm) → peer.0 < length names.roles → EachArm names arms → StateHasNames names (state_of y peer arms)
@@ -75,36 +80,36 @@ marked mark.Puts names peer arms h k = (h, all_arms arms names k)
 marked mark.Takes names peer arms h k = (h, all_arms arms names k)
 
 mutual
-  named_states : (b : Body) (m : Numbering) (s : Scene) → s.roles ≡ m.names.roles → body_fits b s ≡ true → Has (labels_of b) m.names.labels → EachState m.names (states_of m b s.bound s.acts)
+  named_states : (b : Body Acts) (m : Numbering) (s : Scene) → s.roles ≡ m.names.roles → body_fits Acts b s ≡ true → Has (labels_of Acts b) m.names.labels → EachState m.names (states_of m b s.bound s.acts)
   named_states ends m s r fits h = tt
   named_states (again name) m s r fits h = tt
-  named_states (binds name body) m s r fits h = named_states body m (in_rec name s) r (and_split (nat_lt s.depth 200) (body_fits body (in_rec name s)) fits).1 h
-  named_states (acts p y l sort body) m s r fits h =
-      let f = and_split (is_among p s.roles && nat_lt s.acts 256 && has_room_for l s) (body_fits body (with_label l (in_act s))) fits in
+  named_states (binds name body) m s r fits h = named_states body m (in_rec name s) r (and_split (nat_lt s.depth 200) (body_fits Acts body (in_rec name s)) fits).1 h
+  named_states (acts p (with_mark y) l sort body) m s r fits h =
+      let f = and_split (is_among p s.roles && nat_lt s.acts 256 && has_room_for l s) (body_fits Acts body (with_label l (in_act s))) fits in
       let g = and_split (is_among p s.roles && nat_lt s.acts 256) (has_room_for l s) f.0 in
       let known = and_split (is_among p s.roles) (nat_lt s.acts 256) g.0 in (
-        marked y m.names (role_of m p) (arm_of m l sort (first_state body s.bound (suc s.acts) m.last) ∷ [])
-            (known_by (place_of p m.names.roles) p m.names.roles refl (ap (λ z. is_among p z) (sym r) ∙ known.0)) (known_by (place_of l m.names.labels) l m.names.labels refl (has_first l (labels_of body) m.names.labels h), tt),
-        named_states body m (with_label l (in_act s)) r f.1 (has_later l (labels_of body) m.names.labels h),
+        marked y m.names (role_of m p) (arm_of m l sort (first_of Acts body s.bound (suc s.acts) m.last) ∷ [])
+            (known_by (place_of p m.names.roles) p m.names.roles refl (ap (λ z. is_among p z) (sym r) ∙ known.0)) (known_by (place_of l m.names.labels) l m.names.labels refl (has_first l (labels_of Acts body) m.names.labels h), tt),
+        named_states body m (with_label l (in_act s)) r f.1 (has_later l (labels_of Acts body) m.names.labels h),
       )
-  named_states (offers p y arms) m s r fits h =
-      let f = and_split (is_among p s.roles && nat_lt s.acts 256 && nat_lt s.depth 200) (arms_fit arms (in_braces s)) fits in
+  named_states (offers p (with_mark y) arms) m s r fits h =
+      let f = and_split (is_among p s.roles && nat_lt s.acts 256 && nat_lt s.depth 200) (arms_fit Acts arms (in_braces s)) fits in
       let g = and_split (is_among p s.roles && nat_lt s.acts 256) (nat_lt s.depth 200) f.0 in
       let known = and_split (is_among p s.roles) (nat_lt s.acts 256) g.0 in (
-        marked y m.names (role_of m p) (arms_of m arms s.bound (suc s.acts))
+        marked y m.names (role_of m p) (arms_of Acts m arms s.bound (suc s.acts))
             (known_by (place_of p m.names.roles) p m.names.roles refl (ap (λ z. is_among p z) (sym r) ∙ known.0)) (named_arms m arms s.bound (suc s.acts) h),
         named_arm_states arms m (in_braces s) r f.1 h,
       )
 
-  named_arm_states : (arms : Branches) (m : Numbering) (s : Scene) → s.roles ≡ m.names.roles → arms_fit arms s ≡ true → Has (labels_of_arms arms) m.names.labels → EachState m.names (states_of_arms m arms s.bound s.acts)
-  named_arm_states (one l sort body) m s r fits h = named_states body m (with_label l s) r (and_split (has_room_for l s) (body_fits body (with_label l s)) fits).1 (has_later l (labels_of body) m.names.labels h)
+  named_arm_states : (arms : Branches Acts) (m : Numbering) (s : Scene) → s.roles ≡ m.names.roles → arms_fit Acts arms s ≡ true → Has (labels_of_arms Acts arms) m.names.labels → EachState m.names (states_of_arms m arms s.bound s.acts)
+  named_arm_states (one l sort body) m s r fits h = named_states body m (with_label l s) r (and_split (has_room_for l s) (body_fits Acts body (with_label l s)) fits).1 (has_later l (labels_of Acts body) m.names.labels h)
   named_arm_states (more l sort body arms) m s r fits h =
-      let f = and_split (has_room_for l s && body_fits body (with_label l s)) (arms_fit arms (behind body (with_label l s))) fits in
-      let g = and_split (has_room_for l s) (body_fits body (with_label l s)) f.0 in
-      let k : Has (labels_of body ++ labels_of_arms arms) m.names.labels = has_later l (labels_of body ++ labels_of_arms arms) m.names.labels h in
-      all_append (states_of m body s.bound s.acts) (states_of_arms m arms s.bound (s.acts + acts_in body)) m.names
-      (named_states body m (with_label l s) r g.1 (λ name e. k name (among_left (labels_of body) name (labels_of_arms arms) e)))
-      (named_arm_states arms m (behind body (with_label l s)) r f.1 (λ name e. k name (among_right (labels_of body) name (labels_of_arms arms) e)))
+      let f = and_split (has_room_for l s && body_fits Acts body (with_label l s)) (arms_fit Acts arms (behind Acts body (with_label l s))) fits in
+      let g = and_split (has_room_for l s) (body_fits Acts body (with_label l s)) f.0 in
+      let k : Has (labels_of Acts body ++ labels_of_arms Acts arms) m.names.labels = has_later l (labels_of Acts body ++ labels_of_arms Acts arms) m.names.labels h in
+      all_append (states_of m body s.bound s.acts) (states_of_arms m arms s.bound (s.acts + acts_in Acts body)) m.names
+      (named_states body m (with_label l s) r g.1 (λ name e. k name (among_left (labels_of Acts body) name (labels_of_arms Acts arms) e)))
+      (named_arm_states arms m (behind Acts body (with_label l s)) r f.1 (λ name e. k name (among_right (labels_of Acts body) name (labels_of_arms Acts arms) e)))
 
 named_done : (c : Bool) (names : Names_data) → EachState names (done_of c)
 named_done true names = (tt, tt)
@@ -113,9 +118,9 @@ named_done false names = tt
 tree_named : (old : Names_data) (t : MachineTree) → Fits old t → HasNames (names_of old t) (machine_of old t)
 tree_named old t fits = record {
   role = known_by (place_of t.role old.roles) t.role old.roles refl fits.role;
-  states = all_states (states_of (numbering old t) t.body [] 0 ++ done_of (has_end t.body)) (names_of old t) (all_append (states_of (numbering old t) t.body [] 0) (done_of (has_end t.body)) (names_of old t)
-      (named_states t.body (numbering old t) (first_scene old) refl fits.body (λ name e. grown_among (labels_of t.body) old.labels name ∙ or_right (is_among name old.labels) (is_among name (labels_of t.body)) e))
-      (named_done (has_end t.body) (names_of old t)));
+  states = all_states (states_of (numbering old t) t.body [] 0 ++ done_of (has_end Acts t.body)) (names_of old t) (all_append (states_of (numbering old t) t.body [] 0) (done_of (has_end Acts t.body)) (names_of old t)
+      (named_states t.body (numbering old t) (first_scene old.roles old.labels) refl fits.body (λ name e. grown_among (labels_of Acts t.body) old.labels name ∙ or_right (is_among name old.labels) (is_among name (labels_of Acts t.body)) e))
+      (named_done (has_end Acts t.body) (names_of old t)));
 }
 
 pub has_names : (bytes : List ℕ) (at : ℕ) (old new : Names_data) (machine : Machine_data) (until : ℕ) → SpellsMachine bytes at old new machine until → HasNames new machine

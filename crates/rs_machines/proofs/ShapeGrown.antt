@@ -17,12 +17,10 @@ use Rattle.rs_text.proofs.Naming.{grown_append, among}
 use Rattle.rs_text.specs.Arms.{sort_or_unit, shown_sort}
 use Rattle.rs_text.specs.Names.{Bound, bound_to, number_or, grown, is_among, place_of}
 use Rattle.rs_text.specs.Words.{is_role_word}
-use Rattle.rs_machines.specs.declared.marks.Mark.{Mark}
-use Rattle.rs_machines.specs.declared.marks.Mark.TheVariants as mark
+use Rattle.rs_bodies.specs.declared.dialects.Mark.{Mark}
+use Rattle.rs_bodies.specs.declared.dialects.Mark.TheVariants as mark
 use Rattle.rs_machines.specs.declared.shapes.Walk.{Walk}
-use Rattle.rs_machines.specs.Trees.{Body, ends, again, Branches, one, more}
-use Rattle.rs_machines.specs.Machines.{state_of, labels_of, labels_of_arms, acts_in, acts_in_arms, has_end, has_end_arms, Numbering, role_of, first_state, arm_of, arms_of, states_of, states_of_arms}
-use Rattle.rs_machines.specs.Spells.{is_guarded, has_room_for, body_fits, arms_fit}
+use Rattle.rs_machines.specs.Machines.{state_of, states_of, states_of_arms}
 use Rattle.rs_machines.specs.Canonical.{name_of_state}
 use Rattle.rs_machines.specs.Writable.{AreWordsIn, AreWordsInArms}
 use Rattle.rs_machines.specs.Shapes.{is_small_arm, leads_to, act_leads, leads_from, last_of, met, or_none, arms_met, closed, deeper, are_more, nested, is_fit, one_more, act_met, state_met, visited, to_end}
@@ -34,6 +32,10 @@ use Rattle.rs_machines.proofs.StateNames.{state_name_law}
 use Rattle.rs_text.proofs.PlainNames.{plain_name, plain_role, plain_label}
 use Rattle.rs_text.proofs.Basics.{some_is, two_true, both, or_true, or_false, or_assoc, or_first, any_stands, stands_any, drop_get}
 use Rattle.rs_text.proofs.Arms.{sort_same}
+use Rattle.rs_bodies.specs.declared.dialects.Dialect.TheVariants.{Acts}
+use Rattle.rs_bodies.specs.Trees.{Body, ends, again, Branches, one, more}
+use Rattle.rs_bodies.specs.Graph.{labels_of, labels_of_arms, acts_in, acts_in_arms, has_end, has_end_arms, Numbering, role_of, first_of, arm_of, arms_of}
+use Rattle.rs_bodies.specs.Fits.{is_guarded, has_room_for, body_fits, arms_fit}
 
 -- ---- cases of options
 
@@ -102,29 +104,29 @@ abbrev pub Closed : Machine_data → (from count : ℕ) → Type 0
 Closed p from count = (v : ℕ) → from ≤ v → v < count → leads_from p.states count v ≡ false
 
 pub record Grown (p : Machine_data) (names : Names_data) (bound : Bound) (depth : ℕ) (w u : Walk) (to : ℕ) : Type 0 where
-  pub body : Body
-  pub first : first_state body bound w.count (last_of p.states) ≡ to
+  pub body : Body Acts
+  pub first : first_of Acts body bound w.count (last_of p.states) ≡ to
   pub parts : drop w.count p.states ≡ states_of (numbers p names) body bound w.count ++ drop u.count p.states
-  pub counts : w.count + acts_in body ≡ u.count
-  pub labels : grown names.labels (labels_of body) ≡ names.labels
-  pub ended : u.ended ≡ (w.ended || has_end body)
-  pub fits : body_fits body (scene names.roles bound depth w.count names.labels) ≡ true
+  pub counts : w.count + acts_in Acts body ≡ u.count
+  pub labels : grown names.labels (labels_of Acts body) ≡ names.labels
+  pub ended : u.ended ≡ (w.ended || has_end Acts body)
+  pub fits : body_fits Acts body (scene names.roles bound depth w.count names.labels) ≡ true
   pub words : AreWordsIn body
   pub shut : Closed p w.count u.count
   pub within : u.count ≤ last_of p.states
 
-abbrev two : Branches → Bool
+abbrev two : Branches Acts → Bool
 two (one l sort b) = false
 two (more l sort b arms) = true
 
 record GrownArms (p : Machine_data) (names : Names_data) (bound : Bound) (depth : ℕ) (w u : Walk) (arms : List Arm) : Type 0 where
-  branches : Branches
-  are : arms_of (numbers p names) branches bound w.count ≡ arms
+  branches : Branches Acts
+  are : arms_of Acts (numbers p names) branches bound w.count ≡ arms
   parts : drop w.count p.states ≡ states_of_arms (numbers p names) branches bound w.count ++ drop u.count p.states
-  counts : w.count + acts_in_arms branches ≡ u.count
-  labels : grown names.labels (labels_of_arms branches) ≡ names.labels
-  ended : u.ended ≡ (w.ended || has_end_arms branches)
-  fits : arms_fit branches (scene names.roles bound depth w.count names.labels) ≡ true
+  counts : w.count + acts_in_arms Acts branches ≡ u.count
+  labels : grown names.labels (labels_of_arms Acts branches) ≡ names.labels
+  ended : u.ended ≡ (w.ended || has_end_arms Acts branches)
+  fits : arms_fit Acts branches (scene names.roles bound depth w.count names.labels) ≡ true
   words : AreWordsInArms branches
   shut : Closed p w.count u.count
   shape : two branches ≡ are_more arms
@@ -233,13 +235,13 @@ one_grown p names bound depth a w u plain small g =
     let same : grown names.labels (l ∷ []) ≡ names.labels = no_more names.labels l known in
     record {
       branches = one l (shown_sort a.sort) g.body;
-      are = ap (λ z. z ∷ []) (arm_is p names a (first_state g.body bound w.count (last_of p.states)) plain lt g.first);
+      are = ap (λ z. z ∷ []) (arm_is p names a (first_of Acts g.body bound w.count (last_of p.states)) plain lt g.first);
       parts = g.parts;
       counts = g.counts;
-      labels = ap (λ z. grown z (labels_of g.body)) same ∙ g.labels;
+      labels = ap (λ z. grown z (labels_of Acts g.body)) same ∙ g.labels;
       ended = g.ended;
-      fits = two_true (has_room_for l (scene names.roles bound depth w.count names.labels)) (body_fits g.body (scene names.roles bound depth w.count (grown names.labels (l ∷ []))))
-          (or_first (is_among l names.labels) (nat_lt (length names.labels) 256) known) (subst (λ (z : List (List ℕ)). body_fits g.body (scene names.roles bound depth w.count z) ≡ true) (sym same) g.fits);
+      fits = two_true (has_room_for l (scene names.roles bound depth w.count names.labels)) (body_fits Acts g.body (scene names.roles bound depth w.count (grown names.labels (l ∷ []))))
+          (or_first (is_among l names.labels) (nat_lt (length names.labels) 256) known) (subst (λ (z : List (List ℕ)). body_fits Acts g.body (scene names.roles bound depth w.count z) ≡ true) (sym same) g.fits);
       words = (plain_label a.label.0 (omega arith), g.words);
       shut = g.shut;
       shape = refl;
@@ -252,25 +254,25 @@ more_grown p names bound depth a b bs w x u plain small g r =
     let lt : a.label.0 < 65536 = ltb-true a.label.0 65536 small in
     let known : is_among l names.labels ≡ true = label_known p names a.label.0 plain lt in
     let same : grown names.labels (l ∷ []) ≡ names.labels = no_more names.labels l known in
-    let counts : w.count + acts_in g.body ≡ x.count = g.counts in
-    let rest : x.count + acts_in_arms r.branches ≡ u.count = r.counts in
+    let counts : w.count + acts_in Acts g.body ≡ x.count = g.counts in
+    let rest : x.count + acts_in_arms Acts r.branches ≡ u.count = r.counts in
     let roles : List (List ℕ) = names.roles in
-    let labels : grown (grown names.labels (l ∷ [])) (labels_of g.body) ≡ names.labels = ap (λ z. grown z (labels_of g.body)) same ∙ g.labels in
+    let labels : grown (grown names.labels (l ∷ [])) (labels_of Acts g.body) ≡ names.labels = ap (λ z. grown z (labels_of Acts g.body)) same ∙ g.labels in
     record {
       branches = more l (shown_sort a.sort) g.body r.branches;
-      are = ap (λ z. z ∷ arms_of (numbers p names) r.branches bound (w.count + acts_in g.body)) (arm_is p names a (first_state g.body bound w.count (last_of p.states)) plain lt g.first)
-          ∙ ap (λ z. a ∷ arms_of (numbers p names) r.branches bound z) counts ∙ ap (λ z. a ∷ z) r.are;
+      are = ap (λ z. z ∷ arms_of Acts (numbers p names) r.branches bound (w.count + acts_in Acts g.body)) (arm_is p names a (first_of Acts g.body bound w.count (last_of p.states)) plain lt g.first)
+          ∙ ap (λ z. a ∷ arms_of Acts (numbers p names) r.branches bound z) counts ∙ ap (λ z. a ∷ z) r.are;
       parts = g.parts ∙ ap (λ z. states_of (numbers p names) g.body bound w.count ++ z) (r.parts ∙ ap (λ z. states_of_arms (numbers p names) r.branches bound z ++ drop u.count p.states) (sym counts))
-          ∙ sym (append_assoc (states_of (numbers p names) g.body bound w.count) (states_of_arms (numbers p names) r.branches bound (w.count + acts_in g.body)) (drop u.count p.states));
+          ∙ sym (append_assoc (states_of (numbers p names) g.body bound w.count) (states_of_arms (numbers p names) r.branches bound (w.count + acts_in Acts g.body)) (drop u.count p.states));
       counts = omega arith;
-      labels = grown_append (labels_of g.body) (labels_of_arms r.branches) (grown names.labels (l ∷ [])) ∙ ap (λ z. grown z (labels_of_arms r.branches)) labels ∙ r.labels;
-      ended = r.ended ∙ ap (λ z. z || has_end_arms r.branches) g.ended ∙ or_assoc w.ended (has_end g.body) (has_end_arms r.branches);
-      fits = two_true (has_room_for l (scene roles bound depth w.count names.labels) && body_fits g.body (scene roles bound depth w.count (grown names.labels (l ∷ []))))
-          (arms_fit r.branches (scene roles bound depth (w.count + acts_in g.body) (grown (grown names.labels (l ∷ [])) (labels_of g.body))))
-          (two_true (has_room_for l (scene roles bound depth w.count names.labels)) (body_fits g.body (scene roles bound depth w.count (grown names.labels (l ∷ []))))
-          (or_first (is_among l names.labels) (nat_lt (length names.labels) 256) known) (subst (λ (z : List (List ℕ)). body_fits g.body (scene roles bound depth w.count z) ≡ true) (sym same) g.fits))
-          (subst (λ (z : ℕ). arms_fit r.branches (scene roles bound depth z (grown (grown names.labels (l ∷ [])) (labels_of g.body))) ≡ true) (sym counts)
-          (subst (λ (z : List (List ℕ)). arms_fit r.branches (scene roles bound depth x.count z) ≡ true) (sym labels) r.fits));
+      labels = grown_append (labels_of Acts g.body) (labels_of_arms Acts r.branches) (grown names.labels (l ∷ [])) ∙ ap (λ z. grown z (labels_of_arms Acts r.branches)) labels ∙ r.labels;
+      ended = r.ended ∙ ap (λ z. z || has_end_arms Acts r.branches) g.ended ∙ or_assoc w.ended (has_end Acts g.body) (has_end_arms Acts r.branches);
+      fits = two_true (has_room_for l (scene roles bound depth w.count names.labels) && body_fits Acts g.body (scene roles bound depth w.count (grown names.labels (l ∷ []))))
+          (arms_fit Acts r.branches (scene roles bound depth (w.count + acts_in Acts g.body) (grown (grown names.labels (l ∷ [])) (labels_of Acts g.body))))
+          (two_true (has_room_for l (scene roles bound depth w.count names.labels)) (body_fits Acts g.body (scene roles bound depth w.count (grown names.labels (l ∷ []))))
+          (or_first (is_among l names.labels) (nat_lt (length names.labels) 256) known) (subst (λ (z : List (List ℕ)). body_fits Acts g.body (scene roles bound depth w.count z) ≡ true) (sym same) g.fits))
+          (subst (λ (z : ℕ). arms_fit Acts r.branches (scene roles bound depth z (grown (grown names.labels (l ∷ [])) (labels_of Acts g.body))) ≡ true) (sym counts)
+          (subst (λ (z : List (List ℕ)). arms_fit Acts r.branches (scene roles bound depth x.count z) ≡ true) (sym labels) r.fits));
       words = (plain_label a.label.0 (omega arith), g.words, r.words);
       shut = still_closed p w.count x.count u.count (omega arith) g.shut r.shut;
       shape = refl;
@@ -291,7 +293,7 @@ arms_grown (b ∷ bs) p names bound depth visit from a w u plain small grows le 
     let s = both (is_small_arm a) (list_all is_small_arm (b ∷ bs)) small in
     let x = chained (arms_met visit (last_of p.states) from (b ∷ bs)) (met visit (last_of p.states) from a.next w) u h in
     let g : Grown p names bound depth w x.0 a.next = met_grown p names bound depth visit from a.next w x.0 plain grows le within named (led 0 a refl) x.1 in
-    let counts : w.count + acts_in g.body ≡ x.0.count = g.counts in
+    let counts : w.count + acts_in Acts g.body ≡ x.0.count = g.counts in
     let r : GrownArms p names bound depth x.0 u (b ∷ bs) = arms_grown bs p names bound depth visit from b x.0 u plain s.1 grows (omega arith) g.within (still_bounded p bound w.count x.0.count (omega arith) named g.shut) (λ place arm e lt. led (suc place) arm e lt) x.2 in
     more_grown p names bound depth a b bs w x.0 u plain s.0 g r
 
@@ -304,16 +306,16 @@ opened_names true n v bound a b f g = elim (true_or_false (bytes_eq (name_of_sta
 ]
 opened_names false n v bound a b f g = f (λ same. cc (g same))
 
-offered_fits : (b : Branches) (s : List ℕ) (r : Mark) (roles : List (List ℕ)) (bound : Bound) (d k : ℕ) (ls : List (List ℕ)) → is_among s roles ≡ true → k < 256 → deeper (two b) d ≤ 200 → arms_fit b (scene roles bound (deeper (two b) d) (suc k) ls) ≡ true → body_fits (offered s r b) (scene roles bound d k ls) ≡ true
+offered_fits : (b : Branches Acts) (s : List ℕ) (r : Mark) (roles : List (List ℕ)) (bound : Bound) (d k : ℕ) (ls : List (List ℕ)) → is_among s roles ≡ true → k < 256 → deeper (two b) d ≤ 200 → arms_fit Acts b (scene roles bound (deeper (two b) d) (suc k) ls) ≡ true → body_fits Acts (offered s r b) (scene roles bound d k ls) ≡ true
 offered_fits (one l sort b) s r roles bound d k ls known few low h =
-    let q = both (has_room_for l (scene roles bound d (suc k) ls)) (body_fits b (scene roles bound d (suc k) (grown ls (l ∷ [])))) h in
-    two_true (is_among s roles && nat_lt k 256 && has_room_for l (scene roles bound d k ls)) (body_fits b (scene roles bound d (suc k) (grown ls (l ∷ []))))
+    let q = both (has_room_for l (scene roles bound d (suc k) ls)) (body_fits Acts b (scene roles bound d (suc k) (grown ls (l ∷ [])))) h in
+    two_true (is_among s roles && nat_lt k 256 && has_room_for l (scene roles bound d k ls)) (body_fits Acts b (scene roles bound d (suc k) (grown ls (l ∷ []))))
     (two_true (is_among s roles && nat_lt k 256) (has_room_for l (scene roles bound d k ls)) (two_true (is_among s roles) (nat_lt k 256) known (lt-ltb k 256 few)) q.0) q.1
 offered_fits (more l sort b arms) s r roles bound d k ls known few low h =
-    two_true (is_among s roles && nat_lt k 256 && nat_lt d 200) (arms_fit (more l sort b arms) (scene roles bound (suc d) (suc k) ls))
+    two_true (is_among s roles && nat_lt k 256 && nat_lt d 200) (arms_fit Acts (more l sort b arms) (scene roles bound (suc d) (suc k) ls))
     (two_true (is_among s roles && nat_lt k 256) (nat_lt d 200) (two_true (is_among s roles) (nat_lt k 256) known (lt-ltb k 256 few)) (lt-ltb d 200 (omega arith))) h
 
-offered_words : (b : Branches) (s : List ℕ) (r : Mark) → is_role_word s ≡ true → AreWordsInArms b → AreWordsIn (offered s r b)
+offered_words : (b : Branches Acts) (s : List ℕ) (r : Mark) → is_role_word s ≡ true → AreWordsInArms b → AreWordsIn (offered s r b)
 offered_words (one l sort b) s r x h = (x, h.0, h.1)
 offered_words (more l sort b arms) s r x h = (x, h)
 
@@ -338,21 +340,21 @@ act_grown p names bound depth y s a arms w u plain there lt low free g =
     let few : s.0 < 256 = plain.peers n y s (a ∷ arms) there in
     let peer : List ℕ = plain_name 82 s.0 in
     let roles : List (List ℕ) = names.roles in
-    let act : Body = offered peer y g.branches in
-    let counts : suc w.count + acts_in_arms g.branches ≡ u.count = g.counts in
-    let size : acts_in (wrapped c n act) ≡ suc (acts_in_arms g.branches) = wrapped_acts c n act ∙ offered_acts peer y g.branches in
+    let act : Body Acts = offered peer y g.branches in
+    let counts : suc w.count + acts_in_arms Acts g.branches ≡ u.count = g.counts in
+    let size : acts_in Acts (wrapped c n act) ≡ suc (acts_in_arms Acts g.branches) = wrapped_acts c n act ∙ offered_acts peer y g.branches in
     record {
       body = wrapped c n act;
       first = wrapped_first (last_of p.states) c n act bound ∙ offered_first (last_of p.states) peer y g.branches inner n;
       parts = drop_at p.states n (state_of y s (a ∷ arms)) there ∙ ap (λ z. state_of y s (a ∷ arms) ∷ z) g.parts
           ∙ ap (λ z. z ++ drop u.count p.states) (sym (wrapped_states (numbers p names) c n act bound ∙ offered_states (numbers p names) peer y g.branches inner n
-          ∙ ap (λ z. z ∷ states_of_arms (numbers p names) g.branches inner (suc n)) (ap (λ z. state_of y z (arms_of (numbers p names) g.branches inner (suc n))) (role_numbered p names s plain few) ∙ ap (λ z. state_of y s z) g.are)));
+          ∙ ap (λ z. z ∷ states_of_arms (numbers p names) g.branches inner (suc n)) (ap (λ z. state_of y z (arms_of Acts (numbers p names) g.branches inner (suc n))) (role_numbered p names s plain few) ∙ ap (λ z. state_of y s z) g.are)));
       counts = omega arith;
       labels = ap (λ z. grown names.labels z) (wrapped_labels c n act ∙ offered_labels peer y g.branches) ∙ g.labels;
       ended = g.ended ∙ ap (λ z. w.ended || z) (sym (wrapped_end c n act ∙ offered_end peer y g.branches));
       fits = wrapped_fits c n act roles bound depth names.labels (shallower c (are_more (a ∷ arms)) depth low)
           (offered_fits g.branches peer y roles inner (deeper c depth) n names.labels (role_known p names s.0 plain few) (omega arith)
-          (subst (λ (z : Bool). deeper z (deeper c depth) ≤ 200) (sym g.shape) low) (subst (λ (z : Bool). arms_fit g.branches (scene roles inner (deeper z (deeper c depth)) (suc n) names.labels) ≡ true) (sym g.shape) g.fits));
+          (subst (λ (z : Bool). deeper z (deeper c depth) ≤ 200) (sym g.shape) low) (subst (λ (z : Bool). arms_fit Acts g.branches (scene roles inner (deeper z (deeper c depth)) (suc n) names.labels) ≡ true) (sym g.shape) g.fits));
       words = one_words c n act (omega arith) (offered_words g.branches peer y (plain_role s.0 (omega arith)) g.words);
       shut = λ v lo hi. elim (eqb_tells v n) [
         | inl e ↦ ap (λ z. leads_from p.states u.count z) e.1 ∙ free

@@ -11,12 +11,11 @@ use Rattle.rs_model.specs.declared.machines.State.{State}
 use Rattle.rs_model.specs.declared.machines.State.TheVariants.{Done, Puts, Takes}
 use Rattle.rs_text.proofs.Gaps.{true_or_false}
 use Rattle.rs_text.proofs.Naming.{among}
-use Rattle.rs_machines.specs.declared.marks.Mark.{Mark}
-use Rattle.rs_machines.specs.declared.marks.Mark.TheVariants as mark
+use Rattle.rs_bodies.specs.declared.dialects.Mark.{Mark}
+use Rattle.rs_bodies.specs.declared.dialects.Mark.TheVariants as mark
 use Rattle.rs_machines.specs.declared.shapes.Walk.{Walk}
 use Rattle.rs_machines.specs.Canonical.{IsMachineTextShaped}
-use Rattle.rs_machines.specs.Machines.{state_of, acts_in, has_end, Numbering, first_state, states_of, numbering, machine_of, names_of, done_of}
-use Rattle.rs_machines.specs.Scenes.{first_scene}
+use Rattle.rs_machines.specs.Machines.{state_of, states_of, numbering, machine_of, names_of, done_of}
 use Rattle.rs_machines.specs.Spells.{Fits, SpellsMachine}
 use Rattle.rs_machines.specs.Shapes.{is_small_role, is_small_arm, is_small_state, are_small, act_leads, leads_from, is_end_at, ends_last, last_of, met, visited, same_bool, is_whole, begin, walks}
 use Rattle.rs_machines.specs.Texts.{machine_text}
@@ -32,6 +31,9 @@ use Rattle.rs_machines.proofs.PrintedTrees.{lone_tree_spelt}
 use Rattle.rs_machines.proofs.ShapeGoes.{goes}
 use Rattle.rs_machines.proofs.ShapeGrown.{Plain, Grown, numbers, met_grown, visited_grown, role_numbered}
 use Rattle.rs_text.proofs.Basics.{some_is, both, seam}
+use Rattle.rs_bodies.specs.declared.dialects.Dialect.TheVariants.{Acts}
+use Rattle.rs_bodies.specs.Graph.{acts_in, has_end, Numbering, first_of}
+use Rattle.rs_bodies.specs.Scenes.{first_scene}
 
 -- ---- the end of a machine
 
@@ -96,18 +98,18 @@ tree_walks old t fits =
     let p : Machine_data = machine_of old t in
     let m : Numbering = numbering old t in
     let xs : List State = states_of m t.body [] 0 in
-    let c : Bool = has_end t.body in
+    let c : Bool = has_end Acts t.body in
     let all : list_all is_act xs ≡ true = all_acts m t.body [] 0 in
-    let size : length xs ≡ acts_in t.body = states_length m t.body [] 0 in
-    let last : last_of p.states ≡ acts_in t.body = last_as xs c all ∙ size in
-    let few : 0 + acts_in t.body ≤ 256 = fits_acts t.body (first_scene old) fits.body (omega arith) in
-    let recs : Recs (λ v. leads_from p.states v v) t.body false 0 = tree_recs m p t.body c refl refl (fits_named t.body (first_scene old) fits.body) (λ v. leads_from p.states v v) (λ v h. back_is p v h) in
-    let run : met (visited (suc (last_of p.states)) p 0) (acts_in t.body) 0 p.start begin ≡ Some (record { count = 0 + acts_in t.body; ended = false || c }) =
+    let size : length xs ≡ acts_in Acts t.body = states_length m t.body [] 0 in
+    let last : last_of p.states ≡ acts_in Acts t.body = last_as xs c all ∙ size in
+    let few : 0 + acts_in Acts t.body ≤ 256 = fits_acts t.body (first_scene old.roles old.labels) fits.body (omega arith) in
+    let recs : Recs (λ v. leads_from p.states v v) t.body false 0 = tree_recs m p t.body c refl refl (fits_named t.body (first_scene old.roles old.labels) fits.body) (λ v. leads_from p.states v v) (λ v h. back_is p v h) in
+    let run : met (visited (suc (last_of p.states)) p 0) (acts_in Acts t.body) 0 p.start begin ≡ Some (record { count = 0 + acts_in Acts t.body; ended = false || c }) =
     goes m p last t.body (suc (last_of p.states)) [] false 0 0 0 0 false old.roles old.labels [] (done_of c) refl refl (omega arith) (omega arith) (omega arith) (omega arith) (omega arith) (λ e. absurd (cc e)) fits.body recs
-    (fits_named t.body (first_scene old) fits.body) (λ x n e. absurd (cc e)) (λ x n e lt. lt) (λ v lo hi. done_leads c v) in
-    walks_by p (Some (record { count = 0 + acts_in t.body; ended = false || c })) (omega arith)
+    (fits_named t.body (first_scene old.roles old.labels) fits.body) (λ x n e. absurd (cc e)) (λ x n e lt. lt) (λ v lo hi. done_leads c v) in
+    walks_by p (Some (record { count = 0 + acts_in Acts t.body; ended = false || c })) (omega arith)
     (ap (λ z. met (visited (suc (last_of p.states)) p 0) z 0 p.start begin) last ∙ run)
-    (whole_by p (0 + acts_in t.body) (false || c) (omega arith) (sym (ends_as xs c all)))
+    (whole_by p (0 + acts_in Acts t.body) (false || c) (omega arith) (sym (ends_as xs c all)))
 
 pub shaped_is_walked : (p : Machine_data) → IsMachineTextShaped p → walks p ≡ true
 shaped_is_walked p s = ap walks s.spells.machine_is ∙ tree_walks s.old s.spells.tree s.spells.fits
@@ -192,21 +194,21 @@ has_text p names plain few w =
     let g : Grown p names [] 0 begin w.end p.start = met_grown p names [] 0 (visited (suc (last_of p.states)) p 0) 0 p.start begin w.end plain (visited_grown (suc (last_of p.states)) p names [] 0 plain) (omega arith) (omega arith) (λ v lt e. absurd (omega arith)) (λ lt. absurd (omega arith)) w.run in
     let t : MachineTree = record { role = plain_name 82 p.role.0; body = g.body } in
     let count : w.end.count ≡ last_of p.states = w.count in
-    let counts : 0 + acts_in g.body ≡ w.end.count = g.counts in
-    let acts_are : acts_in g.body ≡ last_of p.states = omega arith in
-    let same : numbering names t ≡ numbers p names = ap (λ z. numbered names.roles z (acts_in g.body)) g.labels ∙ ap (λ z. numbered names.roles names.labels z) acts_are in
-    let end : has_end g.body ≡ ends_last p.states = sym g.ended ∙ w.ended in
-    let states : states_of (numbering names t) g.body [] 0 ++ done_of (has_end g.body) ≡ p.states =
-    ap (λ z. states_of z g.body [] 0 ++ done_of (has_end g.body)) same
+    let counts : 0 + acts_in Acts g.body ≡ w.end.count = g.counts in
+    let acts_are : acts_in Acts g.body ≡ last_of p.states = omega arith in
+    let same : numbering names t ≡ numbers p names = ap (λ z. numbered names.roles z (acts_in Acts g.body)) g.labels ∙ ap (λ z. numbered names.roles names.labels z) acts_are in
+    let end : has_end Acts g.body ≡ ends_last p.states = sym g.ended ∙ w.ended in
+    let states : states_of (numbering names t) g.body [] 0 ++ done_of (has_end Acts g.body) ≡ p.states =
+    ap (λ z. states_of z g.body [] 0 ++ done_of (has_end Acts g.body)) same
     ∙ ap (λ z. states_of (numbers p names) g.body [] 0 ++ z) (ap done_of end ∙ sym (drop_last p.states) ∙ ap (λ z. drop z p.states) (sym count))
     ∙ sym g.parts in
     record {
       tree = t;
       fits = record { role = among names.roles (plain_name 82 p.role.0) 0 p.role.0 (plain.role_at p.role.0 few); body = g.fits };
       words = record { role = plain_role p.role.0 (omega arith); body = g.words };
-      spells = ap (λ z. machine z (states_of (numbering names t) g.body [] 0 ++ done_of (has_end g.body)) (first_state g.body [] 0 (acts_in g.body))) (role_numbered p names p.role plain few)
-          ∙ ap (λ z. machine p.role z (first_state g.body [] 0 (acts_in g.body))) states
-          ∙ ap (λ z. machine p.role p.states z) (ap (λ z. first_state g.body [] 0 z) acts_are ∙ g.first);
+      spells = ap (λ z. machine z (states_of (numbering names t) g.body [] 0 ++ done_of (has_end Acts g.body)) (first_of Acts g.body [] 0 (acts_in Acts g.body))) (role_numbered p names p.role plain few)
+          ∙ ap (λ z. machine p.role z (first_of Acts g.body [] 0 (acts_in Acts g.body))) states
+          ∙ ap (λ z. machine p.role p.states z) (ap (λ z. first_of Acts g.body [] 0 z) acts_are ∙ g.first);
     }
 
 shaped_with : (p : Machine_data) (names : Names_data) → Text p names → IsMachineTextShaped p

@@ -13,13 +13,18 @@ use Rattle.rs_model.proofs.Faults.{blamed}
 use Rattle.rs_text.specs.Names.{place_of, is_among, Bound, bound_to, number_or}
 use Rattle.rs_text.proofs.Naming.{not_among}
 use Rattle.rs_text.proofs.Numbers.{place_below}
-use Rattle.rs_machines.specs.declared.marks.Mark.{Mark}
-use Rattle.rs_machines.specs.declared.marks.Mark.TheVariants as mark
+use Rattle.rs_bodies.specs.declared.dialects.Mark.{Mark}
+use Rattle.rs_bodies.specs.declared.dialects.Mark.TheVariants as mark
 use Rattle.rs_machines.specs.MachineFaults.{IsFaultOfText}
-use Rattle.rs_machines.specs.Machines.{acts_in, acts_in_arms, has_end, has_end_arms, Numbering, role_of, first_state, arm_of, arms_of, state_of, states_of, states_of_arms, numbering, done_of, machine_of}
-use Rattle.rs_machines.specs.Scenes.{Scene, with_label, in_act, in_braces, in_rec, behind, first_scene}
-use Rattle.rs_machines.specs.Spells.{is_guarded, has_room_for, body_fits, arms_fit, Fits, SpellsMachine}
-use Rattle.rs_machines.specs.Trees.{Body, ends, again, binds, acts, offers, Branches, one, more, MachineTree}
+use Rattle.rs_machines.specs.Machines.{state_of, states_of, states_of_arms, numbering, done_of, machine_of}
+use Rattle.rs_machines.specs.Spells.{Fits, SpellsMachine}
+use Rattle.rs_machines.specs.Trees.{MachineTree}
+use Rattle.rs_bodies.specs.declared.dialects.Dialect.TheVariants.{Acts}
+use Rattle.rs_bodies.specs.Graph.{acts_in, acts_in_arms, has_end, has_end_arms, Numbering, role_of, first_of, arm_of, arms_of}
+use Rattle.rs_bodies.specs.Scenes.{Scene, with_label, in_act, in_braces, in_rec, behind, first_scene}
+use Rattle.rs_bodies.specs.Fits.{is_guarded, has_room_for, body_fits, arms_fit}
+use Rattle.rs_bodies.specs.Trees.{Body, ends, again, binds, acts, offers, Branches, one, more}
+use Rattle.rs_bodies.specs.Dialects.{with_mark}
 
 -- each arm leads to one of so many states
 abbrev pub NextsGood : ℕ → List Arm → Type 0
@@ -80,23 +85,23 @@ guard_below : (found : Option ℕ) (count : ℕ) → is_guarded found count ≡ 
 guard_below None count h = absurd (cc h)
 guard_below (Some k) count h = ltb-true k count h
 
-first_good : (b : Body) (s : Scene) (last total : ℕ) → body_fits b s ≡ true → (has_end b ≡ true → last < total) → s.acts + acts_in b ≤ last → last ≤ total → first_state b s.bound s.acts last < total
+first_good : (b : Body Acts) (s : Scene) (last total : ℕ) → body_fits Acts b s ≡ true → (has_end Acts b ≡ true → last < total) → s.acts + acts_in Acts b ≤ last → last ≤ total → first_of Acts b s.bound s.acts last < total
 first_good ends s last total fits h n k = h refl
 first_good (again name) s last total fits h n k = let g : number_or (bound_to name s.bound) < s.acts = guard_below (bound_to name s.bound) s.acts fits in omega arith
-first_good (binds name body) s last total fits h n k = first_good body (in_rec name s) last total (and_split (nat_lt s.depth 200) (body_fits body (in_rec name s)) fits).1 h n k
-first_good (acts p m l sort body) s last total fits h n k = omega arith
-first_good (offers p m arms) s last total fits h n k = omega arith
+first_good (binds name body) s last total fits h n k = first_good body (in_rec name s) last total (and_split (nat_lt s.depth 200) (body_fits Acts body (in_rec name s)) fits).1 h n k
+first_good (acts p (with_mark m) l sort body) s last total fits h n k = omega arith
+first_good (offers p (with_mark m) arms) s last total fits h n k = omega arith
 
-arms_good : (m : Numbering) (arms : Branches) (s : Scene) (total : ℕ) → arms_fit arms s ≡ true → (has_end_arms arms ≡ true → m.last < total) → s.acts + acts_in_arms arms ≤ m.last → m.last ≤ total → NextsGood total (arms_of m arms s.bound s.acts)
-arms_good m (one l sort body) s total fits h n k = (first_good body (with_label l s) m.last total (and_split (has_room_for l s) (body_fits body (with_label l s)) fits).1 h n k, tt)
+arms_good : (m : Numbering) (arms : Branches Acts) (s : Scene) (total : ℕ) → arms_fit Acts arms s ≡ true → (has_end_arms Acts arms ≡ true → m.last < total) → s.acts + acts_in_arms Acts arms ≤ m.last → m.last ≤ total → NextsGood total (arms_of Acts m arms s.bound s.acts)
+arms_good m (one l sort body) s total fits h n k = (first_good body (with_label l s) m.last total (and_split (has_room_for l s) (body_fits Acts body (with_label l s)) fits).1 h n k, tt)
 arms_good m (more l sort body arms) s total fits h n k =
-    let f = and_split (has_room_for l s && body_fits body (with_label l s)) (arms_fit arms (behind body (with_label l s))) fits in
-    let g = and_split (has_room_for l s) (body_fits body (with_label l s)) f.0 in (
-      first_good body (with_label l s) m.last total g.1 (λ e. h (or_left (has_end body) (has_end_arms arms) e)) (omega arith) k,
-      arms_good m arms (behind body (with_label l s)) total f.1 (λ e. h (or_right (has_end body) (has_end_arms arms) e)) (omega arith) k,
+    let f = and_split (has_room_for l s && body_fits Acts body (with_label l s)) (arms_fit Acts arms (behind Acts body (with_label l s))) fits in
+    let g = and_split (has_room_for l s) (body_fits Acts body (with_label l s)) f.0 in (
+      first_good body (with_label l s) m.last total g.1 (λ e. h (or_left (has_end Acts body) (has_end_arms Acts arms) e)) (omega arith) k,
+      arms_good m arms (behind Acts body (with_label l s)) total f.1 (λ e. h (or_right (has_end Acts body) (has_end_arms Acts arms) e)) (omega arith) k,
     )
 
-some_arms : (m : Numbering) (arms : Branches) (bound : Bound) (count : ℕ) → SomeArms (arms_of m arms bound count)
+some_arms : (m : Numbering) (arms : Branches Acts) (bound : Bound) (count : ℕ) → SomeArms (arms_of Acts m arms bound count)
 some_arms m (one l sort body) bound count = tt
 some_arms m (more l sort body arms) bound count = tt
 
@@ -105,26 +110,26 @@ marked_good mark.Puts roles total peer arms h = h
 marked_good mark.Takes roles total peer arms h = h
 
 mutual
-  states_good : (b : Body) (m : Numbering) (s : Scene) (total : ℕ) → s.roles ≡ m.names.roles → body_fits b s ≡ true → (has_end b ≡ true → m.last < total) → s.acts + acts_in b ≤ m.last → m.last ≤ total → StatesGood (length m.names.roles) total (states_of m b s.bound s.acts)
+  states_good : (b : Body Acts) (m : Numbering) (s : Scene) (total : ℕ) → s.roles ≡ m.names.roles → body_fits Acts b s ≡ true → (has_end Acts b ≡ true → m.last < total) → s.acts + acts_in Acts b ≤ m.last → m.last ≤ total → StatesGood (length m.names.roles) total (states_of m b s.bound s.acts)
   states_good ends m s total r fits h n k = tt
   states_good (again name) m s total r fits h n k = tt
-  states_good (binds name body) m s total r fits h n k = states_good body m (in_rec name s) total r (and_split (nat_lt s.depth 200) (body_fits body (in_rec name s)) fits).1 h n k
-  states_good (acts p y l sort body) m s total r fits h n k =
-      let f = and_split (is_among p s.roles && nat_lt s.acts 256 && has_room_for l s) (body_fits body (with_label l (in_act s))) fits in
+  states_good (binds name body) m s total r fits h n k = states_good body m (in_rec name s) total r (and_split (nat_lt s.depth 200) (body_fits Acts body (in_rec name s)) fits).1 h n k
+  states_good (acts p (with_mark y) l sort body) m s total r fits h n k =
+      let f = and_split (is_among p s.roles && nat_lt s.acts 256 && has_room_for l s) (body_fits Acts body (with_label l (in_act s))) fits in
       let g = and_split (is_among p s.roles && nat_lt s.acts 256) (has_room_for l s) f.0 in
       let known = and_split (is_among p s.roles) (nat_lt s.acts 256) g.0 in (
-        marked_good y (length m.names.roles) total (role_of m p) (arm_of m l sort (first_state body s.bound (suc s.acts) m.last) ∷ []) (record {
+        marked_good y (length m.names.roles) total (role_of m p) (arm_of m l sort (first_of Acts body s.bound (suc s.acts) m.last) ∷ []) (record {
           known = known_by (place_of p m.names.roles) p m.names.roles refl (ap (λ z. is_among p z) (sym r) ∙ known.0);
           some = tt;
           nexts = (first_good body (with_label l (in_act s)) m.last total f.1 h (omega arith) k, tt);
         }),
         states_good body m (with_label l (in_act s)) total r f.1 h (omega arith) k,
       )
-  states_good (offers p y arms) m s total r fits h n k =
-      let f = and_split (is_among p s.roles && nat_lt s.acts 256 && nat_lt s.depth 200) (arms_fit arms (in_braces s)) fits in
+  states_good (offers p (with_mark y) arms) m s total r fits h n k =
+      let f = and_split (is_among p s.roles && nat_lt s.acts 256 && nat_lt s.depth 200) (arms_fit Acts arms (in_braces s)) fits in
       let g = and_split (is_among p s.roles && nat_lt s.acts 256) (nat_lt s.depth 200) f.0 in
       let known = and_split (is_among p s.roles) (nat_lt s.acts 256) g.0 in (
-        marked_good y (length m.names.roles) total (role_of m p) (arms_of m arms s.bound (suc s.acts)) (record {
+        marked_good y (length m.names.roles) total (role_of m p) (arms_of Acts m arms s.bound (suc s.acts)) (record {
           known = known_by (place_of p m.names.roles) p m.names.roles refl (ap (λ z. is_among p z) (sym r) ∙ known.0);
           some = some_arms m arms s.bound (suc s.acts);
           nexts = arms_good m arms (in_braces s) total f.1 h (omega arith) k;
@@ -132,26 +137,26 @@ mutual
         arm_states_good arms m (in_braces s) total r f.1 h (omega arith) k,
       )
 
-  arm_states_good : (arms : Branches) (m : Numbering) (s : Scene) (total : ℕ) → s.roles ≡ m.names.roles → arms_fit arms s ≡ true → (has_end_arms arms ≡ true → m.last < total) → s.acts + acts_in_arms arms ≤ m.last → m.last ≤ total → StatesGood (length m.names.roles) total (states_of_arms m arms s.bound s.acts)
-  arm_states_good (one l sort body) m s total r fits h n k = states_good body m (with_label l s) total r (and_split (has_room_for l s) (body_fits body (with_label l s)) fits).1 h n k
+  arm_states_good : (arms : Branches Acts) (m : Numbering) (s : Scene) (total : ℕ) → s.roles ≡ m.names.roles → arms_fit Acts arms s ≡ true → (has_end_arms Acts arms ≡ true → m.last < total) → s.acts + acts_in_arms Acts arms ≤ m.last → m.last ≤ total → StatesGood (length m.names.roles) total (states_of_arms m arms s.bound s.acts)
+  arm_states_good (one l sort body) m s total r fits h n k = states_good body m (with_label l s) total r (and_split (has_room_for l s) (body_fits Acts body (with_label l s)) fits).1 h n k
   arm_states_good (more l sort body arms) m s total r fits h n k =
-      let f = and_split (has_room_for l s && body_fits body (with_label l s)) (arms_fit arms (behind body (with_label l s))) fits in
-      let g = and_split (has_room_for l s) (body_fits body (with_label l s)) f.0 in
-      good_append (states_of m body s.bound s.acts) (states_of_arms m arms s.bound (s.acts + acts_in body)) (length m.names.roles) total
-      (states_good body m (with_label l s) total r g.1 (λ e. h (or_left (has_end body) (has_end_arms arms) e)) (omega arith) k)
-      (arm_states_good arms m (behind body (with_label l s)) total r f.1 (λ e. h (or_right (has_end body) (has_end_arms arms) e)) (omega arith) k)
+      let f = and_split (has_room_for l s && body_fits Acts body (with_label l s)) (arms_fit Acts arms (behind Acts body (with_label l s))) fits in
+      let g = and_split (has_room_for l s) (body_fits Acts body (with_label l s)) f.0 in
+      good_append (states_of m body s.bound s.acts) (states_of_arms m arms s.bound (s.acts + acts_in Acts body)) (length m.names.roles) total
+      (states_good body m (with_label l s) total r g.1 (λ e. h (or_left (has_end Acts body) (has_end_arms Acts arms) e)) (omega arith) k)
+      (arm_states_good arms m (behind Acts body (with_label l s)) total r f.1 (λ e. h (or_right (has_end Acts body) (has_end_arms Acts arms) e)) (omega arith) k)
 
 mutual
-  states_count : (m : Numbering) (b : Body) (bound : Bound) (count : ℕ) → length (states_of m b bound count) ≡ acts_in b
+  states_count : (m : Numbering) (b : Body Acts) (bound : Bound) (count : ℕ) → length (states_of m b bound count) ≡ acts_in Acts b
   states_count m ends bound count = refl
   states_count m (again name) bound count = refl
   states_count m (binds name body) bound count = states_count m body ((name, count) ∷ bound) count
-  states_count m (acts p y l sort body) bound count = ap (λ z. suc z) (states_count m body bound (suc count))
-  states_count m (offers p y arms) bound count = ap (λ z. suc z) (arm_states_count m arms bound (suc count))
+  states_count m (acts p (with_mark y) l sort body) bound count = ap (λ z. suc z) (states_count m body bound (suc count))
+  states_count m (offers p (with_mark y) arms) bound count = ap (λ z. suc z) (arm_states_count m arms bound (suc count))
 
-  arm_states_count : (m : Numbering) (arms : Branches) (bound : Bound) (count : ℕ) → length (states_of_arms m arms bound count) ≡ acts_in_arms arms
+  arm_states_count : (m : Numbering) (arms : Branches Acts) (bound : Bound) (count : ℕ) → length (states_of_arms m arms bound count) ≡ acts_in_arms Acts arms
   arm_states_count m (one l sort body) bound count = states_count m body bound count
-  arm_states_count m (more l sort body arms) bound count = length-append (states_of m body bound count) _ ∙ ap (λ z. z + length (states_of_arms m arms bound (count + acts_in body))) (states_count m body bound count) ∙ ap (λ z. acts_in body + z) (arm_states_count m arms bound (count + acts_in body))
+  arm_states_count m (more l sort body arms) bound count = length-append (states_of m body bound count) _ ∙ ap (λ z. z + length (states_of_arms m arms bound (count + acts_in Acts body))) (states_count m body bound count) ∙ ap (λ z. acts_in Acts body + z) (arm_states_count m arms bound (count + acts_in Acts body))
 
 -- ---- machines
 
@@ -172,14 +177,14 @@ pub tree_good : (old : Names_data) (t : MachineTree) → Fits old t → Good (ma
 tree_good old t fits =
     let m : Numbering = numbering old t in
     let acts : List State = states_of m t.body [] 0 in
-    let total : ℕ = length (acts ++ done_of (has_end t.body)) in
-    let size : total ≡ acts_in t.body + length (done_of (has_end t.body)) = length-append acts (done_of (has_end t.body)) ∙ ap (λ z. z + length (done_of (has_end t.body))) (states_count m t.body [] 0) in
-    let more : has_end t.body ≡ true → acts_in t.body < total = λ e. subst (λ (z : ℕ). acts_in t.body < z) (sym size) (done_more (has_end t.body) (acts_in t.body) e) in
-    let within : acts_in t.body ≤ total = omega arith in
+    let total : ℕ = length (acts ++ done_of (has_end Acts t.body)) in
+    let size : total ≡ acts_in Acts t.body + length (done_of (has_end Acts t.body)) = length-append acts (done_of (has_end Acts t.body)) ∙ ap (λ z. z + length (done_of (has_end Acts t.body))) (states_count m t.body [] 0) in
+    let more : has_end Acts t.body ≡ true → acts_in Acts t.body < total = λ e. subst (λ (z : ℕ). acts_in Acts t.body < z) (sym size) (done_more (has_end Acts t.body) (acts_in Acts t.body) e) in
+    let within : acts_in Acts t.body ≤ total = omega arith in
     record {
       role = known_by (place_of t.role old.roles) t.role old.roles refl fits.role;
-      start = first_good t.body (first_scene old) (acts_in t.body) total fits.body more (omega arith) within;
-      states = good_append acts (done_of (has_end t.body)) (length old.roles) total (states_good t.body m (first_scene old) total refl fits.body more (omega arith) within) (done_good (has_end t.body) (length old.roles) total);
+      start = first_good t.body (first_scene old.roles old.labels) (acts_in Acts t.body) total fits.body more (omega arith) within;
+      states = good_append acts (done_of (has_end Acts t.body)) (length old.roles) total (states_good t.body m (first_scene old.roles old.labels) total refl fits.body more (omega arith) within) (done_good (has_end Acts t.body) (length old.roles) total);
     }
 
 choice_at : (m : Machine_data) (roles s : ℕ) (peer : Role) (arms : List Arm) → Good m roles → Chooses m s peer arms → ChoiceGood roles (length m.states) peer arms

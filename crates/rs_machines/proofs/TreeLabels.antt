@@ -5,11 +5,14 @@ use Rattle.std.specs.Str.{bytes_eq}
 use Rattle.rs_model.specs.declared.values.Sort.{Sort}
 use Rattle.rs_text.specs.Arms.{sort_signs, arm_signs}
 use Rattle.rs_text.specs.Signs.{Sign, rec_word, end_word, plain, comma, dot, open_paren, close_paren, open_brace, close_brace, word_sign}
-use Rattle.rs_machines.specs.declared.marks.Mark.{Mark}
-use Rattle.rs_machines.specs.declared.marks.Mark.TheVariants as mark
+use Rattle.rs_bodies.specs.declared.dialects.Mark.{Mark}
+use Rattle.rs_bodies.specs.declared.dialects.Mark.TheVariants as mark
 use Rattle.rs_machines.specs.Faults.{labels_among}
-use Rattle.rs_machines.specs.Machines.{labels_of, labels_of_arms}
-use Rattle.rs_machines.specs.Trees.{Body, ends, again, binds, acts, offers, Branches, one, more, MachineTree, mark_sign, body_signs, branch_signs, machine_signs}
+use Rattle.rs_machines.specs.Trees.{MachineTree, machine_signs}
+use Rattle.rs_bodies.specs.declared.dialects.Dialect.TheVariants.{Acts}
+use Rattle.rs_bodies.specs.Graph.{labels_of, labels_of_arms}
+use Rattle.rs_bodies.specs.Trees.{Body, ends, again, binds, acts, offers, Branches, one, more, body_signs, branch_signs}
+use Rattle.rs_bodies.specs.Dialects.{mark_sign, with_mark}
 
 word_if : (a b : Bool) (l : List ℕ) (ts : List Sign) → (a ≡ true → l ≡ codes "rec") → (b ≡ true → l ≡ codes "end") → labels_among true ((if a then rec_word else if b then end_word else plain l) ∷ ts) ≡ l ∷ labels_among false ts
 word_if true b l ts e f = ap (λ z. z ∷ labels_among false ts) (sym (e refl))
@@ -31,18 +34,18 @@ marked mark.Puts p ts = refl
 marked mark.Takes p ts = refl
 
 mutual
-  body_labels : (b : Body) (ts : List Sign) → labels_among false (body_signs b ++ ts) ≡ labels_of b ++ labels_among false ts
+  body_labels : (b : Body Acts) (ts : List Sign) → labels_among false (body_signs Acts b ++ ts) ≡ labels_of Acts b ++ labels_among false ts
   body_labels ends ts = refl
   body_labels (again name) ts = refl
   body_labels (binds name body) ts = body_labels body ts
-  body_labels (acts p m l s body) ts = marked m p ((arm_signs l s ++ body_signs body) ++ ts) ∙ ap (λ z. labels_among true z) (append_assoc (arm_signs l s) (body_signs body) ts) ∙ arm_labels l s (body_signs body ++ ts) ∙ ap (λ z. l ∷ z) (body_labels body ts)
-  body_labels (offers p m arms) ts = marked m p (open_brace ∷ ((branch_signs arms ++ close_brace ∷ []) ++ ts)) ∙ ap (λ z. labels_among true z) (append_assoc (branch_signs arms) (close_brace ∷ []) ts) ∙ branch_labels arms (close_brace ∷ ts)
+  body_labels (acts p (with_mark m) l s body) ts = marked m p ((arm_signs l s ++ body_signs Acts body) ++ ts) ∙ ap (λ z. labels_among true z) (append_assoc (arm_signs l s) (body_signs Acts body) ts) ∙ arm_labels l s (body_signs Acts body ++ ts) ∙ ap (λ z. l ∷ z) (body_labels body ts)
+  body_labels (offers p (with_mark m) arms) ts = marked m p (open_brace ∷ ((branch_signs Acts arms ++ close_brace ∷ []) ++ ts)) ∙ ap (λ z. labels_among true z) (append_assoc (branch_signs Acts arms) (close_brace ∷ []) ts) ∙ branch_labels arms (close_brace ∷ ts)
 
-  branch_labels : (arms : Branches) (ts : List Sign) → labels_among true (branch_signs arms ++ ts) ≡ labels_of_arms arms ++ labels_among false ts
-  branch_labels (one l s body) ts = ap (λ z. labels_among true z) (append_assoc (arm_signs l s) (body_signs body) ts) ∙ arm_labels l s (body_signs body ++ ts) ∙ ap (λ z. l ∷ z) (body_labels body ts)
+  branch_labels : (arms : Branches Acts) (ts : List Sign) → labels_among true (branch_signs Acts arms ++ ts) ≡ labels_of_arms Acts arms ++ labels_among false ts
+  branch_labels (one l s body) ts = ap (λ z. labels_among true z) (append_assoc (arm_signs l s) (body_signs Acts body) ts) ∙ arm_labels l s (body_signs Acts body ++ ts) ∙ ap (λ z. l ∷ z) (body_labels body ts)
   branch_labels (more l s body arms) ts =
-      ap (λ z. labels_among true z) (append_assoc (arm_signs l s) (body_signs body ++ comma ∷ branch_signs arms) ts ∙ ap (λ z. arm_signs l s ++ z) (append_assoc (body_signs body) (comma ∷ branch_signs arms) ts))
-      ∙ arm_labels l s (body_signs body ++ comma ∷ (branch_signs arms ++ ts)) ∙ ap (λ z. l ∷ z) (body_labels body (comma ∷ (branch_signs arms ++ ts)) ∙ ap (λ z. labels_of body ++ z) (branch_labels arms ts) ∙ sym (append_assoc (labels_of body) (labels_of_arms arms) (labels_among false ts)))
+      ap (λ z. labels_among true z) (append_assoc (arm_signs l s) (body_signs Acts body ++ comma ∷ branch_signs Acts arms) ts ∙ ap (λ z. arm_signs l s ++ z) (append_assoc (body_signs Acts body) (comma ∷ branch_signs Acts arms) ts))
+      ∙ arm_labels l s (body_signs Acts body ++ comma ∷ (branch_signs Acts arms ++ ts)) ∙ ap (λ z. l ∷ z) (body_labels body (comma ∷ (branch_signs Acts arms ++ ts)) ∙ ap (λ z. labels_of Acts body ++ z) (branch_labels arms ts) ∙ sym (append_assoc (labels_of Acts body) (labels_of_arms Acts arms) (labels_among false ts)))
 
-pub tree_labels : (t : MachineTree) → labels_among false (machine_signs t) ≡ labels_of t.body
-tree_labels t = ap (λ z. labels_among false z) (sym (append-nil (body_signs t.body))) ∙ body_labels t.body [] ∙ append-nil (labels_of t.body)
+pub tree_labels : (t : MachineTree) → labels_among false (machine_signs t) ≡ labels_of Acts t.body
+tree_labels t = ap (λ z. labels_among false z) (sym (append-nil (body_signs Acts t.body))) ∙ body_labels t.body [] ∙ append-nil (labels_of Acts t.body)

@@ -6,12 +6,15 @@ use Rattle.rs_model.specs.declared.graph.Arm.{Arm}
 use Rattle.rs_model.specs.declared.machines.State.TheVariants.{Done}
 use Rattle.rs_model.specs.declared.graph.Role.{Role}
 use Rattle.rs_model.specs.declared.values.Sort.{Sort}
-use Rattle.rs_machines.specs.declared.marks.Mark.{Mark}
+use Rattle.rs_bodies.specs.declared.dialects.Mark.{Mark}
 use Rattle.rs_machines.specs.Machines.{state_of}
-use Rattle.rs_machines.specs.Trees.{Body, ends, again, binds, acts, offers, Branches, one, more, MachineTree}
+use Rattle.rs_machines.specs.Trees.{MachineTree}
 use Rattle.rs_machines.specs.Texts.{machine_text}
 use Rattle.rs_machines.specs.Spells.{SpellsMachine}
 use Rattle.rs_text.specs.Arms.{shown_sort}
+use Rattle.rs_bodies.specs.declared.dialects.Dialect.TheVariants.{Acts}
+use Rattle.rs_bodies.specs.Trees.{Body, ends, again, binds, acts, offers, Branches, one, more}
+use Rattle.rs_bodies.specs.Dialects.{with_mark}
 
 -- some machine part reads to the machine
 pub record IsMachineTextShaped (machine : Machine_data) : Type 0 where
@@ -61,20 +64,20 @@ AreArms names machine n p m Each = (a b : Arm) × (more : List Arm) × IsActOf n
 -- act of a lower number by its name, any other state whole. An act that is gone back to has a rec in front; one arm
 -- stands right behind the mark, more than one in braces.
 abbrev mutual
-  pub Draws : Names_data → Machine_data → (from n : ℕ) → Body → Type 0
+  pub Draws : Names_data → Machine_data → (from n : ℕ) → Body Acts → Type 0
   Draws names machine from n ends = slice_get machine.states n ≡ Some Done
   Draws names machine from n (again name) = (n < from) × (name ≡ name_of_state n)
   Draws names machine from n (binds name body) = (from ≤ n) × (name ≡ name_of_state n) × IsGoneBackTo machine n × DrawsAct names machine n body
-  Draws names machine from n (acts p m label sort body) = (from ≤ n) × (IsGoneBackTo machine n → ⊥) × IsOneArm names machine n p m label sort (λ next. Draws names machine (n + 1) next body)
-  Draws names machine from n (offers p m arms) = (from ≤ n) × (IsGoneBackTo machine n → ⊥) × AreArms names machine n p m (λ ours. DrawsArms names machine (n + 1) ours arms)
+  Draws names machine from n (acts p (with_mark m) label sort body) = (from ≤ n) × (IsGoneBackTo machine n → ⊥) × IsOneArm names machine n p m label sort (λ next. Draws names machine (n + 1) next body)
+  Draws names machine from n (offers p (with_mark m) arms) = (from ≤ n) × (IsGoneBackTo machine n → ⊥) × AreArms names machine n p m (λ ours. DrawsArms names machine (n + 1) ours arms)
 
   -- an act without a rec of its own
-  pub DrawsAct : Names_data → Machine_data → (n : ℕ) → Body → Type 0
-  DrawsAct names machine n (acts p m label sort body) = IsOneArm names machine n p m label sort (λ next. Draws names machine (n + 1) next body)
-  DrawsAct names machine n (offers p m arms) = AreArms names machine n p m (λ ours. DrawsArms names machine (n + 1) ours arms)
+  pub DrawsAct : Names_data → Machine_data → (n : ℕ) → Body Acts → Type 0
+  DrawsAct names machine n (acts p (with_mark m) label sort body) = IsOneArm names machine n p m label sort (λ next. Draws names machine (n + 1) next body)
+  DrawsAct names machine n (offers p (with_mark m) arms) = AreArms names machine n p m (λ ours. DrawsArms names machine (n + 1) ours arms)
   DrawsAct names machine n _ = ⊥
 
-  pub DrawsArms : Names_data → Machine_data → (from : ℕ) → List Arm → Branches → Type 0
+  pub DrawsArms : Names_data → Machine_data → (from : ℕ) → List Arm → Branches Acts → Type 0
   DrawsArms names machine from (a ∷ []) (one label sort body) = IsArmOf names label sort a × Draws names machine from a.next body
   DrawsArms names machine from (a ∷ others) (more label sort body arms) = IsArmOf names label sort a × Draws names machine from a.next body × DrawsArms names machine from others arms
   DrawsArms names machine from _ _ = ⊥

@@ -3,7 +3,7 @@ use Rattle.std.specs.Prelude.{◌≡◌, ℕ, ◌<◌, List, length, Some, slice
 use Rattle.rs_model.specs.Data.{Machine_data, Names_data}
 use Rattle.rs_model.specs.declared.graph.Arm.{Arm}
 use Rattle.rs_model.specs.declared.graph.Role.{Role}
-use Rattle.rs_machines.specs.declared.marks.Mark.{Mark}
+use Rattle.rs_bodies.specs.declared.dialects.Mark.{Mark}
 use Rattle.rs_machines.specs.Machines.{state_of}
 
 -- the machine's role, its peers and its labels have names

@@ -2,8 +2,10 @@
 use Rattle.std.specs.Prelude.{ℕ, List, [], ◌∷◌, codes, Some, None}
 use Rattle.rs_model.specs.Data.{Names_data}
 use Rattle.rs_model.specs.declared.values.Sort.TheVariants as sort
-use Rattle.rs_machines.specs.declared.marks.Mark.TheVariants as mark
-use Rattle.rs_machines.specs.Trees.{MachineTree, binds, offers, more, one, again, ends}
+use Rattle.rs_bodies.specs.declared.dialects.Mark.TheVariants as mark
+use Rattle.rs_machines.specs.Trees.{MachineTree}
+use Rattle.rs_bodies.specs.Trees.{binds, offers, more, one, again, ends}
+use Rattle.rs_bodies.specs.Dialects.{with_mark}
 
 -- a text in which an act is gone back to
 abbrev pub text : List ℕ
@@ -17,5 +19,5 @@ old = record { roles = codes "A" ∷ codes "B" ∷ []; labels = codes "y" ∷ []
 abbrev pub tree : MachineTree
 tree = record {
   role = codes "A";
-  body = binds (codes "X") (offers (codes "B") mark.Puts (more (codes "x") None (again (codes "X")) (one (codes "y") (Some sort.Natural) ends)));
+  body = binds (codes "X") (offers (codes "B") (with_mark mark.Puts) (more (codes "x") None (again (codes "X")) (one (codes "y") (Some sort.Natural) ends)));
 }

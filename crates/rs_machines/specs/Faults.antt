@@ -1,102 +1,12 @@
 -- Believed: the first fault of a text, and the names that it leaves.
-use Rattle.std.specs.Prelude.{◌≡◌, ℕ, ◌⊎◌, List, [], ◌∷◌, ◌++◌, codes, Bool, true, false, Some}
+pub use Rattle.rs_bodies.specs.Faults.{Keeps, LeavesNames, labels_among}
+use Rattle.std.specs.Prelude.{ℕ, List}
 use Rattle.rs_model.specs.Data.{Names_data}
-use Rattle.rs_text.specs.declared.tokens.FaultKind.{FaultKind}
-use Rattle.rs_text.specs.declared.faults.Wanted.{Wanted}
 use Rattle.rs_text.specs.declared.faults.TextKind.{TextKind}
-use Rattle.rs_text.specs.declared.faults.TextKind.TheVariants as kind
-use Rattle.rs_text.specs.Faults.{kind_of}
-use Rattle.rs_text.specs.Lexemes.{signs_of}
-use Rattle.rs_text.specs.Names.{grown}
-use Rattle.rs_text.specs.Signs.{Sign, rec_word, end_word, plain, bang, question, comma, open_brace, broken}
-use Rattle.rs_machines.specs.Trees.{MachineTree, machine_signs}
-use Rattle.rs_machines.specs.Cuts.{Cut, behind_end, behind_name, in_binds, in_acts, behind_brace, MachineCut, in_body, IsBehind, machine_cut_signs, wanted_of}
-use Rattle.rs_text.specs.FirstFaults.{IsWhole, FirstFaultBy}
-use Rattle.rs_machines.specs.Misplaced.{fault_of}
-
--- the tokens begin a machine
-abbrev pub Begins : List Sign → Type 0
-Begins signs = (tree : MachineTree) × (rest : List Sign) × (machine_signs tree ≡ signs ++ rest)
-
--- the place is within the machine, not behind it
-abbrev pub IsWithin : MachineCut → Type 0
-IsWithin (in_body x body) = IsBehind body → ⊥
-IsWithin _ = Unit {0}
-
--- the place is within the machine, or behind a word at its end, which may still be a peer
-abbrev pub EndsByName : Cut → Type 0
-EndsByName (behind_name n) = Unit {0}
-EndsByName (in_binds n b) = EndsByName b
-EndsByName (in_acts p m l sort b) = EndsByName b
-EndsByName behind_end = ⊥
-EndsByName (behind_brace p m arms) = ⊥
-EndsByName _ = Unit {0}
-
--- at that place the machine is still read
-abbrev pub IsInReach : MachineCut → Type 0
-IsInReach (in_body x body) = EndsByName body
-IsInReach _ = Unit {0}
-
--- the tokens before it begin a machine that goes on, and with it they begin none
-pub record IsUnexpected (before : List Sign) (t : Sign) (wanted : Wanted) : Type 0 where
-  pub whole : IsWhole t
-  pub place : MachineCut
-  pub stands : machine_cut_signs place ≡ before
-  pub within : IsWithin place
-  pub wants : wanted_of place ≡ wanted
-  pub stops : Begins (before ++ t ∷ []) → ⊥
-
--- it breaks a rule of names or limits at its place
-pub record IsMisplaced (old : Names_data) (before : List Sign) (t next : Sign) (kind : TextKind) : Type 0 where
-  pub place : MachineCut
-  pub stands : machine_cut_signs place ≡ before
-  pub fault : fault_of old place t next ≡ Some kind
-
--- it is a faulty token where the machine is still read
-pub record IsBroken (before : List Sign) (t : Sign) (kind : FaultKind) : Type 0 where
-  pub broken_is : t ≡ broken kind
-  pub place : MachineCut
-  pub stands : machine_cut_signs place ≡ before
-  pub reached : IsInReach place
-
--- the faults of a token, with the names that were there, the tokens before it and the one behind it
-abbrev pub FaultAt : (old : Names_data) → (before : List Sign) → (t next : Sign) → TextKind → Type 0
-FaultAt old before t next k = ((w : Wanted) × (k ≡ kind.Expected w) × IsUnexpected before t w) ⊎ (IsMisplaced old before t next k ⊎ ((j : FaultKind) × (k ≡ kind_of j) × IsBroken before t j))
+use Rattle.rs_text.specs.FirstFaults.{FirstFaultBy}
+use Rattle.rs_bodies.specs.declared.dialects.Dialect.TheVariants.{Acts}
+use Rattle.rs_bodies.specs.Faults.{FaultAt}
 
 -- the fault at the least offset, and at one token the one with the least number
 abbrev pub FirstFault : (old : Names_data) → (bytes : List ℕ) → (at : ℕ) → TextKind → (offset : ℕ) → Type 0
-FirstFault old bytes at kind offset = FirstFaultBy (FaultAt old) bytes at kind offset
-
--- behind a mark, a brace that opens and a comma a label stands
-abbrev pub opens_arm : Sign → Bool
-opens_arm bang = true
-opens_arm question = true
-opens_arm open_brace = true
-opens_arm comma = true
-opens_arm _ = false
-
--- a word, where a label stands
-abbrev pub label_there : (here : Bool) → Sign → List (List ℕ)
-label_there true rec_word = codes "rec" ∷ []
-label_there true end_word = codes "end" ∷ []
-label_there true (plain text) = text ∷ []
-label_there _ t = []
-
--- the labels among the tokens of a machine, in order; `here` says whether one may stand first
-abbrev pub labels_among : (here : Bool) → List Sign → List (List ℕ)
-labels_among here [] = []
-labels_among here (t ∷ ts) = label_there here t ++ labels_among (opens_arm t) ts
-
--- the names with the labels of these tokens
-abbrev pub names_behind : Names_data → List Sign → Names_data
-names_behind old signs = record { roles = old.roles; labels = grown old.labels (labels_among false signs) }
-
--- the first fault leaves the names with the labels of the tokens before it
-abbrev pub LeavesNames : (old new : Names_data) → (bytes : List ℕ) → (at : ℕ) → (kind : TextKind) → (offset : ℕ) → Type 0
-LeavesNames old new bytes at kind offset = (fault : FirstFault old bytes at kind offset) × (new ≡ names_behind old (signs_of fault.before))
-
--- the names that were there stay in their places
-pub record Keeps (old new : Names_data) : Type 0 where
-  pub later : List (List ℕ)
-  pub roles : new.roles ≡ old.roles
-  pub labels : new.labels ≡ old.labels ++ later
+FirstFault old bytes at kind offset = FirstFaultBy (FaultAt Acts old) bytes at kind offset

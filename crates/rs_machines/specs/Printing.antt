@@ -5,8 +5,8 @@ use Rattle.rs_model.specs.declared.graph.Arm.{Arm}
 use Rattle.rs_model.specs.declared.machines.State.{State}
 use Rattle.rs_model.specs.declared.machines.State.TheVariants.{Done, Puts, Takes}
 use Rattle.rs_model.specs.declared.graph.Role.{Role}
-use Rattle.rs_machines.specs.declared.marks.Mark.{Mark}
-use Rattle.rs_machines.specs.declared.marks.Mark.TheVariants as mark
+use Rattle.rs_bodies.specs.declared.dialects.Mark.{Mark}
+use Rattle.rs_bodies.specs.declared.dialects.Mark.TheVariants as mark
 use Rattle.rs_machines.specs.declared.printing.Target.{Target}
 use Rattle.rs_machines.specs.Canonical.{name_of_state, IsGoneBackTo}
 use Rattle.rs_machines.specs.Texts.{mark_text}

@@ -7,7 +7,9 @@ ghost use Rattle.rs_machines.specs.Canonical.{IsCanonical, IsCanonicalMachineTex
 ghost use Rattle.rs_machines.specs.Enough.{AreEnoughFor};
 ghost use Rattle.rs_machines.specs.Machines.{machine_of, names_of};
 ghost use Rattle.rs_machines.specs.Spells.{Fits, SpellsMachine};
-ghost use Rattle.rs_machines.specs.Trees.{MachineTree, ends_a_name, ends_by_name};
+ghost use Rattle.rs_machines.specs.Trees.{MachineTree};
+ghost use Rattle.rs_bodies.specs.declared.dialects.Dialect.TheVariants.{Acts};
+ghost use Rattle.rs_bodies.specs.Trees.{ends_a_name, ends_by_name};
 ghost use Rattle.rs_machines.specs.Writable.{AreWords};
 
 /// A machine that some text spells has a canonical text, for names that are enough ..
@@ -52,7 +54,7 @@ pub fn printed_text_is_read_again()
 
 /// .. wherever it stands, as far as the next token. That is no mark and not faulty, where a recursion name ends it.
 pub fn printed_text_is_read_anywhere()
-    ensures { (bytes : List ℕ) (at : ℕ) (names : Names_data) (machine : Machine_data) (text behind : List ℕ) → IsMachineTextShaped machine → IsSound names → AreEnoughFor names machine → (canonical : IsCanonicalMachineText names machine text) → drop at bytes ≡ text ++ behind → (ends_by_name canonical.tree.body ≡ true → ends_a_name (next_lexeme bytes (at + length text)).sign ≡ true) → SpellsMachine bytes at names names machine (next_lexeme bytes (at + length text)).from }
+    ensures { (bytes : List ℕ) (at : ℕ) (names : Names_data) (machine : Machine_data) (text behind : List ℕ) → IsMachineTextShaped machine → IsSound names → AreEnoughFor names machine → (canonical : IsCanonicalMachineText names machine text) → drop at bytes ≡ text ++ behind → (ends_by_name Acts canonical.tree.body ≡ true → ends_a_name Acts (next_lexeme bytes (at + length text)).sign ≡ true) → SpellsMachine bytes at names names machine (next_lexeme bytes (at + length text)).from }
 {}
 
 /// What was read with older names is read with them again from its printed text, and the same new names come.

@@ -6,10 +6,12 @@ ghost use Rattle.rs_text.specs.declared.faults.TextKind.{TextKind};
 ghost use Rattle.rs_text.specs.declared.faults.TextKind.TheVariants as kind;
 ghost use Rattle.rs_text.specs.declared.faults.Wanted.{Wanted};
 ghost use Rattle.rs_text.specs.Lexemes.{signs_of};
-ghost use Rattle.rs_machines.specs.Faults.{Begins, FirstFault, IsUnexpected, LeavesNames, labels_among};
-ghost use Rattle.rs_machines.specs.Machines.{labels_of};
+ghost use Rattle.rs_bodies.specs.declared.dialects.Dialect.TheVariants.{Acts};
+ghost use Rattle.rs_bodies.specs.Faults.{Begins, IsUnexpected};
+ghost use Rattle.rs_machines.specs.Faults.{FirstFault, LeavesNames, labels_among};
+ghost use Rattle.rs_bodies.specs.Graph.{labels_of};
 ghost use Rattle.rs_machines.specs.Trees.{MachineTree, machine_signs};
-ghost use Rattle.rs_machines.specs.Feeding.{Answer, ReadsAs};
+ghost use Rattle.rs_machines.specs.Answers.{Answer, ReadsAs};
 ghost use Rattle.rs_machines.specs.Spells.{SpellsMachine};
 
 /// Whatever fault the reader tells is the first fault of the text ..
@@ -34,13 +36,13 @@ pub fn read_text_has_no_fault()
 
 /// The tokens before the first fault begin a machine.
 pub fn tokens_before_the_fault_begin_a_machine()
-    ensures { (old : Names_data) (bytes : List ℕ) (at : ℕ) (kind : TextKind) (offset : ℕ) (fault : FirstFault old bytes at kind offset) → Begins (signs_of fault.before) }
+    ensures { (old : Names_data) (bytes : List ℕ) (at : ℕ) (kind : TextKind) (offset : ℕ) (fault : FirstFault old bytes at kind offset) → Begins Acts (signs_of fault.before) }
 {}
 
 /// Where another token is expected, the tokens up to that one begin a machine and with it they begin none, and what is
 /// wanted is what its place wants.
 pub fn expected_is_unexpected()
-    ensures { (old : Names_data) (bytes : List ℕ) (at : ℕ) (wanted : Wanted) (offset : ℕ) (fault : FirstFault old bytes at (kind.Expected wanted) offset) → IsUnexpected (signs_of fault.before) fault.token.sign wanted }
+    ensures { (old : Names_data) (bytes : List ℕ) (at : ℕ) (wanted : Wanted) (offset : ℕ) (fault : FirstFault old bytes at (kind.Expected wanted) offset) → IsUnexpected Acts (signs_of fault.before) fault.token.sign wanted }
 {}
 
 /// A text that a tree spells is read ..
@@ -60,5 +62,5 @@ pub fn first_fault_leaves_one_list_of_names()
 
 /// The labels among the tokens of a machine are those of its tree.
 pub fn labels_of_tokens_are_those_of_the_tree()
-    ensures { (tree : MachineTree) → labels_among false (machine_signs tree) ≡ labels_of tree.body }
+    ensures { (tree : MachineTree) → labels_among false (machine_signs tree) ≡ labels_of Acts tree.body }
 {}

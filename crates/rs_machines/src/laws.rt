@@ -4,7 +4,7 @@ ghost use Rattle.rs_text.specs.declared.faults.TextFault.{TextFault};
 ghost use Rattle.rs_text.specs.declared.faults.TextKind.TheVariants as kind;
 ghost use Rattle.rs_text.specs.declared.faults.Wanted.TheVariants as wanted;
 ghost use Rattle.rs_machines.specs.Examples.{text, old, tree};
-ghost use Rattle.rs_machines.specs.Feeding.{Answer, ReadsAs};
+ghost use Rattle.rs_machines.specs.Answers.{Answer, ReadsAs};
 ghost use Rattle.rs_machines.specs.Faults.{FirstFault};
 ghost use Rattle.rs_machines.specs.Machines.{machine_of, names_of};
 ghost use Rattle.rs_machines.specs.MachineFaults.{IsFaultOfText};

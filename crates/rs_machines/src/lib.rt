@@ -2,16 +2,13 @@
 #![tactic(auto)]
 
 pub mod canonical_laws;
-mod drafts;
 pub mod fault_laws;
 pub mod laws;
 mod machines;
-mod marks;
 mod printing;
 pub mod printing_laws;
 #[cfg(test)]
 mod printing_tests;
-mod reading;
 mod shapes;
 pub mod spelling_laws;
 mod tables;
@@ -19,7 +16,7 @@ mod tables;
 mod tests;
 
 pub use machines::read_machine;
-pub use marks::Mark;
+pub use rs_bodies::Mark;
 pub use printing::print_machine;
 pub use shapes::machine_text_shaped;
 pub use tables::print_table;

@@ -1,18 +1,15 @@
-ghost use Rattle.std.specs.Prelude.{◌≡◌, ◌≤◌, length, IfOk, IfErr, ◌⊎◌, Ok};
+ghost use Rattle.std.specs.Prelude.{◌≡◌, ◌≤◌, ◌+◌, ◌++◌, length, map, take, IfOk, IfErr, ◌⊎◌};
 ghost use Rattle.rs_text.specs.declared.faults.TextKind.TheVariants as kind;
-ghost use Rattle.rs_machines.specs.Drafts.{names_read, machine_read};
-ghost use Rattle.rs_machines.specs.Faults.{FirstFault, Keeps, LeavesNames};
-ghost use Rattle.rs_machines.specs.Feeding.{feeding, Leaves, Reads};
-ghost use Rattle.rs_machines.specs.Spells.{SpellsMachine};
-ghost use Rattle.rs_text.specs.Readings.{StopsBy};
 ghost use Rattle.rs_text.specs.Sound.{IsSound};
+ghost use Rattle.rs_machines.specs.Faults.{FirstFault, Keeps, LeavesNames};
+ghost use Rattle.rs_machines.specs.Machines.{done_of, state_of};
+ghost use Rattle.rs_machines.specs.Parts.{machine_spelt, state_at, state_by};
+ghost use Rattle.rs_machines.specs.Spells.{SpellsMachine};
 
-use crate::drafts::{settled_number, states};
-use crate::reading::Reader;
-use rs_model::{Machine, Names, NoMemory};
-use rs_text::{Lexer, Stop, TextFault};
+use rs_bodies::{Dialect, Head, Mark, Point, Spelling, read_part};
+use rs_model::{Arms, Machine, Names, NoMemory, Role, State};
+use rs_text::{Stop, TextFault};
 use std::alloc::Global;
-use std::mem;
 
 /// Reads a machine part from the offset `at` on, and gives the machine and the offset of the first byte behind it that
 /// is neither a blank nor in a comment, or the length. The names are sound, with at most 16 roles and 256 labels.
@@ -45,66 +42,68 @@ pub fn read_machine(
     ensures within { IfOk result (λ r. r.1 ≤ length bytes.now) }
     ensures place { IfErr result (λ e. e.at ≤ length bytes.now) }
 {
-    let labels = mem::replace(&mut names.labels, Vec::new(alloc));
-    let mut reader = Reader::new(alloc, names.roles.as_slice(), labels);
-    let result = read_with(alloc, &mut reader, bytes, at);
-    names.labels = reader.labels;
-    match result {
-        Ok(read) => Ok(read),
-        Err(stop) => Err(stop.told(at)),
+    let (spelling, until) = read_part(alloc, Dialect::Acts, bytes, at, names)?;
+    match machine(alloc, spelling) {
+        Ok(machine) => Ok((machine, until)),
+        Err(_) => Err(Stop::Memory.told(at)),
     }
 }
 
-/// Reads the machine and makes it of what was read.
-fn read_with<'a>(
-    alloc: Global,
-    reader: &mut Reader<'a>,
-    bytes: &'a [u8],
-    at: usize,
-) -> Result<(Machine, usize), Stop>
-    requires at { at ≤ length bytes.now }
-    requires sound { IsSound (names_read reader.old) }
-    ensures ok { IfOk result (λ r. Reads reader.old bytes.now at (Ok (record { reader = reader.new; until = r.1 }))) }
-    ensures machine { IfOk result (λ r. r.0 ≡ machine_read reader.new) }
-    ensures states { IfOk result (λ r. length r.0.states ≤ 257) }
-    ensures within { IfOk result (λ r. r.1 ≤ length bytes.now) }
-    ensures err { IfErr result (λ e. StopsBy feeding e reader.old bytes.now at) }
-    ensures left { IfErr result (λ e. Leaves e reader.old bytes.now at reader.new.labels) }
-    ensures sound { IsSound (names_read reader.new) }
-    ensures kept { Keeps (names_read reader.old) (names_read reader.new) }
+/// The machine of what was read.
+fn machine(alloc: Global, spelling: Spelling) -> Result<Machine, NoMemory>
+    ensures machine { IfOk result (λ r. r ≡ machine_spelt spelling) }
+    ensures count { IfOk result (λ r. length r.states ≤ length spelling.points + 1) }
 {
-    let until = read(reader, bytes, at)?;
-    let machine = machine(alloc, reader)?;
-    Ok((machine, until))
-}
-
-/// The machine that was read.
-fn machine(alloc: Global, reader: &Reader) -> Result<Machine, NoMemory>
-    ensures machine { IfOk result (λ r. r ≡ machine_read reader.now) }
-    ensures states { IfOk result (λ r. length r.states ≤ 257) }
-{
-    let last = reader.drafts.len() as u32;
+    let role = spelling.role;
+    let start = spelling.start;
+    let ended = spelling.ended;
     Ok(Machine {
-        role: reader.role,
-        states: states(alloc, reader.drafts.as_slice(), last, reader.ended)?,
-        start: settled_number(last, reader.start),
+        role,
+        states: states(alloc, spelling.points, ended)?,
+        start,
     })
 }
 
-fn read<'a>(reader: &mut Reader<'a>, bytes: &'a [u8], at: usize) -> Result<usize, Stop>
-    requires at { at ≤ length bytes.now }
-    requires sound { IsSound (names_read reader.old) }
-    ensures ok { IfOk result (λ until. Reads reader.old bytes.now at (Ok (record { reader = reader.new; until = until }))) }
-    ensures within { IfOk result (λ until. until ≤ length bytes.now) }
-    ensures err { IfErr result (λ e. StopsBy feeding e reader.old bytes.now at) }
-    ensures left { IfErr result (λ e. Leaves e reader.old bytes.now at reader.new.labels) }
-    ensures sound { IsSound (names_read reader.new) }
-    ensures kept { Keeps (names_read reader.old) (names_read reader.new) }
+/// The states of heads, with the end behind them where there is one.
+fn states(alloc: Global, points: Vec<Point>, ended: bool) -> Result<Vec<State>, NoMemory>
+    ensures states { IfOk result (λ states. states.items ≡ map state_at points.items ++ done_of ended) }
+    ensures count { IfOk result (λ states. length states.items ≤ length points.items + 1) }
 {
-    let mut lexer = Lexer::new(bytes, at);
-    while !reader.is_read() {
-        let token = lexer.next()?;
-        reader.feed(bytes, token)?;
+    let mut states = acts(alloc, points)?;
+    if ended {
+        states.push(State::Done)?;
     }
-    Ok(lexer.next_offset())
+    Ok(states)
+}
+
+fn acts(alloc: Global, points: Vec<Point>) -> Result<Vec<State>, NoMemory>
+    ensures count { IfOk result (λ states. length states.items ≡ length points.items) }
+    ensures states { IfOk result (λ states. states.items ≡ map state_at points.items) }
+{
+    let mut states = Vec::new(alloc);
+    for point in points {
+        let Point { head, arms } = point;
+        states.push(state(head, arms))?;
+    }
+    Ok(states)
+}
+
+/// The state of a head. A machine has acts alone.
+fn state(head: Head, arms: Arms) -> State
+    ensures { result ≡ state_by head arms }
+{
+    match head {
+        Head::Act { peer, mark } => act(mark, peer, arms),
+        Head::Talk { .. } => State::Done,
+    }
+}
+
+/// A state that puts to the peer or takes from it.
+fn act(mark: Mark, peer: Role, arms: Arms) -> State
+    ensures { result ≡ state_of mark peer arms }
+{
+    match mark {
+        Mark::Puts => State::Puts { peer, arms },
+        Mark::Takes => State::Takes { peer, arms },
+    }
 }

@@ -8,9 +8,10 @@ ghost use Rattle.rs_machines.specs.Printing as spec;
 ghost use Rattle.rs_machines.specs.Printing.{AreBack, Step, marked, marked_all, pair_text, head_text, rec_text, state_step, act_step, whole_step, arms_step, brace_step};
 ghost use Rattle.rs_machines.specs.Texts as text;
 ghost use Rattle.rs_machines.specs.Texts.{body_text};
-ghost use Rattle.rs_machines.specs.Trees.{Body};
+ghost use Rattle.rs_bodies.specs.declared.dialects.Dialect.TheVariants.{Acts};
+ghost use Rattle.rs_bodies.specs.Trees.{Body};
 
-use crate::marks::Mark;
+use rs_bodies::Mark;
 use crate::tables::{push_name, sort_name};
 use rs_model::{Arm, Machine, Names, NoMemory, Role, State};
 use rs_text::Text;
@@ -300,7 +301,7 @@ impl<'a> Printer<'a> {
 /// Writes the body of the machine behind a text.
 fn body(alloc: Global, names: &Names, machine: &Machine, text: Text) -> Result<Text, NoMemory>
     requires { IsMachineTextShaped machine.now }
-    ensures { IfOk result (λ whole. (body : Body) → Draws names.now machine.now 0 machine.now.start body → whole ≡ text ++ body_text body) }
+    ensures { IfOk result (λ whole. (body : Body Acts) → Draws names.now machine.now 0 machine.now.start body → whole ≡ text ++ body_text body) }
 {
     let flags = gone_back_to(alloc, machine.states.as_slice())?;
     let mut printer = Printer::new(alloc, names, machine, flags, text);

@@ -9,7 +9,9 @@ ghost use Rattle.rs_machines.specs.Enough.{AreEnoughFor};
 ghost use Rattle.rs_machines.specs.Machines.{machine_of, names_of};
 ghost use Rattle.rs_machines.specs.Spells.{Fits, SpellsMachine};
 ghost use Rattle.rs_machines.specs.Texts.{machine_text};
-ghost use Rattle.rs_machines.specs.Trees.{MachineTree, ends_a_name, ends_by_name, machine_signs};
+ghost use Rattle.rs_machines.specs.Trees.{MachineTree, machine_signs};
+ghost use Rattle.rs_bodies.specs.declared.dialects.Dialect.TheVariants.{Acts};
+ghost use Rattle.rs_bodies.specs.Trees.{ends_a_name, ends_by_name};
 ghost use Rattle.rs_machines.specs.Writable.{AreWords};
 
 /// The text of a tree is written for its tokens, whatever stands behind it.
@@ -20,7 +22,7 @@ pub fn text_of_a_tree_is_written()
 /// Where the text of a tree stands, the tree is spelt, as far as the next token. That is no mark and not faulty, where a
 /// recursion name ends the tree.
 pub fn text_of_a_tree_spells_it()
-    ensures { (bytes : List ℕ) (at : ℕ) (old : Names_data) (tree : MachineTree) (behind : List ℕ) → AreWords tree → Fits old tree → drop at bytes ≡ machine_text tree ++ behind → (ends_by_name tree.body ≡ true → ends_a_name (next_lexeme bytes (at + length (machine_text tree))).sign ≡ true) → SpellsMachine bytes at old (names_of old tree) (machine_of old tree) (next_lexeme bytes (at + length (machine_text tree))).from }
+    ensures { (bytes : List ℕ) (at : ℕ) (old : Names_data) (tree : MachineTree) (behind : List ℕ) → AreWords tree → Fits old tree → drop at bytes ≡ machine_text tree ++ behind → (ends_by_name Acts tree.body ≡ true → ends_a_name Acts (next_lexeme bytes (at + length (machine_text tree))).sign ≡ true) → SpellsMachine bytes at old (names_of old tree) (machine_of old tree) (next_lexeme bytes (at + length (machine_text tree))).from }
 {}
 
 /// A text that is the tree's alone spells it as far as its end.

@@ -3,7 +3,7 @@ ghost use Rattle.std.specs.Prelude.{◌≡◌, ◌≤◌, ◌⊎◌, ℕ, List, 
 ghost use Rattle.rs_model.specs.Data.{Names_data, Machine_data};
 ghost use Rattle.rs_text.specs.declared.faults.TextKind.{TextKind};
 ghost use Rattle.rs_machines.specs.Faults.{FirstFault};
-ghost use Rattle.rs_machines.specs.Feeding.{Answer, ReadsAs};
+ghost use Rattle.rs_machines.specs.Answers.{Answer, ReadsAs};
 ghost use Rattle.rs_machines.specs.Spells.{SpellsMachine};
 
 /// Whatever machine is read from a text, the text spells it ..

@@ -17,7 +17,7 @@ use Rattle.rs_rings.specs.Acts.{numbered, sent_act, got_act, message_of, Happene
 use Rattle.rs_rings.specs.Places.{head_of, tail_of, place_of}
 use Rattle.rs_rings.specs.Rule.{RingFacts, RingRule, ring_facts, AreLegal, Shows, machines_of, configuration_of}
 use Rattle.rs_rings.specs.Steps.{HasFittingArm, Call, LoadsHead, StoresTail, LoadsTail, StoresHead, GivesEmptied}
-use Rattle.rs_rings.specs.Views.{last_found, is_putting, taken_from, speaks, the_part, with_part, looked_head, gaining, sending, looked_tail, taking, getting}
+use Rattle.rs_rings.specs.Views.{last_found, is_putting, taken_from, speaks, the_part, with_part, looked_head, gaining, sending, looked_tail, taking, getting, KnowsGot, KnowsSent, KnowsOldest}
 use Rattle.rs_rings.specs.declared.views.Middle.{Middle}
 use Rattle.rs_rings.specs.declared.views.Middle.TheVariants.{Idle, Putting, Taking}
 use Rattle.rs_rings.proofs.OneRing.{below_at, looks_head, looks_tail, gains_free, gives_full, gains_full, gives_free, behind}
@@ -122,6 +122,7 @@ module _ (key : Key) (slots id : ℕ) (me : Me (Option Parcel) View) (p q next :
       let fl : RingRule c' (ring_facts n' c' s.words s.homes p q a b) = subst (λ (z : Part). RingRule c' (ring_facts n' c' s.words s.homes p q z b)) is (sh.rings p q kn.0 below apart) in
       let i : ℕ = head_of n' p q in let r : ℕ = slice_index s.words i in let hd : r ≡ length (parcels_got p b.history) = fl.head_is in let room = fl.room in let role = the_role p v.parts says in let pair : IsPair n' p q = record { sender = kn.0; receiver = below; differ = apart } in
       let seen : last_found q a.heads ≤ r = (let z = fl.read_head in omega arith) in
+      let knows : KnowsGot v p q r = λ too. hd ∙ ap (λ (z : Part). length (parcels_got p z.history)) (known_is n' sh.owner sh.known s.views sh.spoken id v at q too).1 in
       let sent : ℕ = length (parcels_sent q a.history) in let bh : length (parcels_got p b.history) ≤ sent = behind c' (ring_facts n' c' s.words s.homes p q a b) fl in
       dite (ℕ_discrete sent (r + c'))
       (λ full. (
@@ -132,7 +133,7 @@ module _ (key : Key) (slots id : ℕ) (me : Me (Option Parcel) View) (p q next :
             (λ y ny. (refl, found_other y q r a.heads ny, refl)) (λ x. (refl, refl, refl))
             (subst (RingRule c') (λ j. record { tail = slice_index s.words (tail_of n' p q); head = r; slot = λ k. get_elem? s.homes (place_of n' c' p q k); sent = parcels_sent q a.history; got = parcels_got p b.history; seen_head = sym (found_here q r a.heads) j; seen_tail = last_found p b.tails; putting = is_putting q a.middle; taking = taken_from p b.middle })
             (looks_head c' (ring_facts n' c' s.words s.homes p q a b) fl r (omega arith))) (same_legal (machines_of key) sh.known p (looked_head q r a) (ap (λ (z : Part). z.state) (sym is)) (ap (λ (z : Part). z.history) (sym is)) sh.legal)),
-        (seen, (let g : r ≤ sent = omega arith in g), (let g : sent ≤ r + c' = omega arith in g), (λ _. refl), (λ no. absurd (no full))),
+        (seen, (let g : r ≤ sent = omega arith in g), (let g : sent ≤ r + c' = omega arith in g), (λ _. refl), (λ no. absurd (no full)), knows),
       ))
       (λ more. let k₀ : ℕ = place_of n' c' p q sent in let free : sent < length (parcels_got p b.history) + c' = omega arith in let still : is_putting q a.middle ≡ false = ap (is_putting q) idle in (
         with_part p (gaining q r a) v,
@@ -144,7 +145,7 @@ module _ (key : Key) (slots id : ℕ) (me : Me (Option Parcel) View) (p q next :
             (subst (RingRule c') (λ j. record { tail = slice_index s.words (tail_of n' p q); head = r; slot = λ k. get_elem? (set s.homes k₀ none) (place_of n' c' p q k); sent = parcels_sent q a.history; got = parcels_got p b.history; seen_head = sym (found_here q r a.heads) j; seen_tail = last_found p b.tails; putting = sym (putting_here q) j; taking = taken_from p b.middle })
             (gains_free c' (ring_facts n' c' s.words s.homes p q a b) fl (λ k. get_elem? (set s.homes k₀ none) (place_of n' c' p q k)) r still free
             (λ k lo hi ne. set_else s.homes k₀ (place_of n' c' p q k) none (counts_apart n' c' p q (length (parcels_got p b.history)) k sent sh.roomy lo hi bh free ne)) (omega arith))) (same_legal (machines_of key) sh.known p (gaining q r a) (ap (λ (z : Part). z.state) (sym is)) (ap (λ (z : Part). z.history) (sym is)) sh.legal)),
-        (seen, (let g : r ≤ sent = omega arith in g), (let g : sent ≤ r + c' = omega arith in g), (λ e. absurd (more e)), (λ _. refl)),
+        (seen, (let g : r ≤ sent = omega arith in g), (let g : sent ≤ r + c' = omega arith in g), (λ e. absurd (more e)), (λ _. refl), knows),
       ))
 
   -- kind 3
@@ -154,6 +155,7 @@ module _ (key : Key) (slots id : ℕ) (me : Me (Option Parcel) View) (p q next :
       let fl : RingRule c' (ring_facts n' c' s.words s.homes p q a b) = subst (λ (z : Part). RingRule c' (ring_facts n' c' s.words s.homes p q a z)) is (sh.rings p q low kn.0 apart) in
       let i : ℕ = tail_of n' p q in let r : ℕ = slice_index s.words i in let tl : r ≡ length (parcels_sent q a.history) = fl.tail_is in let room = fl.room in let role = the_role q v.parts says in let pair : IsPair n' p q = record { sender = low; receiver = kn.0; differ = apart } in
       let seen : last_found p b.tails ≤ r = (let z = fl.read_tail in omega arith) in
+      let knows : KnowsSent v p q r = λ too. tl ∙ ap (λ (z : Part). length (parcels_sent q z.history)) (known_is n' sh.owner sh.known s.views sh.spoken id v at p too).1 in
       let got : ℕ = length (parcels_got p b.history) in let bh : got ≤ length (parcels_sent q a.history) = behind c' (ring_facts n' c' s.words s.homes p q a b) fl in
       dite (ℕ_discrete got r)
       (λ empty. (
@@ -164,10 +166,11 @@ module _ (key : Key) (slots id : ℕ) (me : Me (Option Parcel) View) (p q next :
             (λ x. (refl, refl, refl)) (λ y ny. (refl, found_other y p r b.tails ny, refl))
             (subst (RingRule c') (λ j. record { tail = r; head = slice_index s.words (head_of n' p q); slot = λ k. get_elem? s.homes (place_of n' c' p q k); sent = parcels_sent q a.history; got = parcels_got p b.history; seen_head = last_found q a.heads; seen_tail = sym (found_here p r b.tails) j; putting = is_putting q a.middle; taking = taken_from p b.middle })
             (looks_tail c' (ring_facts n' c' s.words s.homes p q a b) fl r (omega arith))) (same_legal (machines_of key) sh.known q (looked_tail p r b) (ap (λ (z : Part). z.state) (sym is)) (ap (λ (z : Part). z.history) (sym is)) sh.legal)),
-        (seen, (let g : got ≤ r = omega arith in g), (let g : r ≤ got + c' = omega arith in g), (λ _. refl), (λ no. absurd (no empty))),
+        (seen, (let g : got ≤ r = omega arith in g), (let g : r ≤ got + c' = omega arith in g), (λ _. refl), (λ no. absurd (no empty)), knows),
       ))
       (λ more. let k₀ : ℕ = place_of n' c' p q got in let there = below_at (parcels_sent q a.history) got (omega arith) in let x : Parcel = there.0 in let still : taken_from p b.middle ≡ None = ap (taken_from p) idle in
       let head : (configuration_of sh.known).queue p q ≡ message_of x ∷ map message_of (drop (suc got) (parcels_sent q a.history)) = ap (λ (l : List Parcel). map message_of l) (ap (λ (z : Part). drop (length (parcels_got p z.history)) (parcels_sent q a.history)) is ∙ drop_at (parcels_sent q a.history) got x there.1) in
+      let oldest : KnowsOldest v p q x = λ too. subst (λ (z : Part). drop got (parcels_sent q z.history) ≡ x ∷ drop (suc got) (parcels_sent q z.history)) (known_is n' sh.owner sh.known s.views sh.spoken id v at p too).1 (drop_at (parcels_sent q a.history) got x there.1) in
       let fits_arms : HasFittingArm arms x = fitting_arm (machines_of key) (configuration_of sh.known) q p arms x (map message_of (drop (suc got) (parcels_sent q a.history))) sh.safe sh.well_formed (reached (machines_of key) (λ r'. (sh.known r').history) (configuration_of sh.known) sh.legal) (ap (λ (z : Part). state_of (slice_get (machines_of key) q) z.state) is ∙ stands) head in (
         with_part q (taking p x r b) v,
         takes k₀ (Some x),
@@ -178,7 +181,7 @@ module _ (key : Key) (slots id : ℕ) (me : Me (Option Parcel) View) (p q next :
             (subst (RingRule c') (λ j. record { tail = r; head = slice_index s.words (head_of n' p q); slot = λ k. get_elem? (set s.homes k₀ none) (place_of n' c' p q k); sent = parcels_sent q a.history; got = parcels_got p b.history; seen_head = last_found q a.heads; seen_tail = sym (found_here p r b.tails) j; putting = is_putting q a.middle; taking = sym (taken_here p x) j })
             (gains_full c' (ring_facts n' c' s.words s.homes p q a b) fl (λ k. get_elem? (set s.homes k₀ none) (place_of n' c' p q k)) r x still there.1
             (λ k lo hi ne. set_else s.homes k₀ (place_of n' c' p q k) none (counts_apart n' c' p q got k got sh.roomy lo hi (le_refl got) (let z = sh.roomy in omega arith) ne)) (omega arith))) (same_legal (machines_of key) sh.known q (taking p x r b) (ap (λ (z : Part). z.state) (sym is)) (ap (λ (z : Part). z.history) (sym is)) sh.legal)),
-        (seen, (let g : got ≤ r = omega arith in g), (let g : r ≤ got + c' = omega arith in g), (λ e. absurd (more e)), (λ _. (x, fits_arms, refl))),
+        (seen, (let g : got ≤ r = omega arith in g), (let g : r ≤ got + c' = omega arith in g), (λ e. absurd (more e)), (λ _. (x, fits_arms, refl, oldest)), knows),
       ))
 
 module _ (key : Key) (slots id : ℕ) (v : View) (cs : List (ℕ × Option Parcel)) (p q new : ℕ) (apart : p ≢ q) (x : Parcel) (arms all : List Arm) (arm : Arm) (picked : (place : ℕ) × (slice_get all place ≡ Some arm) × (arm.label ≡ x.label)) (has : HasSort x.value arm.sort) where

@@ -8,7 +8,7 @@ use Rattle.rs_core.specs.Core.{arm_with}
 use Rattle.rs_slots.specs.declared.parcels.Parcel.{Parcel}
 use Rattle.rs_rings.specs.Acts.{sent_act, got_act, parcels_sent, parcels_got, Happened}
 use Rattle.rs_rings.specs.Places.{place_of}
-use Rattle.rs_rings.specs.Views.{the_part, last_found, with_part, looked_head, gaining, sending, looked_tail, taking, getting}
+use Rattle.rs_rings.specs.Views.{the_part, last_found, with_part, looked_head, gaining, sending, looked_tail, taking, getting, KnowsGot, KnowsSent, KnowsOldest}
 use Rattle.rs_rings.specs.declared.views.Middle.{Middle}
 use Rattle.rs_rings.specs.declared.views.Middle.TheVariants.{Idle, Putting, Taking}
 use Rattle.rs_rings.specs.declared.views.Part.{Part}
@@ -53,6 +53,7 @@ LoadsHead w st m r m' =
     (last_found w.receiver (own w.sender m).heads ≤ r) × (r ≤ sent_of w m) × (sent_of w m ≤ r + w.capacity)
     × (sent_of w m ≡ r + w.capacity → m' ≡ (with_part w.sender (looked_head w.receiver r (own w.sender m)) m.0, m.1))
     × (sent_of w m ≢ r + w.capacity → m' ≡ (with_part w.sender (gaining w.receiver r (own w.sender m)) m.0, (slot_at w (sent_of w m), None) ∷ m.1))
+    × KnowsGot m.0 w.sender w.receiver r
 
 -- the sender stores the tail word: the slot that it took last goes home with the parcel in it, which is sent by this
 abbrev pub GivesFilled : Call → Me (Option Parcel) View → Me (Option Parcel) View → List (ℕ × Option Parcel) → Type 0
@@ -70,7 +71,8 @@ abbrev pub LoadsTail : Call → Step (Option Parcel) → Me (Option Parcel) View
 LoadsTail w st m r m' =
     (last_found w.sender (own w.receiver m).tails ≤ r) × (got_of w m ≤ r) × (r ≤ got_of w m + w.capacity)
     × (got_of w m ≡ r → m' ≡ (with_part w.receiver (looked_tail w.sender r (own w.receiver m)) m.0, m.1))
-    × (got_of w m ≢ r → (x : Parcel) × HasFittingArm w.arms x × (m' ≡ (with_part w.receiver (taking w.sender x r (own w.receiver m)) m.0, (slot_at w (got_of w m), Some x) ∷ m.1)))
+    × (got_of w m ≢ r → (x : Parcel) × HasFittingArm w.arms x × (m' ≡ (with_part w.receiver (taking w.sender x r (own w.receiver m)) m.0, (slot_at w (got_of w m), Some x) ∷ m.1)) × KnowsOldest m.0 w.sender w.receiver x)
+    × KnowsSent m.0 w.sender w.receiver r
 
 -- the receiver stores the head word: the slot goes home empty, and the parcel is got by this
 abbrev pub GivesEmptied : Call → Me (Option Parcel) View → Me (Option Parcel) View → Middle → Type 0

@@ -61,6 +61,18 @@ history_in v r = (the_part r v.parts).history
 abbrev pub left_in : View → ℕ → ℕ → List Parcel
 left_in v p q = drop (length (parcels_got p (history_in v q))) (parcels_sent q (history_in v p))
 
+-- a view that speaks for the receiver too knows how many parcels from p it has got
+abbrev pub KnowsGot : View → ℕ → ℕ → ℕ → Type 0
+KnowsGot v p q n = SpeaksFor v q → n ≡ length (parcels_got p (history_in v q))
+
+-- a view that speaks for the sender too knows how many parcels to q it has sent
+abbrev pub KnowsSent : View → ℕ → ℕ → ℕ → Type 0
+KnowsSent v p q n = SpeaksFor v p → n ≡ length (parcels_sent q (history_in v p))
+
+-- .. and that x is the oldest of them that q hasn't got
+abbrev pub KnowsOldest : View → ℕ → ℕ → Parcel → Type 0
+KnowsOldest v p q x = SpeaksFor v p → left_in v p q ≡ x ∷ drop (suc (length (parcels_got p (history_in v q)))) (parcels_sent q (history_in v p))
+
 -- the view with y in place of the part of role r
 abbrev pub put_part : ℕ → Part → List Part → List Part
 put_part r y [] = []

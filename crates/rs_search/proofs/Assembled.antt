@@ -100,12 +100,12 @@ item sub above bound w i h =
     let r = at_within w.nexts i (let e = w.numbers.all in omega arith) in
     record { number = a.0; is = a.1; point = p.0; at_number = p.1; row = r.0; is_row = r.1 }
 
-map-at : {X Y : Type 0} (f : X → Y) (xs : List X) (i : ℕ) (x : X) → slice_get xs i ≡ Some x → slice_get (map f xs) i ≡ Some (f x)
+pub map-at : {X Y : Type 0} (f : X → Y) (xs : List X) (i : ℕ) (x : X) → slice_get xs i ≡ Some x → slice_get (map f xs) i ≡ Some (f x)
 map-at f [] i x e = absurd (none-some x e)
 map-at f (y ∷ xs) zero x e = ap (λ z. Some (f z)) (same_Some y x e)
 map-at f (y ∷ xs) (suc i) x e = map-at f xs i x e
 
-map-of : {X Y : Type 0} (f : X → Y) (xs : List X) (i : ℕ) (y : Y) → slice_get (map f xs) i ≡ Some y → (x : X) × (slice_get xs i ≡ Some x) × (f x ≡ y)
+pub map-of : {X Y : Type 0} (f : X → Y) (xs : List X) (i : ℕ) (y : Y) → slice_get (map f xs) i ≡ Some y → (x : X) × (slice_get xs i ≡ Some x) × (f x ≡ y)
 map-of f [] i y e = absurd (none-some y e)
 map-of f (x ∷ xs) zero y e = (x, refl, same_Some (f x) y e)
 map-of f (x ∷ xs) (suc i) y e = map-of f xs i y e
@@ -291,7 +291,7 @@ unranked-at found (m ∷ items) (r ∷ nexts) zero n p row a b c =
     ap (λ (z : Spot). Some (node_of z 0 r)) g ∙ ap (λ (z : List ℕ). Some (node_of p 0 z)) f
 unranked-at found (m ∷ items) (r ∷ nexts) (suc i) n p row a b c = unranked-at found items nexts i n p row a b c
 
-none-ranks : (i : ℕ) → get_or {A = ℕ} [] i 0 ≡ 0
+pub none-ranks : (i : ℕ) → get_or {A = ℕ} [] i 0 ≡ 0
 none-ranks zero = refl
 none-ranks (suc i) = refl
 

@@ -29,8 +29,8 @@ edges-are sub above bound found rows anys g d b =
     let q : length (get_or rows i []) ≡ length row.0 = ap (λ (z : List ℕ). length z) (got rows i row.0 [] row.1) in
     ap (sum_by (λ (results : List ℕ). length results)) (sym e) ∙ m ∙ q ∙ l))
 
-candidates-are : (sub above : Machine_data) (bound : ℕ) (found : List Spot) (rows : List (List ℕ)) → IsDiscovery (nexts_within sub above bound) (begin sub above) found rows → AreCandidates sub above bound found
-candidates-are sub above bound found rows d = record {
+pub candidates_are : (sub above : Machine_data) (bound : ℕ) (found : List Spot) (rows : List (List ℕ)) → IsDiscovery (nexts_within sub above bound) (begin sub above) found rows → AreCandidates sub above bound found
+candidates_are sub above bound found rows d = record {
   once = d.once;
   to = λ p m. (let s = at_in found p m in to_candidate sub above bound p (d.reached s.0 p s.1));
   from = λ p c. all_found (nexts_within sub above bound) (begin sub above) found rows d p (from_candidate sub above bound p c);
@@ -40,7 +40,7 @@ pub removal_cost : (sub above : Machine_data) (bound : ℕ) (found : List Spot) 
     → IsBuilt anys rows (length rows) g → IsRemoval g.outs current order → after ≡ before + sum_by (λ (n : ℕ). cost_of g.intos n) order → IsWithinCost sub above bound before after
 removal_cost sub above bound found rows anys g current order before after d b r e = record {
   spots = found;
-  are = candidates-are sub above bound found rows d;
+  are = candidates_are sub above bound found rows d;
   most = (let a = removal_fits g.outs g.intos current order b.into r in let c = edges-are sub above bound found rows anys g d b in let s = b.size in let l = d.all in omega arith);
 }
 
@@ -49,6 +49,6 @@ pub whole_cost : (sub above : Machine_data) (bound : ℕ) (found : List Spot) (r
     → mid ≡ before + sum_by (λ (n : ℕ). cost_of g.intos n) order → after ≡ mid + sum_by (λ (n : ℕ). length (next_of g.outs current n) + 1) items → IsWithinCost sub above bound before after
 whole_cost sub above bound found rows anys g current order items nexts before mid after d b r n stay e f = record {
   spots = found;
-  are = candidates-are sub above bound found rows d;
+  are = candidates_are sub above bound found rows d;
   most = (let a = steps_fit g.outs g.intos current order items nexts b.into r n stay in let c = edges-are sub above bound found rows anys g d b in let s = b.size in let l = d.all in omega arith);
 }

@@ -14,7 +14,7 @@ use Rattle.rs_derive.specs.Moves.{Spot}
 use Rattle.rs_graph.proofs.Buckets.{got}
 use Rattle.rs_graph.proofs.Growth.{at_short, at_within, growing_begin, not_both}
 use Rattle.rs_graph.proofs.Kept.{Pictures}
-use Rattle.rs_graph.specs.Discovery.{Reached, Begin, Step}
+use Rattle.rs_graph.specs.Discovery.{IsDiscovery, Reached, Begin, Step}
 use Rattle.rs_graph.specs.Graphs.{moves_of}
 use Rattle.rs_graph.specs.Lists.{Among, Names}
 use Rattle.rs_graph.specs.Places.{next_of}
@@ -44,17 +44,17 @@ same-spots p q = told (same_spot p q) refl
     told false e = inr (not_spot p q e)
 
 -- the graph of what was found
-abbrev outs_of : (Spot → Bool) → List Spot → List (List ℕ) → List (List (List ℕ))
+abbrev pub outs_of : (Spot → Bool) → List Spot → List (List ℕ) → List (List (List ℕ))
 outs_of any [] rows = []
 outs_of any (x ∷ found) [] = []
 outs_of any (x ∷ found) (row ∷ rows) = moves_of (any x) row ∷ outs_of any found rows
 
-outs-length : (any : Spot → Bool) (found : List Spot) (rows : List (List ℕ)) → length rows ≡ length found → length (outs_of any found rows) ≡ length found
+pub outs-length : (any : Spot → Bool) (found : List Spot) (rows : List (List ℕ)) → length rows ≡ length found → length (outs_of any found rows) ≡ length found
 outs-length any [] rows e = refl
 outs-length any (x ∷ found) [] e = let bad : ⊥ = omega arith in absurd bad
 outs-length any (x ∷ found) (row ∷ rows) e = ap suc (outs-length any found rows (omega arith))
 
-outs-at : (any : Spot → Bool) (found : List Spot) (rows : List (List ℕ)) (n : ℕ) (x : Spot) (row : List ℕ) → slice_get found n ≡ Some x → slice_get rows n ≡ Some row → get_or (outs_of any found rows) n [] ≡ moves_of (any x) row
+pub outs-at : (any : Spot → Bool) (found : List Spot) (rows : List (List ℕ)) (n : ℕ) (x : Spot) (row : List ℕ) → slice_get found n ≡ Some x → slice_get rows n ≡ Some row → get_or (outs_of any found rows) n [] ≡ moves_of (any x) row
 outs-at any [] rows n x row a b = absurd (none-some x a)
 outs-at any (y ∷ found) [] n x row a b = absurd (none-some row b)
 outs-at any (y ∷ found) (r ∷ rows) zero x row a b = ap (λ (z : Spot). moves_of (any z) r) (same_Some y x a) ∙ ap (λ (z : List ℕ). moves_of (any x) z) (same_Some r row b)
@@ -84,6 +84,49 @@ moves-in true (n ∷ row) (suc place) r h = inr (moves-in true row place r h)
 moves-in false row zero r h = h
 moves-in false row (suc place) r h = (let e : get_or {A = List ℕ} [] place [] ≡ [] = get_or_past [] place [] (omega arith) in let bad : Among [] r = subst (λ (z : List ℕ). Among z r) e h in absurd bad)
 
+-- the graph of the candidates
+abbrev pub graph_outs : Machine_data → Machine_data → ℕ → List Spot → List (List ℕ) → List (List (List ℕ))
+graph_outs sub above bound found rows = outs_of (is_any sub above bound) found rows
+
+pub row_at : (sub above : Machine_data) (bound : ℕ) (found : List Spot) (rows : List (List ℕ)) → IsDiscovery (nexts_within sub above bound) (begin sub above) found rows
+    → (n : ℕ) (x : Spot) → slice_get found n ≡ Some x → (row : List ℕ) × (slice_get rows n ≡ Some row)
+row_at sub above bound found rows d n x e = at_within rows n (let a = at_short found n x e in let b = d.all in omega arith)
+
+pub graph_pictures : (sub above : Machine_data) (bound : ℕ) (found : List Spot) (rows : List (List ℕ)) → IsDiscovery (nexts_within sub above bound) (begin sub above) found rows
+    → Pictures (moves_at sub above bound) found (graph_outs sub above bound found rows)
+graph_pictures sub above bound found rows d = record {
+  size = outs-length any found rows d.all;
+  count = λ n x e. (let r = row_at sub above bound found rows d n x e in let nm = d.names n x r.0 e r.1 in
+      ap (λ (z : List (List ℕ)). length z) (outs-at any found rows n x r.0 e r.1) ∙ moves-count (any x) r.0 (nexts_within sub above bound x) (names_length found r.0 (nexts_within sub above bound x) nm));
+  names = λ n place x rs e m. (let r = row_at sub above bound found rows d n x e in let nm = d.names n x r.0 e r.1 in
+      subst (λ (z : List (List ℕ)). Names found (get_or z place []) rs) (sym (outs-at any found rows n x r.0 e r.1))
+      (moves-name found (any x) r.0 (nexts_within sub above bound x) place rs nm m));
+}
+  where
+    any : Spot → Bool
+    any p = is_any sub above bound p
+
+pub graph_within : (sub above : Machine_data) (bound : ℕ) (found : List Spot) (rows : List (List ℕ)) → IsDiscovery (nexts_within sub above bound) (begin sub above) found rows
+    → (n p r : ℕ) → Leads (graph_outs sub above bound found rows) n p r → r < length (graph_outs sub above bound found rows)
+graph_within sub above bound found rows d n p r h = elim (cases_lt n (length found)) [
+  | inr a ↦ (let s = pictures.size in let e = get_or_past outs n [] (omega arith) in
+      let q : get_or {A = List ℕ} [] p [] ≡ [] = get_or_past [] p [] (omega arith) in
+      let bad : Among [] r = subst (λ (z : List ℕ). Among z r) (ap (λ (z : List (List ℕ)). get_or z p []) e ∙ q) h in absurd bad)
+  | inl a ↦ (let x = at_within found n a in let row = row_at sub above bound found rows d n x.0 x.1 in
+      let m = moves-in (any x.0) row.0 p r (subst (λ (z : List (List ℕ)). Among (get_or z p []) r) (outs-at any found rows n x.0 row.0 x.1 row.1) h) in
+      let k = rows_within (nexts_within sub above bound) (begin sub above) found rows d n r (subst (λ (z : List ℕ). Among z r) (sym (got rows n row.0 [] row.1)) m) in
+      let s = pictures.size in let l = d.all in omega arith)
+]
+  where
+    any : Spot → Bool
+    any p = is_any sub above bound p
+
+    outs : List (List (List ℕ))
+    outs = graph_outs sub above bound found rows
+
+    pictures : Pictures (moves_at sub above bound) found outs
+    pictures = graph_pictures sub above bound found rows d
+
 -- the candidates, their graph, and what is left of it
 record Explored (sub above : Machine_data) (bound : ℕ) : Type 0 where
   pub whole : IsWhole (nexts_within sub above bound) (begin sub above) MOST_CANDIDATES
@@ -92,37 +135,12 @@ record Explored (sub above : Machine_data) (bound : ℕ) : Type 0 where
   pub left : IsLeft outs
 
 explored : (sub above : Machine_data) (bound : ℕ) → IsWhole (nexts_within sub above bound) (begin sub above) MOST_CANDIDATES → Explored sub above bound
-explored sub above bound w = record { whole = w; outs = outs; pictures = pictures; left = left outs inside }
-  where
-    any : Spot → Bool
-    any p = is_any sub above bound p
-
-    outs : List (List (List ℕ))
-    outs = outs_of any w.found w.rows
-
-    row-at : (n : ℕ) (x : Spot) → slice_get w.found n ≡ Some x → (row : List ℕ) × (slice_get w.rows n ≡ Some row)
-    row-at n x e = at_within w.rows n (let a = at_short w.found n x e in let b = w.discovery.all in omega arith)
-
-    pictures : Pictures (moves_at sub above bound) w.found outs
-    pictures = record {
-      size = outs-length any w.found w.rows w.discovery.all;
-      count = λ n x e. (let r = row-at n x e in let nm = w.discovery.names n x r.0 e r.1 in
-          ap (λ (z : List (List ℕ)). length z) (outs-at any w.found w.rows n x r.0 e r.1) ∙ moves-count (any x) r.0 (nexts_within sub above bound x) (names_length w.found r.0 (nexts_within sub above bound x) nm));
-      names = λ n place x rs e m. (let r = row-at n x e in let nm = w.discovery.names n x r.0 e r.1 in
-          subst (λ (z : List (List ℕ)). Names w.found (get_or z place []) rs) (sym (outs-at any w.found w.rows n x r.0 e r.1))
-          (moves-name w.found (any x) r.0 (nexts_within sub above bound x) place rs nm m));
-    }
-
-    inside : (n p r : ℕ) → Leads outs n p r → r < length outs
-    inside n p r h = elim (cases_lt n (length w.found)) [
-      | inr a ↦ (let s = pictures.size in let e = get_or_past outs n [] (omega arith) in
-          let q : get_or {A = List ℕ} [] p [] ≡ [] = get_or_past [] p [] (omega arith) in
-          let bad : Among [] r = subst (λ (z : List ℕ). Among z r) (ap (λ (z : List (List ℕ)). get_or z p []) e ∙ q) h in absurd bad)
-      | inl a ↦ (let x = at_within w.found n a in let row = row-at n x.0 x.1 in
-          let m = moves-in (any x.0) row.0 p r (subst (λ (z : List (List ℕ)). Among (get_or z p []) r) (outs-at any w.found w.rows n x.0 row.0 x.1 row.1) h) in
-          let k = rows_within (nexts_within sub above bound) (begin sub above) w.found w.rows w.discovery n r (subst (λ (z : List ℕ). Among z r) (sym (got w.rows n row.0 [] row.1)) m) in
-          let s = pictures.size in let l = w.discovery.all in omega arith)
-    ]
+explored sub above bound w = record {
+  whole = w;
+  outs = graph_outs sub above bound w.found w.rows;
+  pictures = graph_pictures sub above bound w.found w.rows w.discovery;
+  left = left (graph_outs sub above bound w.found w.rows) (graph_within sub above bound w.found w.rows w.discovery);
+}
 
 not-found : (sub above : Machine_data) (bound : ℕ) (x : Explored sub above bound) → removal.moves_at x.outs 0 ≤ at x.left.current 0 → (cut : Bool) × IsNotFound sub above bound cut
 not-found sub above bound x le =

@@ -1,11 +1,12 @@
 -- The nodes, one by one.
-use Rattle.std.proofs.Common.{◌≡◌, inl, inr, ℕ, List, [], ◌∷◌, ◌++◌, get_or, refl, sym, ap, ◌∙◌, subst, arith, ◌+◌, Some, slice_get, length-append, Bool, false, if◌then◌else◌}
+use Rattle.std.proofs.Common.{◌≡◌, inl, inr, ℕ, List, [], ◌∷◌, ◌++◌, length, get_or, refl, sym, ap, ◌∙◌, subst, arith, ◌+◌, Some, slice_get, length-append, Bool, false, if◌then◌else◌}
 use Rattle.std.proofs.lemmas.Bool.{cases_lt}
 use Rattle.std.proofs.lemmas.Option.{same_Some}
 use Rattle.rs_derive.specs.Data.{DNode_data}
 use Rattle.rs_derive.specs.Moves.{Spot}
-use Rattle.rs_search.specs.Nodes.{AreKept, AreNodes, node_of}
-use Rattle.rs_graph.proofs.Growth.{push_at, push_new}
+use Rattle.rs_search.proofs.Places.{place_at, place_is}
+use Rattle.rs_search.specs.Nodes.{AreKept, AreNodes, node_of, places_of}
+use Rattle.rs_graph.proofs.Growth.{at_short, push_at, push_is, push_new}
 
 pub nodes_none : (points : List Spot) (items : List ℕ) (nexts : List (List ℕ)) (ranks : List ℕ) → AreNodes points items nexts ranks 0 []
 nodes_none points items nexts ranks = record { size = refl; each = λ i n p row lt a b c. (let bad : ⊥ = omega arith in absurd bad) }
@@ -44,4 +45,21 @@ kept_on keeps items nexts i n b row this kept new a gi gr eb et e = rw e record 
         let is : this ≡ (if get_or keeps m false then r else []) = et ∙ ap (λ (z : Bool). if z then row else []) eb ∙ ap (λ (z : ℕ). if get_or keeps z false then row else []) em ∙ ap (λ (z : List ℕ). if get_or keeps m false then z else []) er in
         subst (λ (z : ℕ). slice_get (kept ++ (this ∷ [])) z ≡ Some (if get_or keeps m false then r else [])) ek (here ∙ ap Some is))
   ];
+}
+
+-- nodes at the items of a list, in its order
+pub nodes_push : (ys : List Spot) (p : Spot) (rows : List (List ℕ)) (ranks : List ℕ) (nodes new : List DNode_data) (node : DNode_data) (row : List ℕ) → AreNodes ys (places_of 0 ys) rows ranks (length ys) nodes
+    → slice_get rows (length ys) ≡ Some row → node ≡ node_of p (get_or ranks (length ys) 0) row → new ≡ nodes ++ (node ∷ []) → AreNodes (ys ++ (p ∷ [])) (places_of 0 (ys ++ (p ∷ []))) rows ranks (length (ys ++ (p ∷ []))) new
+nodes_push ys p rows ranks nodes new node row a gr en e = rw e record {
+  size = (let l = length-append nodes (node ∷ []) in let k = length-append ys (p ∷ []) in let s = a.size in omega arith);
+  each = λ i n q r lt b c d. (let m = place_is (ys ++ (p ∷ [])) i n b in
+      let c' : slice_get (ys ++ (p ∷ [])) i ≡ Some q = subst (λ (z : ℕ). slice_get (ys ++ (p ∷ [])) z ≡ Some q) (sym m.0) c in
+      elim (push_is ys p i q c') [
+        | inl old ↦ (let s = at_short ys i q old in push_at nodes node i (node_of q (get_or ranks i 0) r) (a.each i i q r s (place_at ys i s) old d))
+        | inr this ↦ (let ek : length ys ≡ i = sym this.0 in
+            let gr' : slice_get rows i ≡ Some row = subst (λ (z : ℕ). slice_get rows z ≡ Some row) ek gr in
+            let er : row ≡ r = same_Some row r (sym gr' ∙ d) in
+            let here : slice_get (nodes ++ (node ∷ [])) i ≡ Some node = subst (λ (z : ℕ). slice_get (nodes ++ (node ∷ [])) z ≡ Some node) (a.size ∙ ek) (push_new nodes node) in
+            here ∙ ap (λ (z : DNode_data). Some z) en ∙ ap (λ (z : ℕ). Some (node_of p (get_or ranks z 0) row)) ek ∙ ap (λ (z : Spot). Some (node_of z (get_or ranks i 0) row)) this.1 ∙ ap (λ (z : List ℕ). Some (node_of q (get_or ranks i 0) z)) er)
+      ]);
 }

@@ -3,6 +3,9 @@ pub mod Candidates
 pub mod Canonical
 pub mod Costs
 pub mod Examples
+pub mod Forward
+pub mod Index
+pub mod Itself
 pub mod Nodes
 pub mod Survives
 pub mod Turns

@@ -1,7 +1,12 @@
 -- Steps: the nodes of a derivation, from numbered spots.
-use Rattle.std.specs.Prelude.{◌≡◌, ◌<◌, ℕ, List, [], length, slice_get, slice_index_or, Some, Bool, false, if◌then◌else◌}
+use Rattle.std.specs.Prelude.{◌≡◌, ◌<◌, ℕ, suc, List, [], ◌∷◌, length, slice_get, slice_index_or, Some, Bool, false, if◌then◌else◌}
 use Rattle.rs_derive.specs.Data.{DNode_data}
 use Rattle.rs_derive.specs.Moves.{Spot}
+
+-- the numbers from k on, one for each item
+abbrev pub places_of : {X : Type 0} → ℕ → List X → List ℕ
+places_of k [] = []
+places_of k (x ∷ xs) = k ∷ places_of (suc k) xs
 
 -- the node at a spot, with that rank and these nexts
 abbrev pub node_of : Spot → ℕ → List ℕ → DNode_data

@@ -1,5 +1,5 @@
 -- Steps: what a spot can do within the bound, as it is computed: choose one of some spots, or go on to all of them.
-use Rattle.std.specs.Prelude.{ℕ, List, [], length, Bool, true, false, ◌==◌, ◌&&◌, nat_lt, nat_le, if◌then◌else◌, Option, None, Some}
+use Rattle.std.specs.Prelude.{ℕ, List, [], length, Bool, true, false, not, ◌==◌, ◌&&◌, nat_lt, nat_le, if◌then◌else◌, Option, None, Some}
 use Rattle.std.specs.List.{list_any}
 use Rattle.rs_model.specs.Data.{Machine_data}
 use Rattle.rs_derive.specs.Due.{Due, due}
@@ -54,6 +54,14 @@ is_keeping sub above bound p = (turn_within sub above bound p).keeps
 -- whether the bound takes its moves away
 abbrev pub is_cut : Machine_data → Machine_data → ℕ → Spot → Bool
 is_cut sub above bound p = (turn_within sub above bound p).cut
+
+-- whether a turn chooses: among several spots, or among none
+abbrev pub has_choice : Turn_data → Bool
+has_choice t = t.any && not (length t.spots == 1)
+
+-- whether the turn of the spot chooses
+abbrev pub is_choosing : Machine_data → Machine_data → ℕ → Spot → Bool
+is_choosing sub above bound p = has_choice (turn_within sub above bound p)
 
 -- by the rule: whether one next is due, which may be any of its spots; and whether the bound takes the move away
 abbrev pub may_choose : List Arm → List Arm → Rule → Bool

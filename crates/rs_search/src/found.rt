@@ -5,13 +5,15 @@ ghost use Rattle.rs_derive.specs.Derivations.{IsProper};
 ghost use Rattle.rs_derive.specs.Moves.{Spot};
 ghost use Rattle.rs_search.specs.Buckets.{act_code, acts_code, bucket_of};
 ghost use Rattle.rs_search.specs.Candidates.{begin};
-ghost use Rattle.rs_graph.specs.Discovery.{Adds, Filed, Grown, IsDiscovery, MoreThan, Numbered};
-ghost use Rattle.rs_graph.specs.Lists.{Among, Names};
+ghost use Rattle.rs_search.specs.Index.{AreChained, Chained};
+ghost use Rattle.rs_search.specs.Itself.{AreNamed};
+ghost use Rattle.rs_graph.specs.Discovery.{Adds, Grown, IsDiscovery, MoreThan};
+ghost use Rattle.rs_graph.specs.Lists.{Among};
 ghost use Rattle.rs_search.specs.Turns.{nexts_within, turn_within};
-ghost use Rattle.rs_search.specs.Turns.{is_any, is_cut, is_keeping};
+ghost use Rattle.rs_search.specs.Turns.{is_any, is_choosing, is_cut, is_keeping};
 ghost use Rattle.rs_search.specs.declared.found.Fault.TheVariants.{TooLarge, Memory};
 
-use crate::turns::{Point, turn_within};
+use crate::turns::{Point, Turn, turn_within};
 use rs_graph::Row;
 use rs_model::{Act, Machine, NoMemory};
 use rs_prefix::Pending;
@@ -53,8 +55,8 @@ impl From<NoMemory> for Fault {
     }
 }
 
-/// The candidates, and of each the numbers of what it leads to, whether it may choose among them, and whether some
-/// candidate meets a cut.
+/// The candidates, and of each the numbers of what it leads to, whether it may choose among them, whether some
+/// candidate meets a cut, and whether some one chooses.
 #[derive(Drop, Debug)]
 pub struct Candidates {
     pub points: Vec<Point>,
@@ -62,6 +64,7 @@ pub struct Candidates {
     pub anys: Vec<bool>,
     pub keeps: Vec<bool>,
     pub cut: bool,
+    pub choosing: bool,
 }
 
 fn act_code(act: Act) -> u64
@@ -88,68 +91,81 @@ fn bucket_of(size: usize, p: &Point) -> usize
     code as usize
 }
 
-// The number of a spot, by its bucket.
-fn seek(found: &[Point], buckets: &[Row], p: &Point) -> Option<u32>
-    requires some { 0 < length buckets.now }
-    requires few { length buckets.now < 2 ^ 32 }
-    requires filed { Filed (bucket_of (length buckets.now)) found.now buckets.now }
-    ensures { MatchOption result (Among found.now p.now → ⊥) (λ n. slice_get found.now n ≡ Some p.now) }
+/// Where the numbers of spots are found again: of each bucket the head of a chain of numbers, and of each number the
+/// next of its chain. Each is one more than the number; 0 ends a chain.
+#[derive(Drop, Debug)]
+pub struct Index {
+    heads: Vec<u32>,
+    links: Vec<u32>,
+}
+
+// The number of a spot, along a chain.
+fn seek(found: &[Point], links: &[u32], head: u32, p: &Point) -> Option<u32>
+    requires size { length links.now ≡ length found.now }
+    requires within { head ≤ length found.now }
+    requires falls { (m next : ℕ) → slice_get links.now m ≡ Some next → next ≤ m }
+    ensures { MatchOption result ((n : ℕ) → Chained links.now head n → slice_get found.now n ≢ Some p.now) (λ n. slice_get found.now n ≡ Some p.now) }
 {
-    let row = buckets[bucket_of(buckets.len(), p)].as_slice();
-    for i in 0..row.len() {
-        let n = row[i];
+    let mut left = head;
+    while left > 0 {
+        let n = left - 1;
         if found[n as usize].same(p) {
             return Some(n);
         }
+        left = links[n as usize];
     }
     None
 }
 
-// Files the number of a new spot.
-fn file(buckets: &mut Vec<Row>, p: &Point, n: u32) -> Result<(), Fault>
-    requires some { 0 < length buckets.old.items }
-    requires few { length buckets.old.items < 2 ^ 32 }
-    ensures filed { OnOk result ((found : List Spot) → n ≡ length found → Filed (bucket_of (length buckets.old.items)) found buckets.old.items → Filed (bucket_of (length buckets.old.items)) (found ++ p.now ∷ []) buckets.new.items) }
-    ensures size { OnOk result (length buckets.new.items ≡ length buckets.old.items) }
+// Puts the number of a new spot at the head of its chain.
+fn file(index: &mut Index, bucket: usize, n: u32) -> Result<(), Fault>
+    requires within { bucket < length index.old.heads.items }
+    requires fits { n + 1 < 2 ^ 32 }
+    ensures chained { OnOk result ((found : List Spot) (p : Spot) → bucket ≡ bucket_of (length index.old.heads.items) p → n ≡ length found
+        → AreChained (bucket_of (length index.old.heads.items)) found index.old.heads.items index.old.links.items
+        → AreChained (bucket_of (length index.old.heads.items)) (found ++ p ∷ []) index.new.heads.items index.new.links.items) }
+    ensures size { OnOk result (length index.new.heads.items ≡ length index.old.heads.items) }
     ensures err { IfErr result (λ e. e ≡ Memory) }
 {
-    let bucket = bucket_of(buckets.len(), p);
-    buckets[bucket].push(n)?;
+    let head = index.heads[bucket];
+    index.links.push(head)?;
+    index.heads[bucket] = n + 1;
     Ok(())
 }
 
 // The number of a spot, which is added where it is new.
 fn number_of(
-    alloc: Global,
     found: &mut Vec<Point>,
-    buckets: &mut Vec<Row>,
-    p: &Point,
+    index: &mut Index,
+    p: Point,
     limit: usize,
 ) -> Result<u32, Fault>
     requires limit { limit + 1 < 2 ^ 32 }
     requires few { length found.old.items ≤ limit }
-    requires some { 0 < length buckets.old.items }
-    requires buckets { length buckets.old.items < 2 ^ 32 }
-    requires filed { Filed (bucket_of (length buckets.old.items)) found.old.items buckets.old.items }
-    ensures adds { Adds found.old.items p.now found.new.items }
+    requires some { 0 < length index.old.heads.items }
+    requires heads { length index.old.heads.items < 2 ^ 32 }
+    requires chained { AreChained (bucket_of (length index.old.heads.items)) found.old.items index.old.heads.items index.old.links.items }
+    ensures adds { Adds found.old.items p found.new.items }
     ensures longer { length found.old.items ≤ length found.new.items }
-    ensures at { IfOk result (λ n. slice_get found.new.items n ≡ Some p.now) }
+    ensures at { IfOk result (λ n. slice_get found.new.items n ≡ Some p) }
     ensures old { IfOk result (λ n. found.new.items ≡ found.old.items → n < length found.old.items) }
     ensures fresh { IfOk result (λ n. (found.new.items ≡ found.old.items → ⊥) → n ≡ length found.old.items) }
     ensures few { OnOk result (length found.new.items ≤ limit) }
     ensures large { IfErr result (λ e. e ≡ TooLarge → limit < length found.new.items) }
-    ensures filed { OnOk result (Filed (bucket_of (length buckets.old.items)) found.new.items buckets.new.items) }
-    ensures size { OnOk result (length buckets.new.items ≡ length buckets.old.items) }
+    ensures chained { OnOk result (AreChained (bucket_of (length index.old.heads.items)) found.new.items index.new.heads.items index.new.links.items) }
+    ensures size { OnOk result (length index.new.heads.items ≡ length index.old.heads.items) }
 {
-    match seek(found.as_slice(), buckets.as_slice(), p) {
+    let bucket = bucket_of(index.heads.len(), &p);
+    let head = index.heads[bucket];
+    match seek(found.as_slice(), index.links.as_slice(), head, &p) {
         Some(n) => Ok(n),
         None => {
             let n = found.len();
-            found.push(p.copy(alloc)?)?;
+            found.push(p)?;
             if n == limit {
                 return Err(Fault::TooLarge);
             }
-            file(buckets, p, n as u32)?;
+            file(index, bucket, n as u32)?;
             Ok(n as u32)
         }
     }
@@ -159,27 +175,25 @@ fn number_of(
 fn name_all(
     alloc: Global,
     found: &mut Vec<Point>,
-    buckets: &mut Vec<Row>,
-    ps: &[Point],
+    index: &mut Index,
+    spots: Vec<Point>,
     limit: usize,
 ) -> Result<Row, Fault>
     requires limit { limit + 1 < 2 ^ 32 }
     requires few { length found.old.items ≤ limit }
-    requires some { 0 < length buckets.old.items }
-    requires buckets { length buckets.old.items < 2 ^ 32 }
-    requires filed { Filed (bucket_of (length buckets.old.items)) found.old.items buckets.old.items }
-    ensures grown { Grown found.old.items ps.now found.new.items }
-    ensures longer { length found.old.items ≤ length found.new.items }
-    ensures names { IfOk result (λ row. Names found.new.items row ps.now) }
-    ensures numbered { IfOk result (λ row. Numbered (length found.old.items) row (length found.new.items)) }
+    requires some { 0 < length index.old.heads.items }
+    requires heads { length index.old.heads.items < 2 ^ 32 }
+    requires chained { AreChained (bucket_of (length index.old.heads.items)) found.old.items index.old.heads.items index.old.links.items }
+    ensures grown { Grown found.old.items spots.items found.new.items }
+    ensures named { IfOk result (λ row. AreNamed found.old.items spots.items found.new.items row) }
     ensures few { OnOk result (length found.new.items ≤ limit) }
     ensures large { IfErr result (λ e. e ≡ TooLarge → limit < length found.new.items) }
-    ensures filed { OnOk result (Filed (bucket_of (length buckets.old.items)) found.new.items buckets.new.items) }
-    ensures size { OnOk result (length buckets.new.items ≡ length buckets.old.items) }
+    ensures chained { OnOk result (AreChained (bucket_of (length index.old.heads.items)) found.new.items index.new.heads.items index.new.links.items) }
+    ensures size { OnOk result (length index.new.heads.items ≡ length index.old.heads.items) }
 {
     let mut numbers = Row::new(alloc);
-    for i in 0..ps.len() {
-        let n = number_of(alloc, found, buckets, &ps[i], limit)?;
+    for spot in spots {
+        let n = number_of(found, index, spot, limit)?;
         numbers.push(n)?;
     }
     Ok(numbers)
@@ -209,16 +223,16 @@ fn bucket_count(sub: &Machine, above: &Machine) -> usize
     (sub.states.len().min(2_000) + above.states.len().min(2_000)) * 16 + 1
 }
 
-// Empty buckets.
-fn empty_buckets(alloc: Global, size: usize) -> Result<Vec<Row>, Fault>
-    ensures ok { IfOk result (λ v. v.items ≡ replicate size []) }
+// An index without numbers.
+fn empty_index(alloc: Global, size: usize) -> Result<Index, Fault>
+    ensures heads { IfOk result (λ i. i.heads.items ≡ replicate size 0) }
+    ensures links { IfOk result (λ i. i.links.items ≡ []) }
     ensures err { IfErr result (λ e. e ≡ Memory) }
 {
-    let mut buckets = Vec::with_capacity(alloc, size)?;
-    for _i in 0..size {
-        buckets.push(Row::new(alloc))?;
-    }
-    Ok(buckets)
+    Ok(Index {
+        heads: vec![in alloc; 0; size]?,
+        links: Vec::new(alloc),
+    })
 }
 
 /// The candidates within the bound, if they number no more than the limit.
@@ -239,32 +253,31 @@ pub fn find_all(
     ensures anys { IfOk result (λ d. d.anys.items ≡ map (is_any sub.now above.now bound) d.points.items) }
     ensures keeps { IfOk result (λ d. d.keeps.items ≡ map (is_keeping sub.now above.now bound) d.points.items) }
     ensures cut { IfOk result (λ d. d.cut ≡ list_any (is_cut sub.now above.now bound) d.points.items) }
+    ensures choosing { IfOk result (λ d. d.choosing ≡ list_any (is_choosing sub.now above.now bound) d.points.items) }
     ensures large { IfErr result (λ e. e ≡ TooLarge → MoreThan limit (nexts_within sub.now above.now bound) (begin sub.now above.now)) }
 {
     let start = start_of(alloc, sub, above);
-    let mut buckets = empty_buckets(alloc, bucket_count(sub, above))?;
-    file(&mut buckets, &start, 0)?;
+    let mut index = empty_index(alloc, bucket_count(sub, above))?;
+    let bucket = bucket_of(index.heads.len(), &start);
+    file(&mut index, bucket, 0)?;
     let mut points = Vec::new(alloc);
     points.push(start)?;
     let mut rows: Vec<Row> = Vec::new(alloc);
     let mut anys = Vec::new(alloc);
     let mut keeps = Vec::new(alloc);
     let mut cut = false;
+    let mut choosing = false;
     while rows.len() < points.len() {
         let turn = turn_within(alloc, sub, above, bound, &points[rows.len()])?;
-        let row = match name_all(
-            alloc,
-            &mut points,
-            &mut buckets,
-            turn.spots.as_slice(),
-            limit,
-        ) {
-            Ok(row) => row,
-            Err(fault) => return Err(fault),
-        };
         anys.push(turn.any)?;
         keeps.push(turn.keeps)?;
         cut = either(cut, turn.cut);
+        choosing = either(choosing, turn.has_choice());
+        let Turn { spots, .. } = turn;
+        let row = match name_all(alloc, &mut points, &mut index, spots, limit) {
+            Ok(row) => row,
+            Err(fault) => return Err(fault),
+        };
         rows.push(row)?;
     }
     Ok(Candidates {
@@ -273,5 +286,6 @@ pub fn find_all(
         anys,
         keeps,
         cut,
+        choosing,
     })
 }

@@ -2,7 +2,9 @@
 #![tactic(auto)]
 
 mod faults;
+mod forward;
 mod found;
+mod itself;
 pub mod laws;
 mod nodes;
 mod searches;

@@ -1,7 +1,7 @@
 //! The nodes of the derivation, from the numbered candidates.
 ghost use Rattle.std.specs.Prelude.{◌≡◌, ◌<◌, ◌≤◌, ◌+◌, ◌^◌, [], List, ℕ, IfOk, length, slice_get, slice_index_or, Some, if◌then◌else◌};
 ghost use Rattle.rs_graph.specs.Lists.{Among};
-ghost use Rattle.rs_search.specs.Nodes.{AreKept, AreNodes, node_of};
+ghost use Rattle.rs_search.specs.Nodes.{AreKept, AreNodes, node_of, places_of};
 
 use crate::turns::Point;
 use rs_derive::DNode;
@@ -39,6 +39,43 @@ pub fn nodes_of(
     let mut nodes = Vec::new(alloc);
     for i in 0..items.len() {
         nodes.push(make_node(alloc, &points[items[i] as usize], ranks[i], &nexts[i])?)?;
+    }
+    Ok(nodes)
+}
+
+// The node at a spot, which is moved into it.
+fn into_node(alloc: Global, point: Point, rank: u32, row: &Row) -> Result<DNode, NoMemory>
+    ensures { IfOk result (λ n. n ≡ node_of point rank row.now) }
+{
+    let Point {
+        state,
+        pending,
+        above,
+    } = point;
+    Ok(DNode {
+        state,
+        pending,
+        above,
+        rank,
+        next: Vec::from_slice(alloc, row.as_slice())?,
+    })
+}
+
+/// The nodes at the spots, in their order.
+pub fn nodes_in_order(
+    alloc: Global,
+    points: Vec<Point>,
+    rows: &[Row],
+    ranks: &[u32],
+) -> Result<Vec<DNode>, NoMemory>
+    requires rows { length rows.now ≡ length points.items }
+    requires ranks { length ranks.now ≡ length points.items }
+    ensures { IfOk result (λ v. AreNodes points.items (places_of 0 points.items) rows.now ranks.now (length points.items) v.items) }
+{
+    let mut nodes = Vec::with_capacity(alloc, points.len())?;
+    for point in points {
+        let i = nodes.len();
+        nodes.push(into_node(alloc, point, ranks[i], &rows[i])?)?;
     }
     Ok(nodes)
 }

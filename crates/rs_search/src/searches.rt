@@ -1,15 +1,25 @@
 //! The search.
-ghost use Rattle.std.specs.Prelude.{◌≡◌, ◌<◌, ◌≤◌, ◌+◌, ◌^◌, [], List, ℕ, IfOk, IfErr, OnOk, length};
+ghost use Rattle.std.specs.Prelude.{◌≡◌, ◌<◌, ◌≤◌, ◌+◌, ◌^◌, [], List, ℕ, IfOk, IfErr, IfSome, OnOk, false, length, map, slice_index_or};
+ghost use Rattle.std.specs.List.{list_any};
+ghost use Rattle.rs_model.specs.declared.limits.TheConstants.{MOST_CANDIDATES};
 ghost use Rattle.rs_derive.specs.Derivations.{IsProper};
 ghost use Rattle.rs_search.specs.Canonical.{IsFound, Refuses};
+ghost use Rattle.rs_search.specs.Candidates.{begin};
 ghost use Rattle.rs_search.specs.Costs.{Costs, IsWithinCost};
+ghost use Rattle.rs_graph.specs.Discovery.{IsDiscovery};
+ghost use Rattle.rs_graph.specs.Ranks.{Edge};
+ghost use Rattle.rs_search.specs.Forward.{AreForward};
+ghost use Rattle.rs_search.specs.Turns.{is_any, is_cut, is_keeping, nexts_within};
 
 use crate::SearchFault;
-use crate::nodes::{kept_of, nodes_of};
-use crate::survey::explore;
+use crate::forward::forward_ranks;
+use crate::found::{Candidates, Fault};
+use crate::itself::search_itself;
+use crate::nodes::{kept_of, nodes_in_order, nodes_of};
+use crate::survey::{candidates_of, explore};
 use rs_derive::Derivation;
 use rs_graph::{RankFault, Steps, number_all, rank_rows};
-use rs_model::Machine;
+use rs_model::{Machine, NoMemory};
 use std::alloc::Global;
 use std::marker::Brand;
 use std::sync::ledger::{Blank, Ledger};
@@ -27,6 +37,13 @@ pub fn search(
     ensures ok { IfOk result (λ d. IsFound sub.now above.now bound d) }
     ensures err { IfErr result (λ e. Refuses sub.now above.now bound e) }
 {
+    if bound > 0 && sub.same(above) {
+        match search_itself(alloc, sub, bound) {
+            Ok(derivation) => return Ok(derivation),
+            Err(Fault::Memory) => return Err(SearchFault::NoMemory),
+            Err(Fault::TooLarge) => {}
+        }
+    }
     search_by::<Brand>(alloc, sub, above, bound, Blank::new(1))
 }
 
@@ -65,7 +82,63 @@ pub fn search_counted<L: Ledger>(
     ensures steps { OnOk result (IsWithinCost sub.now above.now bound steps.old steps.new) }
     ensures cost { IfErr result (λ e. Costs sub.now above.now bound e steps.old steps.new) }
 {
-    let survey = match explore(alloc, sub, above, bound, steps) {
+    let found = match candidates_of(alloc, sub, above, bound) {
+        Ok(found) => found,
+        Err(fault) => return Err(fault),
+    };
+    match plain_ranks(alloc, &found) {
+        Ok(Some(ranks)) => {
+            let Candidates { points, rows, .. } = found;
+            match nodes_in_order(alloc, points, rows.as_slice(), ranks.as_slice()) {
+                Ok(nodes) => Ok(Derivation {
+                    role: sub.role,
+                    bound,
+                    nodes,
+                }),
+                Err(_) => Err(SearchFault::NoMemory),
+            }
+        }
+        Ok(None) => search_among(alloc, sub, above, bound, found, steps),
+        Err(_) => Err(SearchFault::NoMemory),
+    }
+}
+
+// The ranks of the candidates, where none of them chooses, and all edges that keep their head lead to greater numbers.
+fn plain_ranks(alloc: Global, found: &Candidates) -> Result<Option<Vec<u32>>, NoMemory>
+    requires few { length found.now.rows.items < 2 ^ 32 }
+    requires keeps { length found.now.keeps.items ≡ length found.now.rows.items }
+    requires within { (n j : ℕ) → Edge found.now.rows.items n j → j < length found.now.rows.items }
+    ensures choosing { IfOk result (λ o. IfSome o (λ v. found.now.choosing ≡ false)) }
+    ensures ranks { IfOk result (λ o. IfSome o (λ v. AreForward found.now.keeps.items found.now.rows.items v.items 0)) }
+{
+    if found.choosing {
+        return Ok(None);
+    }
+    forward_ranks(alloc, found.keeps.as_slice(), found.rows.as_slice())
+}
+
+// The search among the candidates.
+fn search_among<L: Ledger>(
+    alloc: Global,
+    sub: &Machine,
+    above: &Machine,
+    bound: u8,
+    found: Candidates,
+    steps: &mut Steps<L>,
+) -> Result<Derivation, SearchFault>
+    requires theirs { IsProper above.now }
+    requires found { IsDiscovery (nexts_within sub.now above.now bound) (begin sub.now above.now) found.points.items found.rows.items }
+    requires few { length found.points.items ≤ MOST_CANDIDATES }
+    requires short { (n : ℕ) → length (slice_index_or found.rows.items n []) ≤ 2 ^ 16 }
+    requires anys { found.anys.items ≡ map (is_any sub.now above.now bound) found.points.items }
+    requires keeps { found.keeps.items ≡ map (is_keeping sub.now above.now bound) found.points.items }
+    requires cut { found.cut ≡ list_any (is_cut sub.now above.now bound) found.points.items }
+    ensures ok { IfOk result (λ d. IsFound sub.now above.now bound d) }
+    ensures err { IfErr result (λ e. Refuses sub.now above.now bound e) }
+    ensures steps { OnOk result (IsWithinCost sub.now above.now bound steps.old steps.new) }
+    ensures cost { IfErr result (λ e. Costs sub.now above.now bound e steps.old steps.new) }
+{
+    let survey = match explore(alloc, sub, above, bound, found, steps) {
         Ok(survey) => survey,
         Err(fault) => return Err(fault),
     };

@@ -1,13 +1,13 @@
 //! The candidates, their graph and what is left of it.
 ghost use Rattle.std.specs.Prelude.{◌≡◌, ◌<◌, ◌≤◌, ◌+◌, ◌^◌, [], List, ℕ, IfOk, IfErr, length, map, slice_index_or};
-ghost use Rattle.std.specs.List.{sum_by};
+ghost use Rattle.std.specs.List.{list_any, sum_by};
 ghost use Rattle.rs_derive.specs.Derivations.{IsProper};
 ghost use Rattle.rs_graph.specs.Built.{IsBuilt};
 ghost use Rattle.rs_search.specs.Candidates.{begin};
 ghost use Rattle.rs_search.specs.Canonical.{Refuses};
 ghost use Rattle.rs_search.specs.Costs.{Costs};
 ghost use Rattle.rs_graph.specs.Discovery.{IsDiscovery};
-ghost use Rattle.rs_search.specs.Turns.{is_any, is_keeping};
+ghost use Rattle.rs_search.specs.Turns.{is_any, is_choosing, is_cut, is_keeping};
 ghost use Rattle.rs_graph.specs.Removal.{IsRemoval, at, cost_of, moves_at};
 ghost use Rattle.rs_search.specs.Turns.{nexts_within};
 
@@ -26,16 +26,47 @@ pub struct Survey {
     pub left: Removal,
 }
 
-/// The candidates and the survivors, where the start survives.
+/// The candidates within the bound.
+pub fn candidates_of(
+    alloc: Global,
+    sub: &Machine,
+    above: &Machine,
+    bound: u8,
+) -> Result<Candidates, SearchFault>
+    requires ours { IsProper sub.now }
+    requires theirs { IsProper above.now }
+    ensures found { IfOk result (λ d. IsDiscovery (nexts_within sub.now above.now bound) (begin sub.now above.now) d.points.items d.rows.items) }
+    ensures few { IfOk result (λ d. length d.points.items ≤ MOST_CANDIDATES) }
+    ensures short { IfOk result (λ d. (n : ℕ) → length (slice_index_or d.rows.items n []) ≤ 2 ^ 16) }
+    ensures anys { IfOk result (λ d. d.anys.items ≡ map (is_any sub.now above.now bound) d.points.items) }
+    ensures keeps { IfOk result (λ d. d.keeps.items ≡ map (is_keeping sub.now above.now bound) d.points.items) }
+    ensures cut { IfOk result (λ d. d.cut ≡ list_any (is_cut sub.now above.now bound) d.points.items) }
+    ensures choosing { IfOk result (λ d. d.choosing ≡ list_any (is_choosing sub.now above.now bound) d.points.items) }
+    ensures err { IfErr result (λ e. Refuses sub.now above.now bound e) }
+    ensures cost { IfErr result (λ e. (steps : ℕ) → Costs sub.now above.now bound e steps steps) }
+{
+    match find_all(alloc, sub, above, bound, MOST_CANDIDATES) {
+        Ok(found) => Ok(found),
+        Err(Fault::TooLarge) => Err(SearchFault::TooLarge),
+        Err(Fault::Memory) => Err(SearchFault::NoMemory),
+    }
+}
+
+/// The survivors among the candidates, where the start survives.
 pub fn explore<L: Ledger>(
     alloc: Global,
     sub: &Machine,
     above: &Machine,
     bound: u8,
+    found: Candidates,
     steps: &mut Steps<L>,
 ) -> Result<Survey, SearchFault>
-    requires ours { IsProper sub.now }
-    requires theirs { IsProper above.now }
+    requires found { IsDiscovery (nexts_within sub.now above.now bound) (begin sub.now above.now) found.points.items found.rows.items }
+    requires few { length found.points.items ≤ MOST_CANDIDATES }
+    requires short { (n : ℕ) → length (slice_index_or found.rows.items n []) ≤ 2 ^ 16 }
+    requires anys { found.anys.items ≡ map (is_any sub.now above.now bound) found.points.items }
+    requires keeps { found.keeps.items ≡ map (is_keeping sub.now above.now bound) found.points.items }
+    requires cut { found.cut ≡ list_any (is_cut sub.now above.now bound) found.points.items }
     ensures found { IfOk result (λ s. IsDiscovery (nexts_within sub.now above.now bound) (begin sub.now above.now) s.found.points.items s.found.rows.items) }
     ensures short { IfOk result (λ s. (n : ℕ) → length (slice_index_or s.found.rows.items n []) ≤ 2 ^ 16) }
     ensures keeps { IfOk result (λ s. s.found.keeps.items ≡ map (is_keeping sub.now above.now bound) s.found.points.items) }
@@ -48,11 +79,6 @@ pub fn explore<L: Ledger>(
     ensures steps { IfOk result (λ s. steps.new ≡ steps.old + sum_by (λ n. cost_of s.graph.intos n) s.left.order.items) }
     ensures cost { IfErr result (λ e. Costs sub.now above.now bound e steps.old steps.new) }
 {
-    let found = match find_all(alloc, sub, above, bound, MOST_CANDIDATES) {
-        Ok(found) => found,
-        Err(Fault::TooLarge) => return Err(SearchFault::TooLarge),
-        Err(Fault::Memory) => return Err(SearchFault::NoMemory),
-    };
     let graph = match graph_of(alloc, found.anys.as_slice(), found.rows.as_slice()) {
         Ok(graph) => graph,
         Err(_) => return Err(SearchFault::NoMemory),

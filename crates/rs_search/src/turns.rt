@@ -82,6 +82,17 @@ impl Model for Turn {
     ghost view = { λ t. record { cut = t.cut; any = t.any; keeps = t.keeps; spots = t.spots.items } };
 }
 
+impl Turn {
+    ghost use Rattle.rs_search.specs.Turns.{has_choice};
+
+    /// Whether it chooses among several spots, or has none to choose.
+    pub fn has_choice(&self) -> bool
+        ensures { result ≡ has_choice self.now }
+    {
+        self.any && self.spots.len() != 1
+    }
+}
+
 /// What the spot can do within the bound. Its spots are no more than there are labels.
 pub fn turn_within(
     alloc: Global,

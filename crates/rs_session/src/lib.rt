@@ -3,6 +3,7 @@
 #![tactic(auto)]
 
 mod ends;
+mod ensembles;
 mod gathering;
 pub mod laws;
 mod leaving;
@@ -12,6 +13,8 @@ mod stages;
 mod standing;
 
 pub use ends::CloseFault;
+pub use ensembles::Ensemble;
 pub use leaving::{LeftFault, LeftOver};
+pub use places::place_of;
 pub use sessions::Session;
 pub use stages::{Ended, Left, Receiving, Sending, Sent, Stage, Taken};

@@ -5,7 +5,7 @@ ghost use Rattle.rs_model.specs.declared.graph.Arm.{Arm};
 use rs_model::{Arm, Label};
 
 /// The place of the arm with that label, of arms with no label twice: so there are at most as many as labels.
-pub(crate) fn place_of(arms: &[Arm], label: Label) -> u16
+pub fn place_of(arms: &[Arm], label: Label) -> u16
     requires once { (i j : ℕ) (a b : Arm) → slice_get arms.now i ≡ Some a → slice_get arms.now j ≡ Some b → a.label ≡ b.label → i ≡ j }
     requires some { (place : ℕ) × (label_of (slice_get arms.now place) ≡ Some label) }
     ensures { label_of (slice_get arms.now result) ≡ Some label }

@@ -87,6 +87,13 @@ impl Session {
         &self.rings
     }
 
+    pub(crate) fn of_rings(rings: Rings) -> Session
+        requires { IsWhole rings }
+        ensures { result ≡ rings }
+    {
+        Session { rings }
+    }
+
     pub(crate) fn into_rings(self) -> Rings
         ensures rings { result ≡ self }
         ensures whole { IsWhole self }

@@ -13,4 +13,5 @@ pub mod Judging
 pub mod Keeping
 pub mod Arms
 pub mod Bindings
+pub mod Comments
 pub mod PlainNames

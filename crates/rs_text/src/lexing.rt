@@ -5,6 +5,7 @@ ghost use Rattle.rs_text.specs.Signs.{broken};
 ghost use Rattle.rs_text.specs.declared.tokens.FaultKind.TheVariants as fault;
 
 use crate::{Fault, FaultKind, Kind, Token};
+use memchr::memchr;
 use rs_model::MOST_NAME_BYTES;
 use std::marker::Model;
 
@@ -111,17 +112,28 @@ fn gap(bytes: &[u8]) -> usize
     ensures count { result ≡ skipped false bytes.now }
     ensures within { result ≤ length bytes.now }
 {
-    let mut comment = false;
-    for (place, byte) in bytes.iter().enumerate() {
-        if comment {
-            comment = *byte != b'\n';
-        } else if *byte == b'#' {
-            comment = true;
-        } else if !is_blank(*byte) {
-            return place;
+    let mut rest = bytes;
+    loop {
+        match rest {
+            [b'#', behind @ ..] => {
+                let (_, next) = behind.split_at(comment_size(behind));
+                rest = next;
+            }
+            [first, behind @ ..] if is_blank(*first) => rest = behind,
+            _ => return bytes.len() - rest.len(),
         }
     }
-    bytes.len()
+}
+
+/// The count of bytes in front that an open comment holds, as far as the end of its line.
+fn comment_size(bytes: &[u8]) -> usize
+    ensures passed { skipped true bytes.now ≡ result + skipped false (drop result bytes.now) }
+    ensures within { result ≤ length bytes.now }
+{
+    match memchr(b'\n', bytes) {
+        Some(place) => place,
+        None => bytes.len(),
+    }
 }
 
 /// The kind and the size of the token in front.

@@ -178,6 +178,10 @@ pub fn command_serial<S: Source, K: Sink>(
 }
 
 /// Carries out the words, as the program does: what `command_serial` answers, with threads where it needs workers.
+///
+/// What is answered to words and input is the definition `Answers` (`specs/Answers.antt`), which names one list for
+/// each word. That of `check` is `Checks` in `rs_answers`: accepted, or refused for the first reason of `HasNoSession`
+/// and `HasNoDerivations`, one row each. The function with the same exits is `rs_answers::check`.
 pub fn command<R: Threads + Wait + Sync, S: Source, K: Sink>(
     _rt: &R,
     alloc: Global,

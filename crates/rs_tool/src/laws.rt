@@ -1,6 +1,8 @@
 //! Laws about the definitions: each function does nothing, and its contract is the law.
 
-ghost use Rattle.std.specs.Prelude.{◌≡◌, ◌≤◌, ℕ, List, length};
+ghost use Rattle.std.specs.Prelude.{◌≡◌, ◌≤◌, ◌⊎◌, ℕ, List, length};
+ghost use Rattle.rs_core.specs.Configurations.{Configuration, IsReachable};
+ghost use Rattle.rs_core.specs.Safety.{AllEnded, CanStep, HasMismatch};
 ghost use Rattle.rs_derive.specs.Data.{Derivation_data};
 ghost use Rattle.rs_documents.specs.Data.{Document_data};
 ghost use Rattle.rs_documents.specs.Documents.{SpellsDocument};
@@ -35,6 +37,13 @@ pub fn headline_means_one_session()
 /// The headline speaks of one machine a role.
 pub fn headline_has_a_machine_a_role()
     ensures { (bytes : List ℕ) (h : SpellsSafeMachines bytes) → length (machines_of h.machines h.projections) ≡ h.protocol.roles }
+{}
+
+/// Wherever the machines of the headline can get, none meets a message that it doesn't take, and some machine can step or all
+/// have ended with every queue empty.
+pub fn headline_tells_of_safe_machines()
+    ensures fits { (bytes : List ℕ) (h : SpellsSafeMachines bytes) (c : Configuration) → IsReachable (machines_of h.machines h.projections) c → HasMismatch (machines_of h.machines h.projections) c → ⊥ }
+    ensures goes_on { (bytes : List ℕ) (h : SpellsSafeMachines bytes) (c : Configuration) → IsReachable (machines_of h.machines h.projections) c → CanStep (machines_of h.machines h.projections) c ⊎ AllEnded (machines_of h.machines h.projections) c }
 {}
 
 /// A run whose queues hold as many messages as the room of the session says is never full.

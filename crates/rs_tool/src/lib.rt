@@ -14,4 +14,6 @@ pub use rs_words::DEFAULT_BOUND;
 pub use statuses::{Reply, Serial, Status};
 
 #[cfg(test)]
+mod limit_tests;
+#[cfg(test)]
 mod tests;

@@ -7,15 +7,15 @@ use std::sync::Wait;
 use std::test::Fail;
 use std::thread::Threads;
 
-const SESSION: &str = "roles A, B\nprotocol A->B:x(). B->A:y(). end\n";
+pub(crate) const SESSION: &str = "roles A, B\nprotocol A->B:x(). B->A:y(). end\n";
 
-const REPORT: &str = "accepted\nA: nodes 4 pending 1 rank 0\nB: nodes 4 pending 1 rank 0\nroom 3\n";
+pub(crate) const REPORT: &str = "accepted\nA: nodes 4 pending 1 rank 0\nB: nodes 4 pending 1 rank 0\nroom 3\n";
 
 /// The double buffer with an end, without a machine of the kernel's own.
-const BUFFER: &str =
+pub(crate) const BUFFER: &str =
     "roles K, S, T\nprotocol rec X. K->S:ready(). T->K:ready(). S->K{copy(bytes). K->T:copy(bytes). X, stop(). K->S:ready(). K->T:stop(). end}\n";
 
-const BUFFER_TABLES: &str =
+pub(crate) const BUFFER_TABLES: &str =
     "table K {\n0 S!{ready() 1}\n1 T?{ready() 2}\n2 S?{copy(bytes) 3, stop() 4}\n3 T!{copy(bytes) 0}\n4 S!{ready() 5}\n5 T!{stop() 6}\n6 end\n}\ntable S {\n0 K?{ready() 1}\n1 K!{copy(bytes) 0, stop() 2}\n2 K?{ready() 3}\n3 end\n}\ntable T {\n0 K!{ready() 1}\n1 K?{copy(bytes) 0, stop() 2}\n2 end\n}\n";
 
 fn strings(alloc: Global, words: &[&str]) -> Result<Vec<String>, Fail> {
@@ -27,7 +27,7 @@ fn strings(alloc: Global, words: &[&str]) -> Result<Vec<String>, Fail> {
 }
 
 /// The status, and what was written.
-fn answer<R: Threads + Wait + Sync>(
+pub(crate) fn answer<R: Threads + Wait + Sync>(
     rt: &R,
     alloc: Global,
     words: &[&str],
@@ -72,6 +72,7 @@ fn words_that_read_nothing_have_their_answers(rt: HostRuntime) -> Result<(), Fai
     for (words, status, written) in [
         ([].as_slice(), Status::Usage, usage),
         (["check", "x"].as_slice(), Status::Usage, usage),
+        (["show", "x"].as_slice(), Status::Usage, usage),
         (["check", "--bound", "0"].as_slice(), Status::Usage, usage),
         (["check", "--bound", "65"].as_slice(), Status::Usage, usage),
         (["check", "--bound", "016"].as_slice(), Status::Usage, usage),
@@ -821,131 +822,6 @@ fn reads_and_writes_that_fail_are_told(rt: HostRuntime) -> Result<(), Fail> {
     let reply = command(&rt, alloc, words.as_slice(), &mut source, &mut sink);
     assert_eq!(rt; reply.status, Status::WriteFault);
     assert_eq!(rt; sink.bytes(), b"accepted".as_slice());
-    Ok(())
-}
-
-/// A piece so many times between two others.
-fn repeated(
-    alloc: Global,
-    before: &str,
-    piece: &str,
-    count: u32,
-    behind: &str,
-) -> Result<String, Fail> {
-    let mut text = String::from_str(alloc, before)?;
-    for _ in 0..count {
-        text.push_str(piece)?;
-    }
-    text.push_str(behind)?;
-    Ok(text)
-}
-
-/// A talk with so many arms.
-fn many_arms(alloc: Global, arms: u32) -> Result<String, Fail> {
-    let mut text = String::from_str(alloc, "roles A, B\nprotocol A->B{")?;
-    for arm in 0..arms {
-        if arm > 0 {
-            text.push_str(", ")?;
-        }
-        text.push_str(format!(in alloc; "l{arm}(). end")?.as_str())?;
-    }
-    text.push_str("}\n")?;
-    Ok(text)
-}
-
-/// After its first message p is in one of 31 times 33 sets of two talks; `before` stands before all.
-fn many_sets(alloc: Global, before: &str) -> Result<String, Fail> {
-    let mut text = String::from_str(alloc, "roles p, q, r\nprotocol ")?;
-    text.push_str(before)?;
-    text.push_str("q->p:a(). q->r{l1(). rec X. ")?;
-    text.push_str(repeated(alloc, "", "q->p:a(). ", 31, "X, l2(). rec Y. ")?.as_str())?;
-    text.push_str(repeated(alloc, "", "q->p:a(). ", 33, "Y}\n")?.as_str())?;
-    Ok(text)
-}
-
-#[test]
-fn limits_hold_at_their_last_value(rt: HostRuntime) -> Result<(), Fail> {
-    let alloc = rt.alloc();
-    let talks = "roles A, B, C, D\nprotocol ";
-    for (text, status, written) in [
-        (
-            repeated(alloc, talks, "A->B:x(). C->D:x(). ", 512, "end")?,
-            Status::Fine,
-            "accepted\nA: nodes 513 pending 0 rank 0\nB: nodes 1025 pending 1 rank 0\nC: nodes 513 pending 0 rank 0\nD: nodes 1025 pending 1 rank 0\nroom 3\n",
-        ),
-        (
-            repeated(alloc, talks, "A->B:x(). C->D:x(). ", 512, "A->B:x(). end")?,
-            Status::TooLarge,
-            "too large: nodes\n",
-        ),
-        (
-            repeated(alloc, "roles A, B\nprotocol ", "A->B:x(). ", 1_024, "end")?,
-            Status::TooLarge,
-            "too large: projection A\n",
-        ),
-        (
-            repeated(alloc, "roles A, B\nprotocol ", "A->B:x(). ", 1_023, "end")?,
-            Status::Fine,
-            "accepted\nA: nodes 1024 pending 0 rank 0\nB: nodes 2047 pending 1 rank 0\nroom 3\n",
-        ),
-        (
-            many_arms(alloc, 32)?,
-            Status::Fine,
-            "accepted\nA: nodes 2 pending 0 rank 0\nB: nodes 34 pending 1 rank 0\nroom 3\n",
-        ),
-        (many_arms(alloc, 33)?, Status::TooLarge, "too large: arms\n"),
-        (
-            repeated(
-                alloc,
-                "roles A, B\nprotocol ",
-                "rec X. ",
-                200,
-                "A->B:x(). X",
-            )?,
-            Status::Fine,
-            "accepted\nA: nodes 1 pending 0 rank 0\nB: nodes 2 pending 1 rank 0\nroom 3\n",
-        ),
-        (
-            repeated(
-                alloc,
-                "roles A, B\nprotocol ",
-                "rec X. ",
-                201,
-                "A->B:x(). X",
-            )?,
-            Status::TooLarge,
-            "too large: nesting\n",
-        ),
-        (
-            repeated(alloc, SESSION, " ", 1_048_576 - 44, "")?,
-            Status::Fine,
-            REPORT,
-        ),
-        (
-            repeated(alloc, SESSION, " ", 1_048_577 - 44, "")?,
-            Status::TooLarge,
-            "too large: text\n",
-        ),
-        (
-            many_sets(alloc, "")?,
-            Status::Fine,
-            "accepted\np: nodes 2048 pending 1 rank 0\nq: nodes 66 pending 0 rank 0\nr: nodes 4 pending 1 rank 0\nroom 3\n",
-        ),
-        (
-            many_sets(alloc, "q->p:a(). ")?,
-            Status::TooLarge,
-            "too large: projection p\n",
-        ),
-    ] {
-        let (found, bytes) = answer(&rt, alloc, &["check"], text.as_bytes())?;
-        assert_eq!(rt; found, status, "{written}");
-        assert_eq!(rt; bytes.as_slice(), written.as_bytes());
-    }
-    let name = repeated(alloc, "", "n", 65, "")?;
-    let text = format!(in alloc; "roles A, {name}")?;
-    let (found, bytes) = answer(&rt, alloc, &["check"], text.as_bytes())?;
-    assert_eq!(rt; found, Status::TooLarge);
-    assert_eq!(rt; bytes.as_slice(), b"too large: name\n".as_slice());
     Ok(())
 }
 

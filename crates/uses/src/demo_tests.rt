@@ -8,7 +8,7 @@ use crate::session::{Session, session_of};
 use rs_core::{Outcome, Run};
 use rs_demos::{Demo, DemoActor, demo_actors, demo_document, demo_output};
 use rs_documents::read_document;
-use rs_exec::run_inline;
+use rs_exec::{Ran, run_inline};
 use rs_model::NoMemory;
 use rs_safety::{Accepted, accept};
 use rs_text::Text;
@@ -29,9 +29,13 @@ fn printed_by(
     }
     match run_inline(alloc, accepted, actors, room as u16, 4_096) {
         Ok(
-            Run {
-                outcome: Outcome::Ended(_),
-                actors,
+            Ran {
+                run:
+                    Run {
+                        outcome: Outcome::Ended(_),
+                        actors,
+                    },
+                ..
             },
         ) => demo_output(alloc, kind, actors.as_slice()).ok(),
         _ => None,

@@ -81,8 +81,8 @@ fn run_session(
     let actors = actors_for(alloc, accepted.machines())?;
     match capacity {
         Some(capacity) => {
-            let run = run_inline(alloc, accepted, actors, capacity, limit)?;
-            Ok(end_of(run))
+            let ran = run_inline(alloc, accepted, actors, capacity, limit)?;
+            Ok(end_of(ran.run))
         }
         None => {
             let machines = copies_of(alloc, accepted.machines())?;

@@ -1,4 +1,4 @@
-use Rattle.rs_global.proofs.OneFault.{tells}
+use Rattle.rs_global.proofs.Spelt.{tells}
 use Rattle.rs_global.proofs.fault_laws.first_fault_is_told.Goals as goal
 
 pub returns : goal.returns

@@ -1,4 +1,4 @@
-use Rattle.rs_global.proofs.Answers.{an_answer}
+use Rattle.rs_global.proofs.Spelt.{an_answer}
 use Rattle.rs_global.proofs.laws.has_an_answer.Goals as goal
 
 pub returns : goal.returns

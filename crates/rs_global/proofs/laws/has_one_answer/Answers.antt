@@ -1,4 +1,4 @@
-use Rattle.rs_global.proofs.Answers.{one_answer}
+use Rattle.rs_global.proofs.Spelt.{one_answer}
 use Rattle.rs_global.proofs.laws.has_one_answer.Goals as goal
 
 pub returns : goal.returns

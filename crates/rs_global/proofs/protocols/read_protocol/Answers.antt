@@ -1,19 +1,6 @@
-use Rattle.rs_global.specs.Feeding.{begin, feeding}
-use Rattle.rs_global.proofs.OneFault.{judges, begins}
-use Rattle.rs_global.proofs.Placing.{stays_below}
-use Rattle.rs_text.proofs.Keeping.{refused, told_within}
-use Rattle.rs_global.proofs.SpeltLaws.{reads_spelt}
-use Rattle.rs_global.proofs.Sounding.{names_sound}
+use Rattle.std.proofs.Common.{rules}
+use Rattle.rs_global.proofs.Spelt.{spells}
 use Rattle.rs_global.proofs.protocols.read_protocol.Goals as goal
 
-pub returns-in-Ok-graph-clause-sound : goal.returns-in-Ok-graph-clause-sound
-returns-in-Ok-graph-clause-sound c = names_sound c.args.bytes.now c.args.at c.in-Ok.reader c.in-Ok.until c.in-Ok-graph.names c.requires c.in-Ok.ensures.ok c.in-Ok-graph.ensures.names
-
-pub returns-in-Err-clause-place : goal.returns-in-Err-clause-place
-returns-in-Err-clause-place c = told_within feeding stays_below c.in-Err.stop begin c.args.bytes.now c.args.at c.told-in-Err.result c.told-in-Err.ensures c.requires c.in-Err.ensures.err
-
-pub returns-in-Ok-graph-clause-ok : goal.returns-in-Ok-graph-clause-ok
-returns-in-Ok-graph-clause-ok c = reads_spelt c.args.bytes.now c.args.at c.in-Ok.reader c.in-Ok.until c.in-Ok-graph.names c.in-Ok-graph.protocol c.requires c.in-Ok.ensures.ok c.in-Ok-graph.ensures.names c.in-Ok-graph.ensures.protocol
-
-pub returns-in-Err-clause-err : goal.returns-in-Err-clause-err
-returns-in-Err-clause-err c = refused judges begin begins c.in-Err.stop c.args.bytes.now c.args.at c.told-in-Err.result c.told-in-Err.ensures c.requires c.in-Err.ensures.err
+pub returns-in-Ok-clause-ok : goal.returns-in-Ok-clause-ok
+returns-in-Ok-clause-ok c = spells c.args.bytes.now c.args.at _ c.read_part.new.names c.in_ok-spelling.spelling _ c.in-Ok.protocol c.in_ok-spelling.until (search rules) c.in_ok-spelling.ensures.ok (search rules) c.in-Ok.ensures.protocol

@@ -1,4 +1,4 @@
-use Rattle.rs_global.proofs.SpeltLaws.{spelt_or_faulty}
+use Rattle.rs_global.proofs.Spelt.{spelt_or_faulty}
 use Rattle.rs_global.proofs.spelling_laws.text_is_spelt_or_has_a_fault.Goals as goal
 
 pub returns : goal.returns

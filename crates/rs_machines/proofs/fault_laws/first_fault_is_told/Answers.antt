@@ -1,4 +1,4 @@
-use Rattle.rs_machines.proofs.OneFault.{tells}
+use Rattle.rs_machines.proofs.Spelt.{tells}
 use Rattle.rs_machines.proofs.fault_laws.first_fault_is_told.Goals as goal
 
 pub returns : goal.returns

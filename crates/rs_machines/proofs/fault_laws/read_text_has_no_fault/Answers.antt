@@ -1,4 +1,4 @@
-use Rattle.rs_machines.proofs.OneFault.{no_fault}
+use Rattle.rs_machines.proofs.Spelt.{no_fault}
 use Rattle.rs_machines.proofs.fault_laws.read_text_has_no_fault.Goals as goal
 
 pub returns : goal.returns

@@ -1,4 +1,4 @@
-use Rattle.rs_machines.proofs.SpeltLaws.{spelt_no_fault}
+use Rattle.rs_machines.proofs.Spelt.{spelt_no_fault}
 use Rattle.rs_machines.proofs.fault_laws.spelt_text_has_no_fault.Goals as goal
 
 pub returns : goal.returns

@@ -1,4 +1,4 @@
-use Rattle.rs_machines.proofs.SpeltLaws.{spelt_is_read}
+use Rattle.rs_machines.proofs.Spelt.{spelt_is_read}
 use Rattle.rs_machines.proofs.fault_laws.spelt_text_is_read.Goals as goal
 
 pub returns : goal.returns

@@ -1,4 +1,4 @@
-use Rattle.rs_machines.proofs.OneFault.{one_fault}
+use Rattle.rs_machines.proofs.Spelt.{one_fault}
 use Rattle.rs_machines.proofs.fault_laws.text_has_one_first_fault.Goals as goal
 
 pub returns : goal.returns

@@ -1,4 +1,4 @@
-use Rattle.rs_machines.proofs.OneFault.{begins_before}
+use Rattle.rs_machines.proofs.Spelt.{begins_before}
 use Rattle.rs_machines.proofs.fault_laws.tokens_before_the_fault_begin_a_machine.Goals as goal
 
 pub returns : goal.returns

@@ -1,4 +1,4 @@
-use Rattle.rs_machines.proofs.Answers.{an_answer}
+use Rattle.rs_machines.proofs.Spelt.{an_answer}
 use Rattle.rs_machines.proofs.laws.has_an_answer.Goals as goal
 
 pub returns : goal.returns

@@ -1,28 +1,5 @@
-use Rattle.std.proofs.Common.{rules, ◌≡◌, ap, subst}
-use Rattle.rs_machines.specs.Drafts.{names_read}
-use Rattle.rs_machines.specs.Feeding.{begin, feeding}
-use Rattle.rs_machines.proofs.Refusals.{begins_with, left}
-use Rattle.rs_machines.proofs.SpeltLaws.{reads_spelt}
+use Rattle.rs_machines.proofs.Spelt.{spells}
 use Rattle.rs_machines.proofs.machines.read_machine.Goals as goal
-use Rattle.rs_text.proofs.Keeping.{told_within, refused}
-use Rattle.rs_machines.proofs.OneFault.{judges, begins}
-use Rattle.rs_machines.proofs.Placing.{stays_below}
-use Rattle.rs_text.specs.Readings.{StopsBy}
 
 pub returns-in-Ok-clause-ok : goal.returns-in-Ok-clause-ok
-returns-in-Ok-clause-ok c =
-    let first : c.new-reader.result ≡ begin c.args.names.now = begins_with c.new-reader.result c.args.names.now _ _ c.new-reader.ensures (search rules) (search rules) in
-    reads_spelt c.args.names.now _ c.args.bytes.now c.args.at c.new-reader.result _ c.in-Ok.read.1 c.in-Ok.read.0 first c.requires.at c.in-Ok.ensures.ok (search rules) (ap names_read first) c.in-Ok.ensures.kept (search rules) c.in-Ok.ensures.machine
-
-pub returns-clause-err : goal.returns-clause-err
-returns-clause-err c =
-    let first : c.new-reader.result ≡ begin c.args.names.now = begins_with c.new-reader.result c.args.names.now _ _ c.new-reader.ensures (search rules) (search rules) in
-    refused (judges c.args.names.now) (begin c.args.names.now) (begins c.args.names.now) c.in-Err.stop c.args.bytes.now c.args.at c.told.result c.told.ensures c.requires.at (subst (λ z. StopsBy feeding c.in-Err.stop z c.args.bytes.now c.args.at) first c.in-Err.ensures.err)
-
-pub returns-clause-left : goal.returns-clause-left
-returns-clause-left c =
-    let first : c.new-reader.result ≡ begin c.args.names.now = begins_with c.new-reader.result c.args.names.now _ _ c.new-reader.ensures (search rules) (search rules) in
-    left c.in-Err.stop c.args.names.now _ c.new-reader.result c.args.bytes.now c.args.at _ c.told.result c.told.ensures first c.requires.at c.in-Err.ensures.err c.in-Err.ensures.left (search rules) (search rules)
-
-pub returns-clause-place : goal.returns-clause-place
-returns-clause-place c = told_within feeding stays_below c.in-Err.stop c.new-reader.result c.args.bytes.now c.args.at c.told.result c.told.ensures c.requires.at c.in-Err.ensures.err
+returns-in-Ok-clause-ok c = spells c.args.bytes.now c.args.at c.args.names.now _ _ c.in-Ok.machine _ c.in_ok-spelling.ensures.ok c.in-Ok.ensures.machine

@@ -1,4 +1,4 @@
-use Rattle.rs_machines.proofs.SpeltRuns.{complete}
+use Rattle.rs_machines.proofs.Spelt.{complete}
 use Rattle.rs_machines.proofs.spelling_laws.spelling_is_read.Goals as goal
 
 pub returns : goal.returns

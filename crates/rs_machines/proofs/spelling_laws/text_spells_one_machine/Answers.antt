@@ -1,4 +1,4 @@
-use Rattle.rs_machines.proofs.SpeltLaws.{one_spelling}
+use Rattle.rs_machines.proofs.Spelt.{one_spelling}
 use Rattle.rs_machines.proofs.spelling_laws.text_spells_one_machine.Goals as goal
 
 pub returns : goal.returns

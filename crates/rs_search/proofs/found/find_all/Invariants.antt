@@ -2,17 +2,19 @@ use Rattle.std.proofs.Common.{◌≡◌, ℕ, ◌<◌, ◌≤◌, ◌-◌, ◌^�
 use Rattle.std.specs.List.{list_any}
 use Rattle.rs_search.specs.Buckets.{bucket_of}
 use Rattle.rs_search.specs.Candidates.{begin}
-use Rattle.rs_graph.specs.Discovery.{Growing, Filed}
-use Rattle.rs_search.specs.Turns.{is_any, is_cut, is_keeping}
+use Rattle.rs_graph.specs.Discovery.{Growing}
+use Rattle.rs_search.specs.Index.{AreChained}
+use Rattle.rs_search.specs.Turns.{is_any, is_choosing, is_cut, is_keeping}
 use Rattle.rs_search.specs.Turns.{nexts_within}
 use Rattle.rs_search.proofs.found.find_all.Given as goal
 
 abbrev pub invariant-loop-alloc : goal.invariant-loop-alloc
 invariant-loop-alloc l = Growing (nexts_within l.sub l.above l.bound) (begin l.sub l.above) l.points.items l.rows.items × (length l.points.items ≤ l.limit)
-    × ((0 < length l.buckets.items) × (length l.buckets.items < 2 ^ 32)) × Filed (bucket_of (length l.buckets.items)) l.points.items l.buckets.items
+    × ((0 < length l.index.heads.items) × (length l.index.heads.items < 2 ^ 32)) × AreChained (bucket_of (length l.index.heads.items)) l.points.items l.index.heads.items l.index.links.items
     × (l.anys.items ≡ map (is_any l.sub l.above l.bound) (take (length l.rows.items) l.points.items))
     × (l.keeps.items ≡ map (is_keeping l.sub l.above l.bound) (take (length l.rows.items) l.points.items))
     × (l.cut ≡ list_any (is_cut l.sub l.above l.bound) (take (length l.rows.items) l.points.items))
+    × (l.choosing ≡ list_any (is_choosing l.sub l.above l.bound) (take (length l.rows.items) l.points.items))
     × ((n : ℕ) → length (slice_index_or l.rows.items n []) ≤ 2 ^ 16)
 
 abbrev pub decreases-loop-alloc : goal.decreases-loop-alloc

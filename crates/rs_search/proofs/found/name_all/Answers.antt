@@ -1,29 +1,38 @@
-use Rattle.std.proofs.Common.{arith, ℕ, ◌+◌, sym, ◌∙◌, subst}
-use Rattle.rs_graph.specs.Discovery.{NoMore, Filed}
+use Rattle.std.proofs.Common.{rules, arith, ◌≡◌, ◌∙◌, ℕ, List, length, subst, sym, refl}
+use Rattle.std.proofs.lemmas.Iterator.Adapters.{YieldsList-from_vec}
+use Rattle.std.proofs.lemmas.Iterator.Consumers.{YieldsList-turn}
+use Rattle.rs_derive.specs.Moves.{Spot}
+use Rattle.rs_graph.specs.Lists.{Among}
+use Rattle.rs_graph.proofs.Growth.{in_at, reads_at}
 use Rattle.rs_search.specs.Buckets.{bucket_of}
-use Rattle.rs_graph.proofs.Growth.{grown_none, grown_on, grown_all, named_on, reads_at}
+use Rattle.rs_search.specs.Index.{AreChained}
+use Rattle.rs_search.proofs.Alike.{among_all, grown_all_of, named_none, named_push}
 use Rattle.rs_search.proofs.found.name_all.Goals as goal
 
-pub loop-i-init : goal.loop-i-init
-loop-i-init c = (grown_none c.args.found.now.items c.args.ps.now, omega arith, c.requires.few, rw c.new-numbers.ensures tt, rw c.new-numbers.ensures (NoMore _), c.requires.filed, omega arith)
+pub loop-spot-init : goal.loop-spot-init
+loop-spot-init c = (rw c.new-numbers.ensures (named_none c.args.found.now.items), c.requires.few, c.requires.chained, refl, λ p h. absurd h)
 
 pub returns-in_err-n-clause-grown : goal.returns-in_err-n-clause-grown
 returns-in_err-n-clause-grown c =
-    let h = reads_at c.args.ps.now c.loop-i.i c.index-ps-i.result c.index-ps-i.result c.loop-i-test.true (sym c.index-ps-i.is) in
-    grown_all c.args.found.now.items c.args.ps.now c.number_of.new.found.items (c.loop-i.i + 1)
-    (grown_on c.args.found.now.items c.args.ps.now c.loop-i.found.items c.loop-i.i c.index-ps-i.result c.number_of.new.found.items h c.loop-i.invariant.0 c.number_of.ensures.adds)
+    let t = YieldsList-turn (YieldsList-from_vec {s = c.into_iter-spot-iterator.result} c.args.spots.items (search rules) (search rules)) c.loop-spot.yielded c.loop-spot.spot-iterator c.loop-spot.yielded_by c.next.result c.next.new.self c.in-Some.spot c.in-Some.is c.next.ensures.steps in
+    let one : Among c.args.spots.items c.in-Some.spot = in_at c.args.spots.items (length c.loop-spot.yielded) c.in-Some.spot (reads_at c.args.spots.items (length c.loop-spot.yielded) c.in-Some.spot c.in-Some.spot t.0 (sym t.1)) in
+    grown_all_of c.args.found.now.items c.loop-spot.yielded c.loop-spot.found.items c.number_of.new.found.items c.in-Some.spot c.args.spots.items c.loop-spot.invariant.0.grown c.number_of.ensures.adds c.loop-spot.invariant.4 one
+
+pub loop-spot-preserved : goal.loop-spot-preserved
+loop-spot-preserved c =
+    let e = c.in_ok-n.ensures in
+    let i = c.loop-spot.invariant in
+    let t = YieldsList-turn (YieldsList-from_vec {s = c.into_iter-spot-iterator.result} c.args.spots.items (search rules) (search rules)) c.loop-spot.yielded c.loop-spot.spot-iterator c.loop-spot.yielded_by c.next.result c.next.new.self c.in-Some.spot c.in-Some.is c.next.ensures.steps in
+    let one : Among c.args.spots.items c.in-Some.spot = in_at c.args.spots.items (length c.loop-spot.yielded) c.in-Some.spot (reads_at c.args.spots.items (length c.loop-spot.yielded) c.in-Some.spot c.in-Some.spot t.0 (sym t.1)) in (
+      named_push c.args.found.now.items c.loop-spot.yielded c.loop-spot.found.items c.number_of.new.found.items c.in-Some.spot c.in_ok-n.n c.loop-spot.numbers c.push.new.self i.0 e.adds e.at e.old e.fresh c.number_of.ensures.longer c.in_ok-push.ensures.ok,
+      e.few,
+      subst (λ (z : ℕ). AreChained (bucket_of z) c.number_of.new.found.items c.number_of.new.index.heads.items c.number_of.new.index.links.items) i.3 e.chained,
+      e.size ∙ i.3,
+      among_all c.loop-spot.yielded c.in-Some.spot c.args.spots.items i.4 one,
+    )
 
 pub returns-in_err-push-clause-grown : goal.returns-in_err-push-clause-grown
 returns-in_err-push-clause-grown c =
-    let h = reads_at c.args.ps.now c.loop-i.i c.index-ps-i.result c.index-ps-i.result c.loop-i-test.true (sym c.index-ps-i.is) in
-    grown_all c.args.found.now.items c.args.ps.now c.number_of.new.found.items (c.loop-i.i + 1)
-    (grown_on c.args.found.now.items c.args.ps.now c.loop-i.found.items c.loop-i.i c.index-ps-i.result c.number_of.new.found.items h c.loop-i.invariant.0 c.number_of.ensures.adds)
-
-pub loop-i-preserved : goal.loop-i-preserved
-loop-i-preserved c =
-    let e = c.in_ok-n.ensures in
-    let i = c.loop-i.invariant in
-    let h = reads_at c.args.ps.now c.loop-i.i c.index-ps-i.result c.index-ps-i.result c.loop-i-test.true (sym c.index-ps-i.is) in
-    let n = named_on c.args.found.now.items c.args.ps.now c.loop-i.found.items c.loop-i.i c.index-ps-i.result c.in_ok-n.n c.loop-i.numbers c.number_of.new.found.items h e.adds e.at e.old e.fresh i.3 i.4 in
-    rw c.in_ok-push.ensures.ok
-    (grown_on c.args.found.now.items c.args.ps.now c.loop-i.found.items c.loop-i.i c.index-ps-i.result c.number_of.new.found.items h i.0 e.adds, omega (arith, c.number_of.ensures.longer), e.few, n.0, n.1, subst (λ (z : ℕ). Filed (bucket_of z) c.number_of.new.found.items c.number_of.new.buckets.items) i.6 e.filed, e.size ∙ i.6)
+    let t = YieldsList-turn (YieldsList-from_vec {s = c.into_iter-spot-iterator.result} c.args.spots.items (search rules) (search rules)) c.loop-spot.yielded c.loop-spot.spot-iterator c.loop-spot.yielded_by c.next.result c.next.new.self c.in-Some.spot c.in-Some.is c.next.ensures.steps in
+    let one : Among c.args.spots.items c.in-Some.spot = in_at c.args.spots.items (length c.loop-spot.yielded) c.in-Some.spot (reads_at c.args.spots.items (length c.loop-spot.yielded) c.in-Some.spot c.in-Some.spot t.0 (sym t.1)) in
+    grown_all_of c.args.found.now.items c.loop-spot.yielded c.loop-spot.found.items c.number_of.new.found.items c.in-Some.spot c.args.spots.items c.loop-spot.invariant.0.grown c.number_of.ensures.adds c.loop-spot.invariant.4 one

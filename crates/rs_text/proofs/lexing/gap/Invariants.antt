@@ -1,6 +1,9 @@
-use Rattle.std.proofs.Common.{◌≡◌, ◌+◌, drop, false}
+use Rattle.std.proofs.Common.{◌≡◌, ◌+◌, ◌-◌, ◌≤◌, length, false}
 use Rattle.rs_text.specs.Lexemes.{skipped}
 use Rattle.rs_text.proofs.lexing.gap.Given as goal
 
-abbrev pub invariant-loop-place : goal.invariant-loop-place
-invariant-loop-place l = l.place + skipped l.comment (drop l.place l.bytes) ≡ skipped false l.bytes
+abbrev pub invariant-loop-rest : goal.invariant-loop-rest
+invariant-loop-rest l = (length l.rest ≤ length l.bytes) × ((length l.bytes - length l.rest) + skipped false l.rest ≡ skipped false l.bytes)
+
+abbrev pub decreases-loop-rest : goal.decreases-loop-rest
+decreases-loop-rest l = length l.rest

@@ -6,7 +6,7 @@ use Rattle.rs_slots.specs.declared.parcels.Parcel.{Parcel}
 use Rattle.rs_rings.specs.Acts.{parcels_got}
 use Rattle.rs_rings.specs.Places.{place_of}
 use Rattle.rs_rings.specs.Steps.{HasFittingArm}
-use Rattle.rs_rings.specs.Views.{the_part, with_part, looked_tail, taking}
+use Rattle.rs_rings.specs.Views.{the_part, with_part, looked_tail, taking, KnowsOldest}
 use Rattle.rs_rings.proofs.Parts.{the_role}
 use Rattle.rs_rings.proofs.StepsAsked.{tail_asks, tail_loaded, after, took, took_some}
 use Rattle.rs_rings.proofs.tables.RingTable.look_as.Goals as goal
@@ -34,6 +34,7 @@ returns-then-seen-got-clause-looked g c =
       c.if-seen-got.true,
       t.0,
       after q (looked_tail p r a) v c.load-seen.new.seat.me says role (t.3 (sym is ∙ sym c.if-seen-got.true) ∙ (λ i. (with_part q (looked_tail p r a) v, c.requires.idle.1 i))),
+      t.5,
     )
 
 pub exchange-requires : goal.exchange-requires
@@ -75,7 +76,7 @@ returns-clause-looked g c =
     let slot : place_of n cap p q (length (parcels_got p a.history)) ≡ c.slot.result = ap (place_of n cap p q) (sym is) ∙ sym c.slot.ensures.value in
     let tk = took c.load-seen.new.seat.me c.exchange.new.seat.me p q r (place_of n cap p q got) c.slot.result x c.in-Some.parcel c.exchange.result v a
     (more.2 ∙ (λ i. (with_part q (taking p x r a) v, (place_of n cap p q (sym is i), Some x) ∷ c.requires.idle.1 i))) c.exchange.ensures.2 c.exchange.ensures.3 c.in-Some.is in
-    ((λ e. c.if-seen-got.false (sym e)), t.0, subst (HasFittingArm g.N.CallName.call.arms) tk.0 more.1, tk.1)
+    ((λ e. c.if-seen-got.false (sym e)), t.0, subst (HasFittingArm g.N.CallName.call.arms) tk.0 more.1, tk.1, t.5, subst (KnowsOldest v p q) tk.0 more.3)
 
 pub unreachable-unreachable : goal.unreachable-unreachable
 unreachable-unreachable g c =

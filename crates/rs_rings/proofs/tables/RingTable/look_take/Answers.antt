@@ -88,4 +88,6 @@ returns-in-Found-clause-taken c =
       subst (λ (z : Part). Happened ms q z.history (got_act p c.in-Found.parcel)) here c.give.ensures.event,
       after_twice q y (getting p c.in-Found.parcel c.next_of-next.result y) v u.0 c.give.new.seat.me c.requires.speaks role (ap (λ m. m.0) told.3)
           (subst (λ (z : Part). IsAfter q (getting p c.in-Found.parcel c.next_of-next.result z) u.0 c.give.new.seat.me) here c.give.ensures.given),
+      told.4,
+      told.5,
     )

@@ -1,8 +1,8 @@
-use Rattle.std.proofs.Common.{rules, ◌≡◌, ◌<◌, ◌+◌, ℕ, List, length, refl, ap, ◌∙◌, subst, arith, IfSome}
+use Rattle.std.proofs.Common.{rules, ◌≡◌, ◌<◌, ◌≤◌, ◌+◌, ℕ, List, length, refl, ap, ◌∙◌, subst, arith, IfSome}
 use Rattle.rs_model.specs.Data.{Machine_data}
 use Rattle.rs_model.specs.declared.graph.Arm.{Arm}
 use Rattle.rs_core.specs.Core.{arm_with}
-use Rattle.rs_rings.specs.Acts.{MayPut}
+use Rattle.rs_rings.specs.Acts.{MayPut, parcels_sent}
 use Rattle.rs_rings.specs.Rule.{machines_of}
 use Rattle.rs_rings.specs.Views.{the_part}
 use Rattle.rs_rings.specs.declared.views.Part.{Part}
@@ -71,7 +71,8 @@ returns-in-Done-clause-told c =
     let same = put_arms ms p c.args.receiver a.state c.counts-counts.result.state x c.arms_of-arms.result.now c.requires.can k.state_is c.arms_of-arms.ensures in
     let may : MayPut ms p c.args.receiver.0 a.state x c.next_of-next.result = may_put ms p c.args.receiver a.state x c.next_of-next.result c.requires.well_formed c.requires.can (subst (λ (l : List Arm). IfSome (arm_with l x.label) (λ z. c.next_of-next.result ≡ z.next)) same c.next_of-next.ensures) in
     let d = c.in-Done.ensures.done in
-    record { taken = d.0; next = c.next_of-next.result; not_less = d.1; room = λ e. d.2 (k.sent_is ∙ e); may = may; happened = d.3; changed = changed p _ m.0 c.put_to.new.seat.me d.4 }
+    let sent : ℕ = c.counts-counts.result.sent in let many : ℕ = length (parcels_sent c.args.receiver.0 a.history) in let is : sent ≡ many = k.sent_is in
+    record { taken = d.0; next = c.next_of-next.result; not_less = d.1; room = λ e. d.2 (k.sent_is ∙ e); not_more = subst (λ (z : ℕ). d.0 ≤ z) is d.6; below = subst (λ (z : ℕ). z < d.0 + c.args.self.now.layout.capacity) is d.7; may = may; happened = d.3; changed = changed p _ m.0 c.put_to.new.seat.me d.4; knows = d.5 }
 
 pub returns-in-Full-clause-kept : goal.returns-in-Full-clause-kept
 returns-in-Full-clause-kept c =
@@ -82,4 +83,4 @@ returns-in-Full-clause-told c =
     let k = put_knows (machines_of c.args.self.now.board.shared.key) c.args.self.now.layout.roles c.args.sender.0 c.args.receiver c.args.seat.now.me c.args.rows.now.items c.args.parcel c.counts-counts.result.state c.counts-counts.result.sent c.counts-counts.result.got
     (ap length c.args.self.now.same ∙ c.args.self.now.machine_count) c.args.self.now.layout.few c.requires.well_formed c.requires.kept c.requires.speaks c.requires.can c.requires.acts c.counts-counts.ensures in
     let d = c.in-Full.ensures.done in
-    record { is_sent = d.0 ∙ k.sent_is; full = d.0 ∙ d.1; same = d.2; not_less = d.3; changed = changed c.args.sender.0 _ c.args.seat.now.me.0 c.put_to.new.seat.me d.4 }
+    record { is_sent = d.0 ∙ k.sent_is; full = d.0 ∙ d.1; same = d.2; not_less = d.3; changed = changed c.args.sender.0 _ c.args.seat.now.me.0 c.put_to.new.seat.me d.4; knows = d.5 }

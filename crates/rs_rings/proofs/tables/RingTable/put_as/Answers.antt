@@ -1,4 +1,4 @@
-use Rattle.std.proofs.Common.{rules, ◌≡◌, ℕ, ◌+◌, ◌-◌, ◌≤◌, [], ◌∷◌, length, ◌≢◌, Some, None, refl, sym, ap, ◌∙◌, subst, arith}
+use Rattle.std.proofs.Common.{rules, ◌≡◌, ℕ, ◌+◌, ◌-◌, ◌<◌, ◌≤◌, [], ◌∷◌, length, ◌≢◌, Some, None, refl, sym, ap, ◌∙◌, subst, arith}
 use Rattle.atomic_table.specs.Table.{rest, step}
 use mathlib.Core.Option.{none}
 use Rattle.rs_rings.specs.declared.views.Part.{Part}
@@ -26,6 +26,7 @@ returns-then-sent-taken-clause-done g c = let k = c.args.self.now.keyed in let p
       refl,
       t.0,
       after p (looked_head q r a) v c.load-taken.new.seat.me c.requires.speaks (the_role p v.parts c.requires.speaks) (t.3 (sym is ∙ full) ∙ (λ i. (with_part p (looked_head q r a) v, c.requires.idle.1 i))),
+      t.5,
     )
 
 pub exchange-requires : goal.exchange-requires
@@ -62,4 +63,7 @@ returns-clause-done g c = let k = c.args.self.now.keyed in let p : ℕ = c.args.
       room,
       pd.0,
       pd.1,
+      t.5,
+      (let low : r ≤ length (parcels_sent q a.history) = t.1 in let g : r ≤ sent = omega arith in g),
+      (let high : length (parcels_sent q a.history) ≤ r + cap = t.2 in let g : sent < r + cap = omega arith in g),
     )

@@ -32,7 +32,7 @@ returns-in-One-clause-told c =
     let k = take_knows (machines_of c.args.self.now.board.shared.key) c.args.self.now.layout.roles c.args.sender c.args.receiver.0 c.args.seat.now.me c.args.rows.now.items c.counts-counts.result.state c.counts-counts.result.sent c.counts-counts.result.got
     (ap length c.args.self.now.same ∙ c.args.self.now.machine_count) c.args.self.now.layout.few c.requires.well_formed c.requires.kept c.requires.speaks c.requires.can c.requires.acts c.counts-counts.ensures in
     let d = c.in-One.ensures.taken in
-    record { put = d.0; next = c.in-One.next; not_less = d.2; more = λ e. d.1 (k.got_is ∙ e); may = d.3; happened = d.4; changed = changed c.args.receiver.0 _ c.args.seat.now.me.0 c.look_take.new.seat.me d.5 }
+    record { put = d.0; next = c.in-One.next; not_less = d.2; more = λ e. d.1 (k.got_is ∙ e); may = d.3; happened = d.4; changed = changed c.args.receiver.0 _ c.args.seat.now.me.0 c.look_take.new.seat.me d.5; knows = d.6; oldest = d.7 }
 
 pub returns-in-Nothing-clause-kept : goal.returns-in-Nothing-clause-kept
 returns-in-Nothing-clause-kept c =
@@ -43,4 +43,4 @@ returns-in-Nothing-clause-told c =
     let k = take_knows (machines_of c.args.self.now.board.shared.key) c.args.self.now.layout.roles c.args.sender c.args.receiver.0 c.args.seat.now.me c.args.rows.now.items c.counts-counts.result.state c.counts-counts.result.sent c.counts-counts.result.got
     (ap length c.args.self.now.same ∙ c.args.self.now.machine_count) c.args.self.now.layout.few c.requires.well_formed c.requires.kept c.requires.speaks c.requires.can c.requires.acts c.counts-counts.ensures in
     let d = c.in-Nothing.ensures.taken in
-    record { is_got = d.0 ∙ k.got_is; not_less = d.1; changed = changed c.args.receiver.0 _ c.args.seat.now.me.0 c.look_take.new.seat.me d.2 }
+    record { is_got = d.0 ∙ k.got_is; not_less = d.1; changed = changed c.args.receiver.0 _ c.args.seat.now.me.0 c.look_take.new.seat.me d.2; knows = d.3 }

@@ -1,0 +1,17 @@
+pub mod FaultRuns
+pub mod FaultPlaces
+pub mod SpeltSteps
+pub mod SpeltBodies
+pub mod SpeltTrees
+pub mod FaultCuts
+pub mod FaultSteps
+pub mod FirstFaults
+pub mod OneFault
+pub mod Labels
+pub mod SpeltCuts
+pub mod SpeltRuns
+pub mod Answers
+pub mod SpeltLaws
+pub mod Placing
+pub mod Sounding
+pub mod Refusals

@@ -1,0 +1,354 @@
+-- The names of the reader stay sound, and there are never too many heads.
+use Rattle.std.proofs.Common.{◌≡◌, ◌∙◌, ℕ, suc, ◌≤◌, List, [], ◌∷◌, ◌++◌, length, Bool, true, false, ◌&&◌, Option, Some, None, Ok, Err, IfOk, cond, nat_le, nat_lt, refl, sym, ap, subst, arith, append-nil, append_assoc}
+use Rattle.std.specs.Prelude.{codes}
+use Rattle.rs_model.specs.declared.graph.Role.{Role}
+use Rattle.rs_model.specs.declared.graph.Label.{Label}
+use Rattle.rs_model.specs.declared.values.Sort.{Sort}
+use Rattle.rs_text.specs.declared.faults.TextFault.{TextFault}
+use Rattle.rs_text.specs.declared.faults.TextKind.TheVariants as kind
+use Rattle.rs_text.specs.declared.faults.Wanted.{Wanted}
+use Rattle.rs_text.specs.declared.faults.Wanted.TheVariants as wanted
+use Rattle.rs_text.specs.Lexemes.{Lexeme}
+use Rattle.rs_text.specs.Names.{place_of, bound_to, is_among}
+use Rattle.rs_text.specs.Signs.{Sign, rec_word, end_word, plain, arrow, bang, question, colon, dot, comma, open_brace, close_brace, open_paren, close_paren, broken}
+use Rattle.rs_text.specs.Seen.{sort_named, plain_text, word_text, is_text}
+use Rattle.rs_text.specs.Readings.{feed_sign}
+use Rattle.rs_bodies.specs.declared.dialects.Dialect.{Dialect}
+use Rattle.rs_bodies.specs.declared.dialects.Dialect.TheVariants.{Talks, Acts}
+use Rattle.rs_bodies.specs.declared.dialects.Head.{Head}
+use Rattle.rs_bodies.specs.declared.reading.Frame.{Frame}
+use Rattle.rs_bodies.specs.declared.reading.Link.{Link}
+use Rattle.rs_bodies.specs.declared.reading.Mode.{Mode}
+use Rattle.rs_bodies.specs.declared.reading.Mode.TheVariants as mode
+use Rattle.rs_bodies.specs.Data.{Reader_data, Draft_data}
+use Rattle.rs_bodies.specs.Dialects.{most, turns}
+use Rattle.rs_bodies.specs.Feeding.{Fed, in_mode, linked, placed, headed, met_by, role_by, new_role, feed_role, feed_line, feed_at, feed_turn, feed_word, feed_body, received_by, feed_receiver, named, feed_next, feed_arms, feed_single, feed_label, labelled_by, sorted_by, feeding}
+use Rattle.rs_bodies.specs.declared.reading.Link.TheVariants as link
+use Rattle.std.specs.List.{list_all}
+use Rattle.std.proofs.lemmas.Bool.{leb-false}
+use Rattle.rs_model.specs.Data.{Names_data}
+use Rattle.rs_text.specs.declared.tokens.Token.{Token}
+use Rattle.rs_text.specs.Data.{Lexer_data}
+use Rattle.rs_text.specs.Lexemes.{next_lexeme, lexeme_of, sign_of, text_of}
+use Rattle.rs_text.specs.Sound.{differ, IsSound}
+use Rattle.rs_text.specs.Tokens.{IsNext}
+use Rattle.rs_text.specs.Words.{is_word, is_role_word}
+use Rattle.rs_text.proofs.Basics.{some_is}
+use Rattle.rs_text.proofs.Judging.{IsNamed}
+use Rattle.rs_text.proofs.Naming.{not_among, decides_sound, new_differ, new_all}
+use Rattle.rs_text.proofs.Nexts.{next_is_next, plain_law}
+use Rattle.rs_bodies.specs.Drafts.{names_read}
+use Rattle.rs_bodies.specs.Faults.{KeepsBy}
+use Rattle.std.specs.Str.{bytes_eq}
+use Rattle.std.proofs.Common.{◌<◌}
+use Rattle.rs_text.specs.declared.tokens.Kind.{Kind}
+use Rattle.rs_text.specs.declared.tokens.Kind.TheVariants as kinds
+use Rattle.rs_text.specs.FirstFaults.{IsWhole}
+use Rattle.rs_bodies.proofs.FaultSteps.{whole_fed}
+use Rattle.rs_bodies.proofs.Labels.{Takes, take_sign, is_of_talks}
+use Rattle.rs_bodies.specs.Feeding.{feed_of, begin, first_roles, Answer, answered, ReadsAs}
+use Rattle.std.proofs.Common.{Result}
+use Rattle.rs_text.specs.Readings.{Reading, read_all}
+use Rattle.rs_text.proofs.Keeping.{tokens, kept, KeptIn}
+use Rattle.rs_bodies.proofs.FaultRuns.{linked_length, placed_length}
+
+-- names that are still sound, with further labels behind the old ones
+pub record GoodNames (old : Names_data) (roles labels : List (List ℕ)) : Type 0 where
+  pub roles_differ : differ roles ≡ true
+  pub roles_are_words : list_all is_role_word roles ≡ true
+  pub later : List (List ℕ)
+  pub labels_are : labels ≡ old.labels ++ later
+  pub labels_differ : differ labels ≡ true
+  pub words : list_all is_word labels ≡ true
+
+abbrev pub Good : (dia : Dialect) → Names_data → Reader_data → Type 0
+Good dia old d = GoodNames old d.roles d.labels × (length d.drafts ≤ most dia)
+
+keep_if : (c : Bool) (dia : Dialect) (old : Names_data) (e : TextFault) (x : Fed) → IfOk x (Good dia old) → IfOk (cond c (Err e) x) (Good dia old)
+keep_if true dia old e x h = tt
+keep_if false dia old e x h = h
+
+keep_unless : (c : Bool) (dia : Dialect) (old : Names_data) (e : TextFault) (x : Fed) → IfOk x (Good dia old) → IfOk (cond c x (Err e)) (Good dia old)
+keep_unless true dia old e x h = h
+keep_unless false dia old e x h = tt
+
+either : (c : Bool) (dia : Dialect) (old : Names_data) (x y : Fed) → IfOk x (Good dia old) → IfOk y (Good dia old) → IfOk (cond c x y) (Good dia old)
+either true dia old x y h k = h
+either false dia old x y h k = k
+
+plain_named : (t : Sign) → IsNamed t → (w : List ℕ) → plain_text t ≡ Some w → is_role_word w ≡ true
+plain_named (plain x) n w h = n w (ap plain (some_is x w h))
+plain_named _ n w h = absurd (cc h)
+
+and_split : (a b : Bool) → (a && b) ≡ true → (a ≡ true) × (b ≡ true)
+and_split true b h = (refl, h)
+and_split false b h = absurd (cc h)
+
+word_named : (t : Sign) → IsNamed t → (w : List ℕ) → word_text t ≡ Some w → is_word w ≡ true
+word_named rec_word n w h = subst (λ (z : List ℕ). is_word z ≡ true) (some_is (codes "rec") w h) refl
+word_named end_word n w h = subst (λ (z : List ℕ). is_word z ≡ true) (some_is (codes "end") w h) refl
+word_named (plain x) n w h = (and_split (is_word w) _ (n w (ap plain (some_is x w h)))).0
+word_named _ n w h = absurd (cc h)
+
+-- ---- roles
+
+role_pushed : (a c : Bool) (dia : Dialect) (old : Names_data) (m : Mode) (w : List ℕ) (at : ℕ) (r : Reader_data) → is_among w r.roles ≡ a → is_role_word w ≡ true → Good dia old r
+    → IfOk {E = TextFault} (cond a (Err (record { kind = kind.NameTwice; at = at })) (cond c (Err (record { kind = kind.TooManyRoles; at = at })) (Ok (record r { roles = r.roles ++ w ∷ []; mode = m })))) (Good dia old)
+role_pushed true c dia old m w at r e k h = tt
+role_pushed false true dia old m w at r e k h = tt
+role_pushed false false dia old m w at r e k h = (
+  record {
+    roles_differ = new_differ r.roles w e h.0.roles_differ;
+    roles_are_words = new_all is_role_word r.roles w e h.0.roles_are_words k;
+    later = h.0.later;
+    labels_are = h.0.labels_are;
+    labels_differ = h.0.labels_differ;
+    words = h.0.words;
+  },
+  h.1,
+)
+
+keep_new_role : (dia : Dialect) (old : Names_data) (m : Mode) (o : Option (List ℕ)) (at : ℕ) (r : Reader_data) → ((w : List ℕ) → o ≡ Some w → is_role_word w ≡ true) → Good dia old r → IfOk (new_role m o at r) (Good dia old)
+keep_new_role dia old m None at r k h = tt
+keep_new_role dia old m (Some w) at r k h = role_pushed (is_among w r.roles) (nat_le 16 (length r.roles)) dia old m w at r refl (k w refl) h
+
+keep_protocol : (dia : Dialect) (old : Names_data) (t : Sign) (at : ℕ) (r : Reader_data) → Good dia old r → IfOk (cond (is_text (codes "protocol") (plain_text t)) (in_mode (mode.Body link.Start) r) (Err (record { kind = kind.Expected wanted.CommaOrProtocol; at = at }))) (Good dia old)
+keep_protocol dia old t at r h = keep_unless (is_text (codes "protocol") (plain_text t)) dia old (record { kind = kind.Expected wanted.CommaOrProtocol; at = at }) (in_mode (mode.Body link.Start) r) h
+
+keep_line : (dia : Dialect) (old : Names_data) (t : Sign) (at : ℕ) (r : Reader_data) → Good dia old r → IfOk (feed_line t at r) (Good dia old)
+keep_line dia old comma at r h = h
+keep_line dia old t at r h = keep_protocol dia old t at r h
+
+keep_role : (dia : Dialect) (old : Names_data) (o : Option ℕ) (at : ℕ) (r : Reader_data) → Good dia old r → IfOk (role_by o at r) (Good dia old)
+keep_role dia old None at r h = tt
+keep_role dia old (Some k) at r h = h
+
+keep_own : (dia : Dialect) (old : Names_data) (o : Option (List ℕ)) (at : ℕ) (r : Reader_data) → Good dia old r → IfOk (feed_role o at r) (Good dia old)
+keep_own dia old None at r h = tt
+keep_own dia old (Some w) at r h = keep_role dia old (place_of w r.roles) at r h
+
+-- ---- labels
+
+label_pushed : (c : Bool) (dia : Dialect) (old : Names_data) (w : List ℕ) (at : ℕ) (r : Reader_data) (m : Mode) → is_among w r.labels ≡ false → is_word w ≡ true → Good dia old r
+    → IfOk {E = TextFault} (cond c (Err (record { kind = kind.TooManyLabels; at = at })) (Ok (record r { labels = r.labels ++ w ∷ []; mode = m }))) (Good dia old)
+label_pushed true dia old w at r m e k h = tt
+label_pushed false dia old w at r m e k h = (
+  record {
+    roles_differ = h.0.roles_differ;
+    roles_are_words = h.0.roles_are_words;
+    later = h.0.later ++ w ∷ [];
+    labels_are = ap (λ z. z ++ w ∷ []) h.0.labels_are ∙ append_assoc old.labels h.0.later (w ∷ []);
+    labels_differ = new_differ r.labels w e h.0.labels_differ;
+    words = new_all is_word r.labels w e h.0.words k;
+  },
+  h.1,
+)
+
+keep_labelled : (dia : Dialect) (old : Names_data) (o : Option ℕ) (act : ℕ) (w : List ℕ) (at : ℕ) (r : Reader_data) → place_of w r.labels ≡ o → is_word w ≡ true → Good dia old r → IfOk (labelled_by o act w at r) (Good dia old)
+keep_labelled dia old (Some k) act w at r e f h = h
+keep_labelled dia old None act w at r e f h = label_pushed (nat_le 256 (length r.labels)) dia old w at r _ (not_among r.labels w 0 e) f h
+
+keep_label : (dia : Dialect) (old : Names_data) (act : ℕ) (v : Wanted) (o : Option (List ℕ)) (at : ℕ) (r : Reader_data) → ((w : List ℕ) → o ≡ Some w → is_word w ≡ true) → Good dia old r → IfOk (feed_label act v o at r) (Good dia old)
+keep_label dia old act v None at r k h = tt
+keep_label dia old act v (Some w) at r k h = keep_labelled dia old (place_of w r.labels) act w at r refl (k w refl) h
+
+keep_single : (dia : Dialect) (old : Names_data) (act : ℕ) (t : Sign) (at : ℕ) (r : Reader_data) → IsNamed t → Good dia old r → IfOk (feed_single dia act t at r) (Good dia old)
+keep_single Talks old act colon at r n h = h
+keep_single Talks old act _ at r n h = tt
+keep_single Acts old act t at r n h = keep_label Acts old act wanted.LabelOrBrace (word_text t) at r (word_named t n) h
+
+keep_arms : (dia : Dialect) (old : Names_data) (act : ℕ) (t : Sign) (at : ℕ) (r : Reader_data) → IsNamed t → Good dia old r → IfOk (feed_arms dia act t at r) (Good dia old)
+keep_arms dia old act open_brace at r n h = keep_if (nat_le 200 r.depth) dia old _ _ h
+keep_arms dia old act t at r n h = keep_single dia old act t at r n h
+
+-- ---- heads
+
+linked_few : (m : ℕ) (from : Link) (target : Option ℕ) (r : Reader_data) → length r.drafts ≤ m → length (linked from target r).drafts ≤ m
+linked_few m from target r h = subst (λ (z : ℕ). z ≤ m) (sym (linked_length from target r.drafts)) h
+
+headed_few : (c : Bool) (dia : Dialect) (old : Names_data) (from : Link) (p : Head) (at : ℕ) (r : Reader_data) → nat_le (most dia) (length r.drafts) ≡ c → Good dia old r
+    → IfOk {E = TextFault} (cond c (Err (record { kind = kind.TooManyNodes; at = at })) (Ok (placed from p r))) (Good dia old)
+headed_few true dia old from p at r e h = tt
+headed_few false dia old from p at r e h =
+    let n : length (placed from p r).drafts ≡ suc (length r.drafts) = placed_length from p r in
+    let room : length r.drafts < most dia = leb-false (most dia) (length r.drafts) e in
+    (h.0, omega arith)
+
+keep_headed : (dia : Dialect) (old : Names_data) (from : Link) (p : Head) (at : ℕ) (r : Reader_data) → Good dia old r → IfOk (headed dia from p at r) (Good dia old)
+keep_headed dia old from p at r h = headed_few (nat_le (most dia) (length r.drafts)) dia old from p at r refl h
+
+keep_met : (dia : Dialect) (old : Names_data) (o : Option ℕ) (from : Link) (at : ℕ) (r : Reader_data) → Good dia old r → IfOk (met_by dia o from at r) (Good dia old)
+keep_met dia old None from at r h = tt
+keep_met dia old (Some k) from at r h = keep_if (nat_le (most dia) (length r.drafts)) dia old _ _ h
+
+keep_turn : (dia : Dialect) (old : Names_data) (from : Link) (p : Role) (t : Sign) (at : ℕ) (r : Reader_data) → Good dia old r → IfOk (feed_turn dia from p t at r) (Good dia old)
+keep_turn Talks old from p arrow at r h = h
+keep_turn Talks old from p _ at r h = tt
+keep_turn Acts old from p bang at r h = keep_headed Acts old from _ at r h
+keep_turn Acts old from p question at r h = keep_headed Acts old from _ at r h
+keep_turn Acts old from p _ at r h = tt
+
+keep_received : (dia : Dialect) (old : Names_data) (o : Option ℕ) (from : Link) (p : Role) (at : ℕ) (r : Reader_data) → Good dia old r → IfOk (received_by dia o from p at r) (Good dia old)
+keep_received dia old None from p at r h = tt
+keep_received dia old (Some q) from p at r h = keep_headed dia old from _ at r h
+
+keep_receiver : (dia : Dialect) (old : Names_data) (from : Link) (p : Role) (o : Option (List ℕ)) (at : ℕ) (r : Reader_data) → Good dia old r → IfOk (feed_receiver dia from p o at r) (Good dia old)
+keep_receiver dia old from p None at r h = tt
+keep_receiver dia old from p (Some w) at r h = keep_received dia old (place_of w r.roles) from p at r h
+
+-- ---- bodies
+
+keep_named : (dia : Dialect) (old : Names_data) (o : Option ℕ) (from : Link) (at : ℕ) (r : Reader_data) → Good dia old r → IfOk (named o from at r) (Good dia old)
+keep_named dia old None from at r h = tt
+keep_named dia old (Some k) from at r h = keep_unless (nat_lt k (length r.drafts)) dia old (record { kind = kind.Unguarded; at = at }) (in_mode mode.Next (linked from (Some k) r)) (h.0, linked_few (most dia) from (Some k) r h.1)
+
+keep_word : (dia : Dialect) (old : Names_data) (from : Link) (w : List ℕ) (s : Sign) (at next : ℕ) (r : Reader_data) → Good dia old r → IfOk (feed_word dia from w s at next r) (Good dia old)
+keep_word dia old from w (broken k) at next r h = tt
+keep_word dia old from w s at next r h = either (turns dia s) dia old (met_by dia (place_of w r.roles) from at r) (named (bound_to w r.bound) from at r) (keep_met dia old (place_of w r.roles) from at r h) (keep_named dia old (bound_to w r.bound) from at r h)
+
+keep_body : (dia : Dialect) (old : Names_data) (from : Link) (t : Sign) (at : ℕ) (next : Lexeme) (r : Reader_data) → Good dia old r → IfOk (feed_body dia from t at next r) (Good dia old)
+keep_body dia old from rec_word at next r h = keep_if (nat_le 200 r.depth) dia old _ _ h
+keep_body dia old from end_word at next r h = (h.0, linked_few (most dia) from None r h.1)
+keep_body dia old from (plain w) at next r h = keep_word dia old from w next.sign at next.from r h
+keep_body dia old from _ at next r h = tt
+
+keep_next : (dia : Dialect) (old : Names_data) (fs : List Frame) (t : Sign) (at : ℕ) (r : Reader_data) → Good dia old r → IfOk (feed_next fs t at r) (Good dia old)
+keep_next dia old [] t at r h = tt
+keep_next dia old (f ∷ fs) comma at r h = h
+keep_next dia old (f ∷ fs) close_brace at r h = h
+keep_next dia old (f ∷ fs) _ at r h = tt
+
+keep_sorted : (dia : Dialect) (old : Names_data) (o : Option Sort) (act : ℕ) (l : Label) (at : ℕ) (r : Reader_data) → Good dia old r → IfOk (sorted_by o act l at r) (Good dia old)
+keep_sorted dia old None act l at r h = tt
+keep_sorted dia old (Some s) act l at r h = h
+
+keep_at : (dia : Dialect) (old : Names_data) (m : Mode) (t : Sign) (at : ℕ) (next : Lexeme) (r : Reader_data) → IsNamed t → Good dia old r → IfOk (feed_at dia m t at next r) (Good dia old)
+keep_at dia old mode.Roles t at next r n h = keep_unless (is_text (codes "roles") (plain_text t)) dia old _ _ h
+keep_at dia old mode.FirstRole t at next r n h = keep_new_role dia old _ (plain_text t) at r (plain_named t n) h
+keep_at dia old mode.FirstComma comma at next r n h = h
+keep_at dia old mode.FirstComma _ at next r n h = tt
+keep_at dia old mode.FurtherRole t at next r n h = keep_new_role dia old _ (plain_text t) at r (plain_named t n) h
+keep_at dia old mode.Line t at next r n h = keep_line dia old t at r h
+keep_at dia old mode.Machine t at next r n h = keep_unless (is_text (codes "machine") (plain_text t)) dia old _ _ h
+keep_at dia old mode.AtRole t at next r n h = keep_own dia old (plain_text t) at r h
+keep_at dia old mode.AtColon colon at next r n h = h
+keep_at dia old mode.AtColon _ at next r n h = tt
+keep_at dia old (mode.Body from) t at next r n h = keep_body dia old from t at next r h
+keep_at dia old (mode.RecName from) (plain w) at next r n h = h
+keep_at dia old (mode.RecName from) _ at next r n h = tt
+keep_at dia old (mode.RecDot from) dot at next r n h = h
+keep_at dia old (mode.RecDot from) _ at next r n h = tt
+keep_at dia old (mode.AtTurn from p) t at next r n h = keep_turn dia old from p t at r h
+keep_at dia old (mode.Receiver from p) t at next r n h = keep_receiver dia old from p (plain_text t) at r h
+keep_at dia old (mode.AtArms act) t at next r n h = keep_arms dia old act t at r n h
+keep_at dia old (mode.AtLabel act) t at next r n h = keep_label dia old act wanted.Label (word_text t) at r (word_named t n) h
+keep_at dia old (mode.Paren act l) open_paren at next r n h = h
+keep_at dia old (mode.Paren act l) _ at next r n h = tt
+keep_at dia old (mode.AtSort act l) close_paren at next r n h = h
+keep_at dia old (mode.AtSort act l) (plain w) at next r n h = keep_sorted dia old (sort_named w) act l at r h
+keep_at dia old (mode.AtSort act l) _ at next r n h = tt
+keep_at dia old (mode.CloseParen act l s) close_paren at next r n h = h
+keep_at dia old (mode.CloseParen act l s) _ at next r n h = tt
+keep_at dia old (mode.ArmDot act l s) dot at next r n h = h
+keep_at dia old (mode.ArmDot act l s) _ at next r n h = tt
+keep_at dia old mode.Next t at next r n h = keep_next dia old r.frames t at r h
+
+-- ---- a machine has the roles that were there
+
+abbrev pub Own : (dia : Dialect) → Names_data → Reader_data → Type 0
+Own Talks old d = Unit {0}
+Own Acts old d = (d.roles ≡ old.roles) × (is_of_talks d.mode ≡ false)
+
+own_takes : (x : Fed) (d : Reader_data) (t : Sign) (old : Names_data) (r : Reader_data) → x ≡ Ok d → IfOk x (Takes t r) → Own Acts old r → Own Acts old d
+own_takes (Ok e) d t old r same h own = let k : e ≡ d = cc in subst (λ (z : Reader_data). Own Acts old z) k (h.3 ∙ own.0, h.2)
+own_takes (Err e) d t old r same h own = absurd (cc same)
+
+own_on : (dia : Dialect) (old : Names_data) (t : Sign) (at : ℕ) (next : Lexeme) (r d : Reader_data) → IsWhole t → feed_of dia t at next r ≡ Ok d → Own dia old r → Own dia old d
+own_on Talks old t at next r d w e own = tt
+own_on Acts old t at next r d w e own = own_takes (feed_sign (feeding Acts) t at next r) d t old r (whole_fed Acts t at next r w ∙ e) (take_sign t at next r own.1) own
+
+-- ---- as the loop needs it
+
+if_ok : (x : Fed) (d : Reader_data) (Q : Reader_data → Type 0) → x ≡ Ok d → IfOk x Q → Q d
+if_ok (Ok e) d Q same h = let k : e ≡ d = cc in subst Q k h
+if_ok (Err e) d Q same h = absurd (cc same)
+
+abbrev pub Kept : (dia : Dialect) → Names_data → Reader_data → Type 0
+Kept dia old d = Good dia old d × Own dia old d
+
+whole_word : (a b : Bool) (text : List ℕ) → IsWhole (cond a rec_word (cond b end_word (plain text)))
+whole_word true b text = tt
+whole_word false true text = tt
+whole_word false false text = tt
+
+whole_kind : (k : Kind) (text : List ℕ) → IsWhole (sign_of k text)
+whole_kind kinds.Word text = whole_word (bytes_eq text (codes "rec")) (bytes_eq text (codes "end")) text
+whole_kind _ text = tt
+
+-- a token that is taken keeps the names good
+kept_on : (dia : Dialect) (old : Names_data) (bytes : List ℕ) (now : ℕ) (t : Token) (next : Lexeme) (r d : Reader_data) → next_lexeme bytes now ≡ lexeme_of bytes t → feed_of dia (sign_of t.kind (text_of bytes t)) t.from next r ≡ Ok d → Kept dia old r → Kept dia old d
+kept_on dia old bytes now t next r d e f h =
+    let is_next : IsNext bytes now (lexeme_of bytes t) = subst (λ (z : Lexeme). IsNext bytes now z) e (next_is_next bytes now) in
+    let named : IsNamed (sign_of t.kind (text_of bytes t)) = λ name k. plain_law bytes now (lexeme_of bytes t) name is_next k in (
+      if_ok (feed_of dia (sign_of t.kind (text_of bytes t)) t.from next r) d (Good dia old) f (keep_at dia old r.mode (sign_of t.kind (text_of bytes t)) t.from next r named h.0),
+      own_on dia old (sign_of t.kind (text_of bytes t)) t.from next r d (whole_kind t.kind (text_of bytes t)) f h.1,
+    )
+
+own_first : (dia : Dialect) (r : Reader_data) → r ≡ begin dia (names_read r) → Own dia (names_read r) r
+own_first Talks r e = tt
+own_first Acts r e = (refl, ap (λ z. is_of_talks z.mode) e)
+
+-- names that were sound are good at first
+pub kept_first : (dia : Dialect) (r : Reader_data) → r ≡ begin dia (names_read r) → IsSound (names_read r) → Kept dia (names_read r) r
+kept_first dia r begun s =
+    let t = and_split (differ r.roles && list_all is_role_word r.roles) (differ r.labels && list_all is_word r.labels) ((decides_sound (names_read r)).1 s) in
+    let u = and_split (differ r.labels) (list_all is_word r.labels) t.1 in
+    let v = and_split (differ r.roles) (list_all is_role_word r.roles) t.0 in
+    let none : r.drafts ≡ [] = ap (λ z. z.drafts) begun in
+    let few : length r.drafts ≤ most dia = subst (λ (z : List Draft_data). length z ≤ most dia) (sym none) (omega arith) in
+    let good : GoodNames (names_read r) r.roles r.labels = record { roles_differ = v.0; roles_are_words = v.1; later = []; labels_are = sym (append-nil r.labels); labels_differ = u.0; words = u.1 } in
+    ((good, few), own_first dia r begun)
+
+pub kept_sound : (dia : Dialect) (old : Names_data) (r : Reader_data) → Kept dia old r → IsSound (names_read r)
+kept_sound dia old r g = (decides_sound (names_read r)).0 (rw (g.0.0.roles_differ, g.0.0.roles_are_words, g.0.0.labels_differ, g.0.0.words) refl)
+
+pub kept_keeps : (dia : Dialect) (old : Names_data) (r : Reader_data) → Kept dia old r → KeepsBy dia old (names_read r)
+kept_keeps Talks old r g = tt
+kept_keeps Acts old r g = record { later = g.0.0.later; roles = g.1.0; labels = g.0.0.labels_are }
+
+pub kept_fed : (dia : Dialect) (old : Names_data) (bytes : List ℕ) (lexer : Lexer_data) (t : Token) (r d : Reader_data) → lexer.bytes ≡ bytes → next_lexeme lexer.bytes lexer.at ≡ lexeme_of lexer.bytes t → feed_of dia (sign_of t.kind (text_of bytes t)) t.from (next_lexeme bytes t.until) r ≡ Ok d → Kept dia old r → Kept dia old d
+kept_fed dia old bytes lexer t r d same e f h = kept_on dia old bytes lexer.at t (next_lexeme bytes t.until) r d (subst (λ (z : List ℕ). next_lexeme z lexer.at ≡ lexeme_of z t) same e) f h
+
+pub same_sound : (r d : Reader_data) → names_read d ≡ names_read r → IsSound (names_read r) → IsSound (names_read d)
+same_sound r d e h = subst IsSound (sym e) h
+
+pub same_keeps : (dia : Dialect) (old : Names_data) (r d : Reader_data) → names_read d ≡ names_read r → KeepsBy dia old (names_read r) → KeepsBy dia old (names_read d)
+same_keeps dia old r d e h = subst (λ (z : Names_data). KeepsBy dia old z) (sym e) h
+
+-- ---- what is read
+
+keep_sign : (dia : Dialect) (old : Names_data) (t : Sign) (at : ℕ) (next : Lexeme) (r : Reader_data) → IsNamed t → Good dia old r → IfOk (feed_sign (feeding dia) t at next r) (Good dia old)
+keep_sign dia old (broken k) at next r n h = tt
+keep_sign dia old t at next r n h = keep_at dia old r.mode t at next r n h
+
+good_begun : (dia : Dialect) (old : Names_data) → old.roles ≡ first_roles dia old → IsSound old → Good dia old (begin dia old)
+good_begun dia old first s =
+    let t = and_split (differ old.roles && list_all is_role_word old.roles) (differ old.labels && list_all is_word old.labels) ((decides_sound old).1 s) in
+    let u = and_split (differ old.labels) (list_all is_word old.labels) t.1 in
+    let v = and_split (differ old.roles) (list_all is_role_word old.roles) t.0 in
+    let good : GoodNames old old.roles old.labels = record { roles_differ = v.0; roles_are_words = v.1; later = []; labels_are = sym (append-nil old.labels); labels_differ = u.0; words = u.1 } in
+    (subst (λ (z : List (List ℕ)). GoodNames old z old.labels) first good, omega arith)
+
+abbrev SoundAnswer : Answer → Type 0
+SoundAnswer a = IsSound a.names
+
+on_answer : (dia : Dialect) (old : Names_data) (x : Result (Reading Reader_data) TextFault) → IfOk x (KeptIn (Good dia old)) → IfOk (answered x) SoundAnswer
+on_answer dia old (Ok x) h = (decides_sound (names_read x.reader)).0 (rw (h.0.roles_differ, h.0.roles_are_words, h.0.labels_differ, h.0.words) refl)
+on_answer dia old (Err e) h = tt
+
+-- what is read has names that texts can have
+pub is_sound : (dia : Dialect) (old : Names_data) (bytes : List ℕ) (at : ℕ) (a : Answer) → old.roles ≡ first_roles dia old → IsSound old → at ≤ length bytes → ReadsAs dia old bytes at (Ok a) → IsSound a.names
+is_sound dia old bytes at a first s h p =
+    let t = tokens bytes at h in
+    subst (λ (z : Result Answer TextFault). IfOk z SoundAnswer) (p t.0 t.1)
+    (on_answer dia old (read_all (feeding dia) (Ok (begin dia old)) t.0) (kept (feeding dia) (Good dia old) (λ t at n r name k. keep_sign dia old t at n r name k) (begin dia old) (good_begun dia old first s) bytes at t.0 t.1))

@@ -1,0 +1,325 @@
+-- Steps: the reader, token by token.
+use Rattle.std.specs.Prelude.{◌≡◌, ℕ, suc, ◌-◌, List, [], ◌∷◌, ◌++◌, codes, length, drop, slice_get, Option, Some, None, Result, Ok, Err, Bool, true, false, if◌then◌else◌, nat_lt, nat_le}
+use Rattle.rs_model.specs.declared.graph.Role.{Role}
+use Rattle.rs_model.specs.declared.graph.Label.{Label}
+use Rattle.rs_model.specs.declared.values.Sort.{Sort}
+use Rattle.rs_model.specs.declared.values.Sort.TheVariants as sort
+use Rattle.rs_text.specs.declared.faults.TextFault.{TextFault}
+use Rattle.rs_text.specs.declared.faults.TextKind.TheVariants as kind
+use Rattle.rs_text.specs.declared.faults.Wanted.{Wanted}
+use Rattle.rs_text.specs.declared.faults.Wanted.TheVariants as wanted
+use Rattle.rs_text.specs.Faults.{kind_of}
+use Rattle.rs_model.specs.Data.{Names_data}
+use Rattle.rs_text.specs.Lexemes.{Lexeme, Lexed}
+use Rattle.rs_text.specs.Names.{place_of, is_among, bound_to}
+use Rattle.rs_text.specs.Seen.{plain_text, word_text, is_text, sort_named}
+use Rattle.rs_bodies.specs.declared.dialects.Mark.TheVariants as mark
+use Rattle.rs_text.specs.Signs.{Sign, rec_word, end_word, plain, arrow, bang, question, colon, dot, comma, open_brace, close_brace, open_paren, close_paren, broken}
+use Rattle.rs_bodies.specs.declared.dialects.Dialect.{Dialect}
+use Rattle.rs_bodies.specs.declared.dialects.Dialect.TheVariants.{Talks, Acts}
+use Rattle.rs_bodies.specs.declared.dialects.Head.{Head}
+use Rattle.rs_bodies.specs.declared.dialects.Head.TheVariants as head
+use Rattle.rs_bodies.specs.Dialects.{turns, most}
+use Rattle.rs_bodies.specs.declared.reading.Frame.{Frame}
+use Rattle.rs_bodies.specs.declared.reading.Link.{Link}
+use Rattle.rs_bodies.specs.declared.reading.Link.TheVariants as link
+use Rattle.rs_bodies.specs.declared.reading.Mode.{Mode}
+use Rattle.rs_bodies.specs.declared.reading.Mode.TheVariants as mode
+use Rattle.rs_text.specs.declared.reading.Stop.{Stop}
+use Rattle.rs_text.specs.declared.reading.Stop.TheVariants as stops
+use Rattle.rs_bodies.specs.Data.{Reader_data, Draft_data, Spelling_data}
+use Rattle.rs_text.specs.Readings.{Automaton, Reading, fault, expected, read_all, ReadsBy, last_of, Fails}
+use Rattle.rs_bodies.specs.Drafts.{with_arm, spelling_read, names_read}
+
+-- the reader behind a token, or the fault of the token
+abbrev pub Fed : Type 0
+Fed = Result Reader_data TextFault
+
+-- the roles that are there before a part
+abbrev pub first_roles : Dialect → Names_data → List (List ℕ)
+first_roles Talks old = []
+first_roles Acts old = old.roles
+
+-- where the reading of a part begins
+abbrev pub first_mode : Dialect → Mode
+first_mode Talks = mode.Roles
+first_mode Acts = mode.Machine
+
+-- nothing was met yet
+abbrev pub begin : Dialect → Names_data → Reader_data
+begin d old = record { roles = first_roles d old; labels = old.labels; role = record { 0 = 0 }; drafts = []; start = None; ended = false; bound = []; depth = 0; frames = []; mode = first_mode d }
+
+-- the reader goes on in that mode
+abbrev pub in_mode : Mode → Reader_data → Fed
+in_mode m r = Ok (record r { mode = m })
+
+-- what the body that begins here leads to
+abbrev pub linked_start : Link → Option ℕ → Option ℕ → Option ℕ
+linked_start link.Start target start = target
+linked_start (link.OfArm act label sort) target start = start
+
+-- .. where it is the body of an arm
+abbrev pub linked_drafts : Link → Option ℕ → List Draft_data → List Draft_data
+linked_drafts link.Start target drafts = drafts
+linked_drafts (link.OfArm act label sort) target drafts = with_arm (record { label = label; sort = sort; next = target }) (slice_get drafts act) drafts act
+
+-- .. be it that of an arm or of the whole part
+abbrev pub linked : Link → Option ℕ → Reader_data → Reader_data
+linked from target r = record r { start = linked_start from target r.start; drafts = linked_drafts from target r.drafts }
+
+-- the roles line
+abbrev pub feed_roles : Sign → ℕ → Reader_data → Fed
+feed_roles t at r = if is_text (codes "roles") (plain_text t) then in_mode mode.FirstRole r else expected wanted.Roles at
+
+-- a role's name on the roles line, which none before it has
+abbrev pub new_role : Mode → Option (List ℕ) → ℕ → Reader_data → Fed
+new_role after None at r = expected wanted.Role at
+new_role after (Some word) at r =
+    if is_among word r.roles then fault kind.NameTwice at
+    else if nat_le 16 (length r.roles) then fault kind.TooManyRoles at
+    else Ok (record r { roles = r.roles ++ word ∷ []; mode = after })
+
+-- the comma behind the first role
+abbrev pub feed_first_comma : Sign → ℕ → Reader_data → Fed
+feed_first_comma comma at r = in_mode mode.FurtherRole r
+feed_first_comma _ at r = expected wanted.Comma at
+
+-- the comma before a further role, or the word protocol
+abbrev pub feed_line : Sign → ℕ → Reader_data → Fed
+feed_line comma at r = in_mode mode.FurtherRole r
+feed_line t at r = if is_text (codes "protocol") (plain_text t) then in_mode (mode.Body link.Start) r else expected wanted.CommaOrProtocol at
+
+-- the machine's role
+abbrev pub feed_machine : Sign → ℕ → Reader_data → Fed
+feed_machine t at r = if is_text (codes "machine") (plain_text t) then in_mode mode.AtRole r else expected wanted.PartOrEnd at
+
+-- .. where there is such a role
+abbrev pub role_by : Option ℕ → ℕ → Reader_data → Fed
+role_by None at r = fault kind.UnknownRole at
+role_by (Some k) at r = Ok (record r { role = record { 0 = k }; mode = mode.AtColon })
+
+-- .. by its name
+abbrev pub feed_role : Option (List ℕ) → ℕ → Reader_data → Fed
+feed_role None at r = expected wanted.Role at
+feed_role (Some word) at r = role_by (place_of word r.roles) at r
+
+-- the colon behind the role
+abbrev pub feed_colon : Sign → ℕ → Reader_data → Fed
+feed_colon colon at r = in_mode (mode.Body link.Start) r
+feed_colon _ at r = expected wanted.Colon at
+
+-- a body
+abbrev pub met_by : Dialect → Option ℕ → Link → ℕ → Reader_data → Fed
+met_by d None from at r = fault kind.UnknownRole at
+met_by d (Some k) from at r = if nat_le (most d) (length r.drafts) then fault kind.TooManyNodes at else in_mode (mode.AtTurn from (record { 0 = k })) r
+
+-- a recursion name that is bound to act k, or to none
+abbrev pub named : Option ℕ → Link → ℕ → Reader_data → Fed
+named None from at r = fault kind.UnboundName at
+named (Some k) from at r = if nat_lt k (length r.drafts) then in_mode mode.Next (linked from (Some k) r) else fault kind.Unguarded at
+
+-- a word is a role or a name by the token behind it
+abbrev pub feed_word : Dialect → Link → List ℕ → Sign → (at next : ℕ) → Reader_data → Fed
+feed_word d from word (broken k) at next r = fault (kind_of k) next
+feed_word d from word t at next r = if turns d t then met_by d (place_of word r.roles) from at r else named (bound_to word r.bound) from at r
+
+-- the word rec
+abbrev pub feed_rec : Link → ℕ → Reader_data → Fed
+feed_rec from at r = if nat_le 200 r.depth then fault kind.TooDeep at else Ok (record r { depth = suc r.depth; mode = mode.RecName from })
+
+-- the first token of a body
+abbrev pub feed_body : Dialect → Link → Sign → ℕ → Lexeme → Reader_data → Fed
+feed_body d from rec_word at next r = feed_rec from at r
+feed_body d from end_word at next r = Ok (record (linked from None r) { ended = true; mode = mode.Next })
+feed_body d from (plain word) at next r = feed_word d from word next.sign at next.from r
+feed_body d from _ at next r = expected wanted.Body at
+
+-- the name behind a rec
+abbrev pub feed_rec_name : Link → Option (List ℕ) → ℕ → Reader_data → Fed
+feed_rec_name from None at r = expected wanted.Name at
+feed_rec_name from (Some word) at r = Ok (record r { bound = (word, length r.drafts) ∷ r.bound; mode = mode.RecDot from })
+
+-- the dot behind this name
+abbrev pub feed_rec_dot : Link → Sign → ℕ → Reader_data → Fed
+feed_rec_dot from dot at r = in_mode (mode.Body from) r
+feed_rec_dot from _ at r = expected wanted.Dot at
+
+-- the new head
+abbrev pub placed : Link → Head → Reader_data → Reader_data
+placed from h r =
+    let l : Reader_data = linked from (Some (length r.drafts)) r in
+    record l { drafts = l.drafts ++ record { head = h; arms = [] } ∷ []; mode = mode.AtArms (length r.drafts) }
+
+-- .. where there is room for one more
+abbrev pub headed : Dialect → Link → Head → ℕ → Reader_data → Fed
+headed d from h at r = if nat_le (most d) (length r.drafts) then fault kind.TooManyNodes at else Ok (placed from h r)
+
+-- at an arrow or a mark that was seen
+abbrev pub feed_turn : Dialect → Link → Role → Sign → ℕ → Reader_data → Fed
+feed_turn Talks from p arrow at r = in_mode (mode.Receiver from p) r
+feed_turn Talks from p _ at r = expected wanted.Role at
+feed_turn Acts from p bang at r = headed Acts from (head.Act p mark.Puts) at r
+feed_turn Acts from p question at r = headed Acts from (head.Act p mark.Takes) at r
+feed_turn Acts from p _ at r = expected wanted.Mark at
+
+-- a talk with the receiver of that number
+abbrev pub received_by : Dialect → Option ℕ → Link → Role → ℕ → Reader_data → Fed
+received_by d None from p at r = fault kind.UnknownRole at
+received_by d (Some q) from p at r = headed d from (head.Talk p (record { 0 = q })) at r
+
+-- the receiver's name
+abbrev pub feed_receiver : Dialect → Link → Role → Option (List ℕ) → ℕ → Reader_data → Fed
+feed_receiver d from p None at r = expected wanted.Role at
+feed_receiver d from p (Some word) at r = received_by d (place_of word r.roles) from p at r
+
+-- behind the open brace of an act
+abbrev pub opened : ℕ → Reader_data → Reader_data
+opened act r = record r { depth = suc r.depth; frames = record { act = act; bound = length r.bound; depth = suc r.depth } ∷ r.frames; mode = mode.AtLabel act }
+
+-- an open brace
+abbrev pub feed_brace : ℕ → ℕ → Reader_data → Fed
+feed_brace act at r = if nat_le 200 r.depth then fault kind.TooDeep at else Ok (opened act r)
+
+-- the label with that number
+abbrev pub label_of_number : ℕ → Label
+label_of_number k = record { 0 = k }
+
+-- an arm
+abbrev pub labelled_by : Option ℕ → ℕ → List ℕ → ℕ → Reader_data → Fed
+labelled_by (Some k) act word at r = in_mode (mode.Paren act (label_of_number k)) r
+labelled_by None act word at r = if nat_le 256 (length r.labels) then fault kind.TooManyLabels at else Ok (record r { labels = r.labels ++ word ∷ []; mode = mode.Paren act (label_of_number (length r.labels)) })
+
+-- the label of an arm
+abbrev pub feed_label : ℕ → Wanted → Option (List ℕ) → ℕ → Reader_data → Fed
+feed_label act w None at r = expected w at
+feed_label act w (Some word) at r = labelled_by (place_of word r.labels) act word at r
+
+-- behind a receiver a colon or a brace, behind a mark a label or a brace
+abbrev pub feed_single : Dialect → ℕ → Sign → ℕ → Reader_data → Fed
+feed_single Talks act colon at r = in_mode (mode.AtLabel act) r
+feed_single Talks act t at r = expected wanted.ColonOrBrace at
+feed_single Acts act t at r = feed_label act wanted.LabelOrBrace (word_text t) at r
+
+-- behind a head
+abbrev pub feed_arms : Dialect → ℕ → Sign → ℕ → Reader_data → Fed
+feed_arms d act open_brace at r = feed_brace act at r
+feed_arms d act t at r = feed_single d act t at r
+
+-- the open parenthesis behind a label
+abbrev pub feed_paren : ℕ → Label → Sign → ℕ → Reader_data → Fed
+feed_paren act label open_paren at r = in_mode (mode.AtSort act label) r
+feed_paren act label _ at r = expected wanted.OpenParen at
+
+-- the sort that a word names, where it names one
+abbrev pub sorted_by : Option Sort → ℕ → Label → ℕ → Reader_data → Fed
+sorted_by None act label at r = expected wanted.SortOrCloseParen at
+sorted_by (Some s) act label at r = in_mode (mode.CloseParen act label s) r
+
+-- a word where a sort may stand
+abbrev pub sort_word : ℕ → Label → Option (List ℕ) → ℕ → Reader_data → Fed
+sort_word act label None at r = expected wanted.SortOrCloseParen at
+sort_word act label (Some word) at r = sorted_by (sort_named word) act label at r
+
+-- the sort of an arm, or the close parenthesis where there is none
+abbrev pub feed_sort : ℕ → Label → Sign → ℕ → Reader_data → Fed
+feed_sort act label close_paren at r = in_mode (mode.ArmDot act label sort.Unit) r
+feed_sort act label t at r = sort_word act label (plain_text t) at r
+
+-- the close parenthesis behind a sort
+abbrev pub feed_close_paren : ℕ → Label → Sort → Sign → ℕ → Reader_data → Fed
+feed_close_paren act label s close_paren at r = in_mode (mode.ArmDot act label s) r
+feed_close_paren act label s _ at r = expected wanted.CloseParen at
+
+-- the dot behind the head of an arm
+abbrev pub feed_arm_dot : ℕ → Label → Sort → Sign → ℕ → Reader_data → Fed
+feed_arm_dot act label s dot at r = in_mode (mode.Body (link.OfArm act label s)) r
+feed_arm_dot act label s _ at r = expected wanted.Dot at
+
+-- behind a body: names and nesting are again as the brace began
+abbrev pub restored : Frame → Reader_data → Reader_data
+restored f r = record r { bound = drop (length r.bound - f.bound) r.bound; depth = f.depth }
+
+-- a token behind a body, where these braces are open
+abbrev pub feed_next : List Frame → Sign → ℕ → Reader_data → Fed
+feed_next [] t at r = expected wanted.PartOrEnd at
+feed_next (f ∷ fs) comma at r = Ok (record (restored f r) { mode = mode.AtLabel f.act })
+feed_next (f ∷ fs) close_brace at r = Ok (record (restored f r) { mode = mode.Next; frames = fs })
+feed_next (f ∷ fs) _ at r = expected wanted.CommaOrCloseBrace at
+
+-- .. where those of the reader are open
+abbrev pub feed_behind : Sign → ℕ → Reader_data → Fed
+feed_behind t at r = feed_next r.frames t at r
+
+-- one token, with the one behind it
+abbrev pub feed_at : Dialect → Mode → Sign → ℕ → Lexeme → Reader_data → Fed
+feed_at d mode.Roles t at next r = feed_roles t at r
+feed_at d mode.FirstRole t at next r = new_role mode.FirstComma (plain_text t) at r
+feed_at d mode.FirstComma t at next r = feed_first_comma t at r
+feed_at d mode.FurtherRole t at next r = new_role mode.Line (plain_text t) at r
+feed_at d mode.Line t at next r = feed_line t at r
+feed_at d mode.Machine t at next r = feed_machine t at r
+feed_at d mode.AtRole t at next r = feed_role (plain_text t) at r
+feed_at d mode.AtColon t at next r = feed_colon t at r
+feed_at d (mode.Body from) t at next r = feed_body d from t at next r
+feed_at d (mode.RecName from) t at next r = feed_rec_name from (plain_text t) at r
+feed_at d (mode.RecDot from) t at next r = feed_rec_dot from t at r
+feed_at d (mode.AtTurn from p) t at next r = feed_turn d from p t at r
+feed_at d (mode.Receiver from p) t at next r = feed_receiver d from p (plain_text t) at r
+feed_at d (mode.AtArms act) t at next r = feed_arms d act t at r
+feed_at d (mode.AtLabel act) t at next r = feed_label act wanted.Label (word_text t) at r
+feed_at d (mode.Paren act label) t at next r = feed_paren act label t at r
+feed_at d (mode.AtSort act label) t at next r = feed_sort act label t at r
+feed_at d (mode.CloseParen act label s) t at next r = feed_close_paren act label s t at r
+feed_at d (mode.ArmDot act label s) t at next r = feed_arm_dot act label s t at r
+feed_at d mode.Next t at next r = feed_behind t at r
+
+-- .. in the mode of the reader
+abbrev pub feed_of : Dialect → Sign → ℕ → Lexeme → Reader_data → Fed
+feed_of d t at next r = feed_at d r.mode t at next r
+
+-- the mode behind a body
+abbrev pub behind_body : Mode → Bool
+behind_body mode.Next = true
+behind_body _ = false
+
+-- no braces are open
+abbrev pub no_frames : List Frame → Bool
+no_frames [] = true
+no_frames (f ∷ fs) = false
+
+-- the whole part is read
+abbrev pub is_read : Reader_data → Bool
+is_read r = if no_frames r.frames then behind_body r.mode else false
+
+-- the reader of parts in a dialect
+abbrev pub feeding : Dialect → Automaton Reader_data
+feeding d = record { feed = λ t at next r. feed_of d t at next r; is_read = λ r. is_read r }
+
+-- names, what is spelt, and the offset behind them
+pub record Answer : Type 0 where
+  pub names : Names_data
+  pub spelling : Spelling_data
+  pub until : ℕ
+
+-- the answer of a reading, or its fault
+abbrev pub answered : Result (Reading Reader_data) TextFault → Result Answer TextFault
+answered (Err e) = Err e
+answered (Ok x) = Ok (record { names = names_read x.reader; spelling = spelling_read x.reader; until = x.until })
+
+-- what the tokens of the bytes from `at` on are read as, with the old names
+abbrev pub ReadsAs : Dialect → Names_data → List ℕ → ℕ → Result Answer TextFault → Type 0
+ReadsAs d old bytes at answer = (lexemes : List Lexeme) → Lexed bytes at lexemes → answered (read_all (feeding d) (Ok (begin d old)) lexemes) ≡ answer
+
+-- what the tokens lead a reader to
+abbrev pub Reads : Dialect → Reader_data → List ℕ → ℕ → Result (Reading Reader_data) TextFault → Type 0
+Reads d r bytes at reading = ReadsBy (feeding d) r bytes at reading
+
+-- the labels that the reader has at the fault; a stop by want of memory may come anywhere
+abbrev pub Leaves : Dialect → Stop → Reader_data → List ℕ → ℕ → List (List ℕ) → Type 0
+Leaves d stops.Memory r bytes at labels = Unit {0}
+Leaves d (stops.Fault f) r bytes at labels = (lexemes : List Lexeme) → Lexed bytes at lexemes → (last_of (feeding d) r (Ok r) lexemes).labels ≡ labels
+
+-- a method takes one step of the reader; where it stops the names are as before
+abbrev pub Feeds : Result (Unit {0}) Stop → Fed → (old new : Reader_data) → Type 0
+Feeds (Ok done) fed old new = fed ≡ Ok new
+Feeds (Err stop) fed old new = Fails stop fed × (names_read new ≡ names_read old)

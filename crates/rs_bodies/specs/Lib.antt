@@ -1,0 +1,14 @@
+pub mod Data
+pub mod Dialects
+pub mod Openings
+pub mod Trees
+pub mod Graph
+pub mod Cuts
+pub mod Scenes
+pub mod Misplaced
+pub mod Points
+pub mod Fits
+pub mod Spells
+pub mod Faults
+pub mod Drafts
+pub mod Feeding

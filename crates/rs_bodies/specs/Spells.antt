@@ -1,0 +1,67 @@
+-- Believed: what a text spells.
+use Rattle.std.specs.Prelude.{◌≡◌, ℕ, ◌≤◌, List, [], ◌∷◌, ◌++◌, length, true}
+use Rattle.rs_model.specs.Data.{Names_data}
+use Rattle.rs_text.specs.Lexemes.{Lexeme, Lexed, signs_of}
+use Rattle.rs_text.specs.Names.{is_among, grown}
+use Rattle.rs_text.specs.Sound.{differ}
+use Rattle.rs_text.specs.Signs.{Sign}
+use Rattle.rs_bodies.specs.declared.dialects.Dialect.{Dialect}
+use Rattle.rs_bodies.specs.declared.dialects.Dialect.TheVariants.{Talks, Acts}
+use Rattle.rs_model.specs.declared.graph.Role.{Role}
+use Rattle.rs_bodies.specs.Data.{Spelling_data}
+use Rattle.rs_bodies.specs.Openings.{Opening, of_roles, of_role, opening_signs, roles_in}
+use Rattle.rs_bodies.specs.Trees.{Body, body_signs, ends_by_name, ends_a_name}
+use Rattle.rs_bodies.specs.Fits.{body_fits}
+use Rattle.rs_bodies.specs.Graph.{labels_of, acts_in, has_end, first_of, Numbering, role_of}
+use Rattle.rs_bodies.specs.Points.{points_of}
+use Rattle.rs_bodies.specs.Scenes.{first_scene}
+
+-- a part: what stands before the body, and the body
+pub record Tree (d : Dialect) : Type 0 where
+  pub opening : Opening d
+  pub body : Body d
+
+-- the tokens of a part
+abbrev pub tree_signs : (d : Dialect) → Tree d → List Sign
+tree_signs d t = opening_signs d t.opening ++ body_signs d t.body
+
+-- the roles of a roles line differ, and are 16 at most; a machine's role is known
+abbrev pub OpeningFits : (d : Dialect) → Names_data → Opening d → Type 0
+OpeningFits Talks old (of_roles f s xs) = (differ (f ∷ s ∷ xs) ≡ true) × (length (f ∷ s ∷ xs) ≤ 16)
+OpeningFits Acts old (of_role r) = is_among r old.roles ≡ true
+
+-- names and limits
+pub record Fits (d : Dialect) (old : Names_data) (t : Tree d) : Type 0 where
+  pub opening : OpeningFits d old t.opening
+  pub body : body_fits d t.body (first_scene (roles_in d old t.opening) old.labels) ≡ true
+
+-- the names that were there, with the labels that are new behind them in order of their first places
+abbrev pub names_of : (d : Dialect) → Names_data → Tree d → Names_data
+names_of d old t = record { roles = roles_in d old t.opening; labels = grown old.labels (labels_of d t.body) }
+
+-- the names that are there behind a tree, and the number of its end
+abbrev pub numbering : (d : Dialect) → Names_data → Tree d → Numbering
+numbering d old t = record { names = names_of d old t; last = acts_in d t.body }
+
+-- the role of a machine; a protocol has none of its own
+abbrev pub own_role : (d : Dialect) → Numbering → Opening d → Role
+own_role Talks n (of_roles f s xs) = record { 0 = 0 }
+own_role Acts n (of_role r) = role_of n r
+
+-- what the tree spells
+abbrev pub spelling_of : (d : Dialect) → Names_data → Tree d → Spelling_data
+spelling_of d old t = record { role = own_role d (numbering d old t) t.opening; points = points_of d (numbering d old t) t.body [] 0; ended = has_end d t.body; start = first_of d t.body [] 0 (acts_in d t.body) }
+
+-- the bytes from `at` on, read with the old names, spell this with the new ones, and go on at `until`
+pub record Spells (d : Dialect) (bytes : List ℕ) (at : ℕ) (old new : Names_data) (spelling : Spelling_data) (until : ℕ) : Type 0 where
+  pub tree : Tree d
+  pub lexemes : List Lexeme
+  pub behind : Lexeme
+  pub others : List Lexeme
+  pub lexed : Lexed bytes at (lexemes ++ behind ∷ others)
+  pub spelt : signs_of lexemes ≡ tree_signs d tree
+  pub settled : ends_by_name d tree.body ≡ true → ends_a_name d behind.sign ≡ true
+  pub fits : Fits d old tree
+  pub names_are : new ≡ names_of d old tree
+  pub spelling_is : spelling ≡ spelling_of d old tree
+  pub goes_on : until ≡ behind.from

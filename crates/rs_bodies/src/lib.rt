@@ -1,0 +1,13 @@
+//! The bodies of protocols and machines: one grammar in two dialects.
+#![tactic(auto)]
+
+mod dialects;
+mod drafts;
+pub mod laws;
+mod parts;
+mod points;
+mod reading;
+
+pub use dialects::{Dialect, Head, Mark};
+pub use parts::read_part;
+pub use points::{Point, Spelling};

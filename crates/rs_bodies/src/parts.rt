@@ -1,0 +1,127 @@
+ghost use Rattle.std.specs.Prelude.{◌≡◌, ◌≤◌, length, IfOk, IfErr, ◌⊎◌, Ok};
+ghost use Rattle.rs_text.specs.declared.faults.TextKind.TheVariants as kind;
+ghost use Rattle.rs_text.specs.Readings.{StopsBy};
+ghost use Rattle.rs_text.specs.Sound.{IsSound};
+ghost use Rattle.rs_bodies.specs.Dialects.{most};
+ghost use Rattle.rs_bodies.specs.Drafts.{names_read, spelling_read};
+ghost use Rattle.rs_bodies.specs.Faults.{FirstFault, KeepsBy, LeavesBy};
+ghost use Rattle.rs_bodies.specs.Feeding.{begin, feeding, first_roles, Leaves, Reads};
+ghost use Rattle.rs_bodies.specs.Spells.{Spells};
+
+use crate::dialects::Dialect;
+use crate::points::{Spelling, points, settled_number};
+use crate::reading::Reader;
+use rs_model::{Names, NoMemory};
+use rs_text::{Lexer, Stop, TextFault};
+use std::alloc::Global;
+use std::mem;
+
+/// Reads a part from the offset `at` on, a roles line with a protocol or a machine, and gives what it spells and the
+/// offset of the first byte behind it that is neither a blank nor in a comment, or the length. The names are sound, with
+/// at most 16 roles and 256 labels; before a protocol there are no roles.
+///
+/// Heads are numbered in order of text. All ends have the number behind the last head. A recursion name stands for the
+/// first head of its body. New labels are added to the names in order of text, and the roles of a roles line; after a
+/// fault in a machine the names have the labels before it.
+///
+/// A fault has the offset of its token: what was wanted instead, an unknown role, a name that is unbound or unguarded, a
+/// role that is there already, one too many of nesting, roles, heads or labels, or a faulty token. Refused memory has
+/// the offset `at`; then some of the new names may be there.
+pub fn read_part(
+    alloc: Global,
+    dialect: Dialect,
+    bytes: &[u8],
+    at: usize,
+    names: &mut Names,
+) -> Result<(Spelling, usize), TextFault>
+    requires at { at ≤ length bytes.now }
+    requires sound { IsSound names.old }
+    requires roles { length names.old.roles ≤ 16 }
+    requires labels { length names.old.labels ≤ 256 }
+    requires first { names.old.roles ≡ first_roles dialect names.old }
+    ensures ok { IfOk result (λ r. Spells dialect bytes.now at names.old names.new r.0 r.1) }
+    ensures err { IfErr result (λ e. (e.kind ≡ kind.NoMemory) ⊎ FirstFault dialect names.old bytes.now at e.kind e.at) }
+    ensures left { IfErr result (λ e. (e.kind ≡ kind.NoMemory) ⊎ LeavesBy dialect names.old names.new bytes.now at e.kind e.at) }
+    ensures sound { IsSound names.new }
+    ensures roles { length names.new.roles ≤ 16 }
+    ensures labels { length names.new.labels ≤ 256 }
+    ensures kept { KeepsBy dialect names.old names.new }
+    ensures few { IfOk result (λ r. length r.0.points ≤ most dialect) }
+    ensures within { IfOk result (λ r. r.1 ≤ length bytes.now) }
+    ensures place { IfErr result (λ e. e.at ≤ length bytes.now) }
+{
+    let roles = mem::replace(&mut names.roles, Vec::new(alloc));
+    let labels = mem::replace(&mut names.labels, Vec::new(alloc));
+    let mut reader = Reader::new(alloc, dialect, roles, labels);
+    let result = read_with(alloc, dialect, &mut reader, bytes, at);
+    names.roles = reader.roles;
+    names.labels = reader.labels;
+    match result {
+        Ok(read) => Ok(read),
+        Err(stop) => Err(stop.told(at)),
+    }
+}
+
+/// Reads the part and gives what was read.
+fn read_with<'a>(
+    alloc: Global,
+    dialect: Dialect,
+    reader: &mut Reader<'a>,
+    bytes: &'a [u8],
+    at: usize,
+) -> Result<(Spelling, usize), Stop>
+    requires at { at ≤ length bytes.now }
+    requires sound { IsSound (names_read reader.old) }
+    requires begun { reader.old ≡ begin dialect (names_read reader.old) }
+    ensures ok { IfOk result (λ r. Reads dialect reader.old bytes.now at (Ok (record { reader = reader.new; until = r.1 }))) }
+    ensures spelling { IfOk result (λ r. r.0 ≡ spelling_read reader.new) }
+    ensures few { IfOk result (λ r. length r.0.points ≤ most dialect) }
+    ensures within { IfOk result (λ r. r.1 ≤ length bytes.now) }
+    ensures err { IfErr result (λ e. StopsBy (feeding dialect) e reader.old bytes.now at) }
+    ensures left { IfErr result (λ e. Leaves dialect e reader.old bytes.now at reader.new.labels) }
+    ensures sound { IsSound (names_read reader.new) }
+    ensures kept { KeepsBy dialect (names_read reader.old) (names_read reader.new) }
+{
+    let until = read(dialect, reader, bytes, at)?;
+    let spelling = spelling(alloc, reader)?;
+    Ok((spelling, until))
+}
+
+/// What was read.
+fn spelling(alloc: Global, reader: &Reader) -> Result<Spelling, NoMemory>
+    ensures spelling { IfOk result (λ r. r ≡ spelling_read reader.now) }
+    ensures count { IfOk result (λ r. length r.points ≡ length reader.now.drafts) }
+{
+    let last = reader.drafts.len() as u32;
+    Ok(Spelling {
+        role: reader.role,
+        points: points(alloc, reader.drafts.as_slice(), last)?,
+        ended: reader.ended,
+        start: settled_number(last, reader.start),
+    })
+}
+
+fn read<'a>(
+    dialect: Dialect,
+    reader: &mut Reader<'a>,
+    bytes: &'a [u8],
+    at: usize,
+) -> Result<usize, Stop>
+    requires at { at ≤ length bytes.now }
+    requires sound { IsSound (names_read reader.old) }
+    requires begun { reader.old ≡ begin dialect (names_read reader.old) }
+    ensures ok { IfOk result (λ until. Reads dialect reader.old bytes.now at (Ok (record { reader = reader.new; until = until }))) }
+    ensures few { IfOk result (λ until. length reader.new.drafts ≤ most dialect) }
+    ensures within { IfOk result (λ until. until ≤ length bytes.now) }
+    ensures err { IfErr result (λ e. StopsBy (feeding dialect) e reader.old bytes.now at) }
+    ensures left { IfErr result (λ e. Leaves dialect e reader.old bytes.now at reader.new.labels) }
+    ensures sound { IsSound (names_read reader.new) }
+    ensures kept { KeepsBy dialect (names_read reader.old) (names_read reader.new) }
+{
+    let mut lexer = Lexer::new(bytes, at);
+    while !reader.is_read() {
+        let token = lexer.next()?;
+        reader.feed(dialect, bytes, token)?;
+    }
+    Ok(lexer.next_offset())
+}

@@ -1,0 +1,265 @@
+//! The derivation of a machine from itself: both stand at one state, or the receive is owed that the one has passed.
+ghost use Rattle.std.specs.Prelude.{◌≡◌, ◌<◌, ◌≤◌, ◌∷◌, [], List, ℕ, OnOk, IfOk, length, map, slice_get, Option, Some};
+ghost use Rattle.rs_model.specs.declared.limits.TheConstants.{MOST_CANDIDATES};
+ghost use Rattle.rs_derive.specs.Derivations.{IsProper};
+ghost use Rattle.rs_derive.specs.Moves.{Spot, owing_receive};
+ghost use Rattle.rs_derive.specs.Within.{IsOnce};
+ghost use Rattle.rs_graph.specs.Discovery.{Adds};
+ghost use Rattle.rs_graph.specs.Lists.{Among};
+ghost use Rattle.rs_search.specs.Canonical.{IsFound};
+ghost use Rattle.rs_search.specs.Itself.{AreNamed, ArePlaced, IsOfItself, even, nexts_itself, owed_list};
+ghost use Rattle.rs_search.specs.Nodes.{node_of};
+
+use crate::found::Fault;
+use rs_derive::{DNode, Derivation};
+use rs_model::{Act, Arm, MOST_CANDIDATES, Machine, NoMemory, Role, State};
+use rs_prefix::Pending;
+use std::alloc::Global;
+use std::marker::Model;
+
+/// A spot at which one act is owed at most.
+#[derive(Drop, Debug)]
+pub struct Position {
+    state: u32,
+    owed: Option<Act>,
+    above: u32,
+}
+
+impl Model for Position {
+    ghost use Rattle.rs_derive.specs.Moves.{Spot};
+    ghost use Rattle.rs_search.specs.Itself.{owed_list};
+
+    ghost Value = { Spot };
+
+    ghost view = { λ p. record { state = p.state; pending = owed_list p.owed; above = p.above } };
+}
+
+impl Position {
+    // Both at the state, with nothing owed.
+    fn even(state: u32) -> Position
+        ensures { result ≡ even state }
+    {
+        Position {
+            state,
+            owed: None,
+            above: state,
+        }
+    }
+
+    // Behind an arm by which the projection has received.
+    fn owing(state: u32, peer: Role, arm: Arm) -> Position
+        ensures { result ≡ owing_receive (even state) peer arm }
+    {
+        Position {
+            state,
+            owed: Some(Act::Takes {
+                peer,
+                label: arm.label,
+                sort: arm.sort,
+            }),
+            above: arm.next,
+        }
+    }
+
+    fn copy(&self) -> Position
+        ensures { result ≡ self.now }
+    {
+        Position {
+            state: self.state,
+            owed: self.owed,
+            above: self.above,
+        }
+    }
+
+    // The node at the position, whose edges keep no head.
+    fn into_node(self, alloc: Global, next: Vec<u32>) -> Result<DNode, NoMemory>
+        ensures { IfOk result (λ n. n ≡ node_of self 0 next.items) }
+    {
+        let Position { state, owed, above } = self;
+        Ok(DNode {
+            state,
+            pending: pending_of(alloc, owed)?,
+            above,
+            rank: 0,
+            next,
+        })
+    }
+}
+
+fn pending_of(alloc: Global, owed: Option<Act>) -> Result<Pending, NoMemory>
+    ensures { IfOk result (λ p. p ≡ owed_list owed) }
+{
+    let mut pending = Pending::new(alloc);
+    match owed {
+        None => Ok(pending),
+        Some(act) => {
+            pending.push(act)?;
+            Ok(pending)
+        }
+    }
+}
+
+// The number of the spot with both at the state, which is added where it is new.
+fn come_to(
+    found: &mut Vec<Position>,
+    places: &mut Vec<Option<u32>>,
+    state: u32,
+) -> Result<u32, Fault>
+    requires there { state < length places.old.items }
+    requires few { length found.old.items ≤ MOST_CANDIDATES }
+    requires placed { ArePlaced found.old.items places.old.items }
+    ensures adds { OnOk result (Adds found.old.items (even state) found.new.items) }
+    ensures longer { OnOk result (length found.old.items ≤ length found.new.items) }
+    ensures at { IfOk result (λ n. slice_get found.new.items n ≡ Some (even state)) }
+    ensures old { IfOk result (λ n. found.new.items ≡ found.old.items → n < length found.old.items) }
+    ensures fresh { IfOk result (λ n. (found.new.items ≡ found.old.items → ⊥) → n ≡ length found.old.items) }
+    ensures few { OnOk result (length found.new.items ≤ MOST_CANDIDATES) }
+    ensures placed { OnOk result (ArePlaced found.new.items places.new.items) }
+    ensures size { OnOk result (length places.new.items ≡ length places.old.items) }
+{
+    match places[state as usize] {
+        Some(n) => Ok(n),
+        None => {
+            let n = found.len();
+            if n == MOST_CANDIDATES {
+                return Err(Fault::TooLarge);
+            }
+            found.push(Position::even(state))?;
+            places[state as usize] = Some(n as u32);
+            Ok(n as u32)
+        }
+    }
+}
+
+// The number of the spot with both at the state, alone.
+fn come_to_one(
+    alloc: Global,
+    found: &mut Vec<Position>,
+    places: &mut Vec<Option<u32>>,
+    state: u32,
+) -> Result<Vec<u32>, Fault>
+    requires there { state < length places.old.items }
+    requires few { length found.old.items ≤ MOST_CANDIDATES }
+    requires placed { ArePlaced found.old.items places.old.items }
+    ensures named { IfOk result (λ row. AreNamed found.old.items (even state ∷ []) found.new.items row.items) }
+    ensures few { OnOk result (length found.new.items ≤ MOST_CANDIDATES) }
+    ensures placed { OnOk result (ArePlaced found.new.items places.new.items) }
+    ensures size { OnOk result (length places.new.items ≡ length places.old.items) }
+{
+    let mut row = Vec::with_capacity(alloc, 1)?;
+    let n = come_to(found, places, state)?;
+    row.push(n)?;
+    Ok(row)
+}
+
+// The numbers of the spots behind arms that both send.
+fn come_to_all(
+    alloc: Global,
+    found: &mut Vec<Position>,
+    places: &mut Vec<Option<u32>>,
+    arms: &[Arm],
+) -> Result<Vec<u32>, Fault>
+    requires there { (i : ℕ) (a : Arm) → slice_get arms.now i ≡ Some a → a.next < length places.old.items }
+    requires few { length found.old.items ≤ MOST_CANDIDATES }
+    requires placed { ArePlaced found.old.items places.old.items }
+    ensures named { IfOk result (λ row. AreNamed found.old.items (map (λ a. even a.next) arms.now) found.new.items row.items) }
+    ensures few { OnOk result (length found.new.items ≤ MOST_CANDIDATES) }
+    ensures placed { OnOk result (ArePlaced found.new.items places.new.items) }
+    ensures size { OnOk result (length places.new.items ≡ length places.old.items) }
+{
+    let mut row = Vec::with_capacity(alloc, arms.len())?;
+    for i in 0..arms.len() {
+        let n = come_to(found, places, arms[i].next)?;
+        row.push(n)?;
+    }
+    Ok(row)
+}
+
+// The numbers of the spots behind arms by which the projection receives, which are all new.
+fn owe_all(
+    alloc: Global,
+    found: &mut Vec<Position>,
+    state: u32,
+    peer: Role,
+    arms: &[Arm],
+) -> Result<Vec<u32>, Fault>
+    requires once { IsOnce arms.now }
+    requires fresh { (p : Spot) → Among found.old.items p → p.state ≡ state → p.pending ≡ [] }
+    requires few { length found.old.items ≤ MOST_CANDIDATES }
+    ensures named { IfOk result (λ row. AreNamed found.old.items (map (λ b. owing_receive (even state) peer b) arms.now) found.new.items row.items) }
+    ensures few { OnOk result (length found.new.items ≤ MOST_CANDIDATES) }
+    ensures placed { OnOk result ((places : List (Option ℕ)) → ArePlaced found.old.items places → ArePlaced found.new.items places) }
+{
+    let mut row = Vec::with_capacity(alloc, arms.len())?;
+    for i in 0..arms.len() {
+        let n = found.len();
+        if n == MOST_CANDIDATES {
+            return Err(Fault::TooLarge);
+        }
+        found.push(Position::owing(state, peer, arms[i]))?;
+        row.push(n as u32)?;
+    }
+    Ok(row)
+}
+
+// The numbers of what a spot leads to; those that are new are added.
+fn nexts_of(
+    alloc: Global,
+    machine: &Machine,
+    found: &mut Vec<Position>,
+    places: &mut Vec<Option<u32>>,
+    position: &Position,
+) -> Result<Vec<u32>, Fault>
+    requires proper { IsProper machine.now }
+    requires kind { IsOfItself machine.now position.now }
+    requires fresh { position.now.pending ≡ [] → (p : Spot) → Among found.old.items p → p.state ≡ position.now.state → p.pending ≡ [] }
+    requires few { length found.old.items ≤ MOST_CANDIDATES }
+    requires placed { ArePlaced found.old.items places.old.items }
+    requires size { length places.old.items ≡ length machine.now.states }
+    ensures named { IfOk result (λ row. AreNamed found.old.items (nexts_itself machine.now position.now) found.new.items row.items) }
+    ensures few { OnOk result (length found.new.items ≤ MOST_CANDIDATES) }
+    ensures placed { OnOk result (ArePlaced found.new.items places.new.items) }
+    ensures size { OnOk result (length places.new.items ≡ length places.old.items) }
+{
+    match position.owed {
+        Some(_) => come_to_one(alloc, found, places, position.above),
+        None => match &machine.states[position.state as usize] {
+            State::Done => Ok(Vec::new(alloc)),
+            State::Puts { arms, .. } => come_to_all(alloc, found, places, arms.as_slice()),
+            State::Takes { peer, arms } => {
+                owe_all(alloc, found, position.state, *peer, arms.as_slice())
+            }
+        },
+    }
+}
+
+// The nodes of the derivation of the machine from itself, within any bound that allows one act to be owed.
+fn nodes_itself(alloc: Global, machine: &Machine) -> Result<Vec<DNode>, Fault>
+    requires proper { IsProper machine.now }
+    ensures { IfOk result (λ v. (bound : ℕ) → 0 < bound → IsFound machine.now machine.now bound (record { role = machine.now.role; bound = bound; nodes = v.items })) }
+{
+    let mut places: Vec<Option<u32>> = vec![in alloc; None; machine.states.len()]?;
+    let mut found = Vec::new(alloc);
+    come_to(&mut found, &mut places, machine.start)?;
+    let mut nodes = Vec::new(alloc);
+    while nodes.len() < found.len() {
+        let position = found[nodes.len()].copy();
+        let next = nexts_of(alloc, machine, &mut found, &mut places, &position)?;
+        nodes.push(position.into_node(alloc, next)?)?;
+    }
+    Ok(nodes)
+}
+
+/// The derivation of the machine from itself within the bound.
+pub fn search_itself(alloc: Global, machine: &Machine, bound: u8) -> Result<Derivation, Fault>
+    requires proper { IsProper machine.now }
+    requires some { 0 < bound }
+    ensures { IfOk result (λ d. IsFound machine.now machine.now bound d) }
+{
+    let nodes = nodes_itself(alloc, machine)?;
+    Ok(Derivation {
+        role: machine.role,
+        bound,
+        nodes,
+    })
+}
