@@ -5,6 +5,7 @@
 mod bench;
 mod gates;
 mod jobs;
+pub mod laws;
 mod plays;
 mod pool;
 mod vectors;
