@@ -16,7 +16,7 @@ mod tables;
 mod tests;
 
 pub use machines::read_machine;
-pub use rs_bodies::Mark;
 pub use printing::print_machine;
+pub use rs_bodies::Mark;
 pub use shapes::machine_text_shaped;
 pub use tables::print_table;

@@ -11,8 +11,8 @@ ghost use Rattle.rs_machines.specs.Texts.{body_text};
 ghost use Rattle.rs_bodies.specs.declared.dialects.Dialect.TheVariants.{Acts};
 ghost use Rattle.rs_bodies.specs.Trees.{Body};
 
-use rs_bodies::Mark;
 use crate::tables::{push_name, sort_name};
+use rs_bodies::Mark;
 use rs_model::{Arm, Machine, Names, NoMemory, Role, State};
 use rs_text::Text;
 use std::alloc::Global;
