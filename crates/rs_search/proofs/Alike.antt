@@ -1,6 +1,6 @@
 -- A machine that follows itself: its spots, what they lead to, and its derivation.
 use Rattle.std.proofs.Common.{◌≡◌, ◌≢◌, ◌⊎◌, inl, inr, ℕ, ◌<◌, ◌≤◌, ◌+◌, Bool, true, false, List, [], ◌∷◌, ◌++◌, length, get_or, map, refl, sym, ap, ◌∙◌, subst, arith, zero, suc, Some, None, Option, slice_get, set, replicate, take, take_all, length-append, eqb, ◌&&◌, if◌then◌else◌}
-use Rattle.std.proofs.lemmas.Bool.{cases_lt, eqb-true, eq-eqb, false≢true, le-ltb}
+use Rattle.std.proofs.lemmas.Bool.{eqb-true, eq-eqb, false≢true, le-ltb}
 use Rattle.std.proofs.lemmas.Bool.Decides.{eqb_tells}
 use Rattle.std.proofs.lemmas.List.{length-replicate}
 use Rattle.std.proofs.lemmas.Option.{none-some, same_Some}
@@ -17,17 +17,16 @@ use Rattle.rs_model.specs.declared.machines.State.TheVariants.{Done, Puts, Takes
 use Rattle.rs_model.specs.declared.values.Sort.{Sort}
 use Rattle.rs_prefix.specs.Search.{earliest_from}
 use Rattle.rs_prefix.specs.Earliest.{may_overtake}
-use Rattle.rs_prefix.specs.declared.earliest.Found.{Found}
 use Rattle.rs_prefix.specs.declared.earliest.Found.TheVariants.{At, Blocked}
 use Rattle.rs_prefix.specs.declared.earliest.Kind.TheVariants.{Receive}
 use Rattle.rs_derive.specs.Data.{DNode_data}
 use Rattle.rs_derive.specs.Derivations.{IsProper, spot_of}
 use Rattle.rs_derive.specs.Due.{Due, all_serve, both_at, due_at, guesses, paid, receives, served_by, serves_some}
-use Rattle.rs_derive.specs.Moves.{Spot, arm_of, owing_receive, spot}
+use Rattle.rs_derive.specs.Moves.{Spot, arm_of, owing_receive}
 use Rattle.rs_derive.specs.Within.{IsOnce}
 use Rattle.rs_graph.proofs.Buckets.{got}
 use Rattle.rs_graph.proofs.Growth.{all_found, at_in, at_short, at_within, grown_on, growing_begin, growing_done, growing_on, in_at, named_on, push_at, push_is, push_new, reads_at, take_on}
-use Rattle.rs_graph.specs.Discovery.{Adds, Grown, Growing, IsDiscovery, NoMore, Numbered, Reached, Begin, Step}
+use Rattle.rs_graph.specs.Discovery.{Adds, Grown, Growing, IsDiscovery, NoMore, Reached, Begin, Step}
 use Rattle.rs_graph.specs.Lists.{Among, Names, Once, concat}
 use Rattle.rs_graph.specs.Ranks.{Edge}
 use Rattle.rs_graph.specs.Walks.{Walk, Here, Further, IsRank}

@@ -1,9 +1,9 @@
 -- Numbers of items in chains.
-use Rattle.std.proofs.Common.{◌≡◌, ◌≢◌, inl, inr, ℕ, ◌<◌, ◌≤◌, ◌+◌, List, [], ◌∷◌, ◌++◌, length, get_or, set, replicate, refl, sym, ap, ◌∙◌, subst, arith, zero, suc, Some, slice_get, length-append}
+use Rattle.std.proofs.Common.{◌≡◌, ◌≢◌, inl, inr, ℕ, ◌<◌, ◌+◌, List, [], ◌∷◌, ◌++◌, length, get_or, set, replicate, refl, sym, ap, ◌∙◌, subst, arith, zero, suc, Some, slice_get, length-append}
 use Rattle.std.proofs.lemmas.Bool.Decides.{eqb_tells}
 use Rattle.std.proofs.lemmas.List.{get_or-set_same, get_or-set_other}
 use Rattle.std.proofs.lemmas.Option.{none-some, same_Some}
-use Rattle.rs_graph.proofs.Growth.{at_short, push_at, push_is, push_new}
+use Rattle.rs_graph.proofs.Growth.{push_at, push_is, push_new}
 use Rattle.rs_graph.specs.Lists.{Among}
 use Rattle.rs_graph.proofs.Growth.{at_in}
 use Rattle.rs_search.specs.Index.{AreChained, Chained, Here, Further}

@@ -1,6 +1,5 @@
 -- Where no candidate has a choice, what is discovered is the canonical derivation as it stands.
-use Rattle.std.proofs.Common.{◌≡◌, inl, inr, ℕ, ◌<◌, ◌≤◌, ◌+◌, Bool, true, false, List, [], ◌∷◌, length, get_or, map, refl, sym, ap, ◌∙◌, subst, arith, zero, suc, Some, slice_get, replicate}
-use Rattle.std.proofs.lemmas.Bool.{cases_lt}
+use Rattle.std.proofs.Common.{◌≡◌, inl, inr, ℕ, ◌<◌, ◌≤◌, Bool, true, false, List, [], ◌∷◌, length, get_or, map, refl, sym, ap, ◌∙◌, subst, arith, zero, suc, Some, slice_get, replicate}
 use Rattle.std.proofs.lemmas.List.{length-replicate}
 use Rattle.std.proofs.lemmas.Option.{none-some, same_Some}
 use Rattle.rs_model.specs.declared.limits.TheConstants.{MOST_CANDIDATES}
@@ -8,14 +7,14 @@ use Rattle.rs_model.specs.Data.{Machine_data}
 use Rattle.rs_derive.specs.Data.{DNode_data}
 use Rattle.rs_derive.specs.Derivations.{IsProper}
 use Rattle.rs_derive.specs.Moves.{Spot}
-use Rattle.rs_graph.proofs.Growth.{all_found, at_in, at_short, at_within, in_at}
+use Rattle.rs_graph.proofs.Growth.{all_found, at_in, at_short, at_within}
 use Rattle.rs_graph.proofs.Kept.{names_at}
 use Rattle.rs_graph.specs.Discovery.{IsDiscovery, Reached, Begin, Step, Worked}
 use Rattle.rs_graph.specs.Graphs.{moves_of}
 use Rattle.rs_graph.specs.Lists.{Among, Names}
 use Rattle.rs_graph.specs.Places.{next_of}
 use Rattle.rs_graph.specs.Ranks.{Edge}
-use Rattle.rs_graph.specs.Removal.{IsRemoval, Leads, at, moves_at}
+use Rattle.rs_graph.specs.Removal.{IsRemoval, at, moves_at}
 use Rattle.rs_graph.specs.Walks.{IsRank}
 use Rattle.rs_search.proofs.Assembled.{is_found}
 use Rattle.rs_search.proofs.Deciding.{graph_outs, graph_pictures, graph_within, outs-at, row_at}

@@ -1,15 +1,15 @@
 -- Ranks along edges that all lead to greater numbers.
-use Rattle.std.proofs.Common.{◌≡◌, ◌≢◌, ◌⊎◌, inl, inr, ℕ, ◌<◌, ◌≤◌, ◌+◌, Bool, true, false, List, [], ◌∷◌, length, get_or, set, map, refl, sym, ap, ◌∙◌, subst, arith, zero, suc, Some, slice_get, not, eqb, ◌&&◌, ◌||◌, if◌then◌else◌}
+use Rattle.std.proofs.Common.{◌≡◌, ◌≢◌, inl, inr, ℕ, ◌<◌, ◌≤◌, ◌+◌, Bool, true, false, List, [], ◌∷◌, length, get_or, set, map, refl, sym, ap, ◌∙◌, subst, arith, zero, suc, Some, slice_get, not, eqb, ◌&&◌, ◌||◌}
 use Rattle.std.specs.List.{list_any}
 use Rattle.std.proofs.lemmas.Bool.{cases_lt, eqb-true, false≢true}
 use Rattle.std.proofs.lemmas.List.{get_or-set_same, get_or-set_other, length-set, get_or_past}
 use Rattle.std.proofs.lemmas.Option.{none-some, same_Some}
 use Rattle.rs_graph.proofs.Buckets.{got}
-use Rattle.rs_graph.proofs.Growth.{at_short, at_within}
+use Rattle.rs_graph.proofs.Growth.{at_within}
 use Rattle.rs_graph.proofs.Ranking.{fit_ranks}
 use Rattle.rs_graph.specs.Lists.{Among}
 use Rattle.rs_graph.specs.Ranks.{Edge, Fits}
-use Rattle.rs_graph.specs.Walks.{IsRank, RanksFit}
+use Rattle.rs_graph.specs.Walks.{IsRank}
 use Rattle.rs_search.proofs.Places.{place_is, places_length}
 use Rattle.rs_model.specs.declared.limits.TheConstants.{MOST_CANDIDATES}
 use Rattle.rs_model.specs.Data.{Machine_data}

@@ -1,4 +1,4 @@
-use Rattle.std.proofs.Common.{arith, ◌≡◌, ◌∙◌, ◌<◌, ℕ, List, length, slice_index_or, subst, sym, ap, refl}
+use Rattle.std.proofs.Common.{arith, ◌≡◌, ℕ, List, length, subst, ap}
 use Rattle.rs_graph.specs.Lists.{Among}
 use Rattle.rs_graph.proofs.Buckets.{the_row}
 use Rattle.rs_search.proofs.forward.forward_ranks.Goals as goal

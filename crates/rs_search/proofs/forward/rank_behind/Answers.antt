@@ -1,8 +1,8 @@
-use Rattle.std.proofs.Common.{arith, inl, inr, ◌≡◌, ◌<◌, ◌+◌, ℕ, slice_index_or, subst, refl}
+use Rattle.std.proofs.Common.{arith, inl, inr, ◌≡◌, ◌<◌, ℕ, slice_index_or, subst}
 use Rattle.std.proofs.lemmas.Bool.{cases_lt}
 use Rattle.rs_graph.proofs.Buckets.{got, place_in}
 use Rattle.rs_graph.proofs.Growth.{at_in, at_short}
-use Rattle.rs_graph.proofs.Ranking.{topped_none, topped_on, topped_all}
+use Rattle.rs_graph.proofs.Ranking.{topped_on, topped_all}
 use Rattle.rs_search.proofs.forward.rank_behind.Goals as goal
 
 pub bounds-ranks-next : goal.bounds-ranks-next

@@ -1,7 +1,6 @@
-use Rattle.std.proofs.Common.{rules, arith, ◌≡◌, ◌∙◌, ℕ, List, length, subst, sym, refl}
+use Rattle.std.proofs.Common.{rules, ◌∙◌, ℕ, length, subst, sym, refl}
 use Rattle.std.proofs.lemmas.Iterator.Adapters.{YieldsList-from_vec}
 use Rattle.std.proofs.lemmas.Iterator.Consumers.{YieldsList-turn}
-use Rattle.rs_derive.specs.Moves.{Spot}
 use Rattle.rs_graph.specs.Lists.{Among}
 use Rattle.rs_graph.proofs.Growth.{in_at, reads_at}
 use Rattle.rs_search.specs.Buckets.{bucket_of}

@@ -1,4 +1,4 @@
-use Rattle.std.proofs.Common.{arith, inr, ◌≡◌, ◌≢◌, ◌∷◌, [], ◌++◌, ◌∙◌, ◌<◌, ℕ, List, length, slice_get, slice_index_or, Some, sym, ap, subst, refl}
+use Rattle.std.proofs.Common.{arith, inr, ◌≡◌, ◌≢◌, ◌∷◌, [], ◌++◌, ◌∙◌, ◌<◌, ℕ, List, length, slice_get, slice_index_or, Some, sym, ap, subst}
 use Rattle.std.proofs.lemmas.List.{get_or_default}
 use Rattle.rs_derive.specs.Moves.{Spot}
 use Rattle.rs_graph.specs.Lists.{Among}

@@ -1,4 +1,4 @@
-use Rattle.std.proofs.Common.{rules, arith, inr, ◌≡◌, [], ◌∷◌, ◌++◌, Some, None, length, slice_get, sym, ◌∙◌, ap, subst}
+use Rattle.std.proofs.Common.{arith, inr, ◌≡◌, [], ◌∷◌, ◌++◌, Some, None, length, slice_get, sym, ◌∙◌, ap}
 use Rattle.rs_derive.specs.Moves.{Spot}
 use Rattle.rs_graph.proofs.Growth.{reads_at, at_short, push_new}
 use Rattle.rs_search.specs.Itself.{even}

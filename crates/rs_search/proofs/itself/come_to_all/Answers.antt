@@ -1,4 +1,4 @@
-use Rattle.std.proofs.Common.{arith, ◌≡◌, ◌<◌, ◌++◌, ◌∷◌, [], ℕ, List, map, length, slice_get, slice_index_or, Some, subst, sym, ◌∙◌, refl, take, take_all}
+use Rattle.std.proofs.Common.{arith, ◌≡◌, List, map, slice_index_or, subst, sym, ◌∙◌, refl, take, take_all}
 use Rattle.rs_model.specs.declared.graph.Arm.{Arm}
 use Rattle.rs_model.specs.declared.values.Sort.TheVariants as sort
 use Rattle.rs_derive.specs.Moves.{Spot}

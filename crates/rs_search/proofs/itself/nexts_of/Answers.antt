@@ -1,4 +1,4 @@
-use Rattle.std.proofs.Common.{arith, ◌≡◌, ◌∷◌, [], ◌∙◌, ℕ, List, map, length, slice_get, Some, IfOk, sym, ap, refl, subst}
+use Rattle.std.proofs.Common.{◌≡◌, [], ◌∙◌, ℕ, List, map, slice_get, Some, IfOk, sym, ap, subst}
 use Rattle.rs_model.specs.declared.graph.Arm.{Arm}
 use Rattle.rs_model.specs.declared.machines.State.TheVariants.{Done, Puts, Takes}
 use Rattle.rs_derive.specs.Moves.{Spot, owing_receive}

@@ -1,8 +1,7 @@
-use Rattle.std.proofs.Common.{rules, arith, ◌≡◌, ◌∷◌, [], ◌∙◌, List, length, slice_get, Some, sym, ap, refl, subst}
+use Rattle.std.proofs.Common.{rules, arith, ◌≡◌, ◌∷◌, [], ◌∙◌, length, sym, ap}
 use Rattle.rs_model.specs.Data.{Machine_data}
-use Rattle.rs_derive.specs.Moves.{Spot}
 use Rattle.rs_graph.proofs.Growth.{in_at, reads_at}
-use Rattle.rs_search.specs.Itself.{AreNamed, even, nexts_itself}
+use Rattle.rs_search.specs.Itself.{even}
 use Rattle.rs_search.proofs.Alike.{first_spot, made_all, made_fresh, made_none, made_on, spot_in}
 use Rattle.rs_search.proofs.itself.nodes_itself.Goals as goal
 

@@ -1,4 +1,4 @@
-use Rattle.std.proofs.Common.{arith, inr, ◌≡◌, ◌<◌, ◌≤◌, ◌+◌, ◌++◌, ◌∷◌, [], ◌∙◌, ℕ, List, map, take, length, length-append, slice_get, slice_index_or, Some, subst, sym, ap, refl, append-nil, append_assoc, take_all}
+use Rattle.std.proofs.Common.{arith, inr, ◌≡◌, ◌≤◌, ◌+◌, ◌++◌, ◌∷◌, [], ◌∙◌, List, map, take, length, length-append, slice_get, slice_index_or, Some, subst, sym, ap, append-nil, append_assoc, take_all}
 use Rattle.rs_model.specs.declared.graph.Arm.{Arm}
 use Rattle.rs_model.specs.declared.values.Sort.TheVariants as sort
 use Rattle.rs_derive.specs.Moves.{Spot, owing_receive}

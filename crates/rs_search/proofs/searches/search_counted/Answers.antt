@@ -1,12 +1,11 @@
-use Rattle.std.proofs.Common.{arith, ◌≡◌, ◌∙◌, ◌+◌, ◌≤◌, ℕ, List, length, map, slice_get, slice_index_or, IfSome, Some, false, sym, ap, subst}
+use Rattle.std.proofs.Common.{arith, ◌≡◌, ℕ, List, length, IfSome, false, sym, ap, subst}
 use Rattle.rs_model.specs.Data.{Machine_data}
 use Rattle.rs_model.specs.declared.graph.Role.{Role}
-use Rattle.rs_derive.specs.Moves.{Spot}
 use Rattle.rs_search.specs.Candidates.{begin}
 use Rattle.rs_search.specs.Canonical.{IsFound}
 use Rattle.rs_search.specs.Forward.{AreForward}
 use Rattle.rs_search.specs.Nodes.{AreNodes, places_of}
-use Rattle.rs_search.specs.Turns.{is_keeping, nexts_within}
+use Rattle.rs_search.specs.Turns.{nexts_within}
 use Rattle.rs_search.proofs.Costing.{candidates_are}
 use Rattle.rs_search.proofs.Rising.{forward_found}
 use Rattle.rs_search.proofs.Verdicts.{rows_within}

@@ -1,5 +1,4 @@
 use Rattle.std.proofs.Common.{arith, ◌<◌, List, ℕ, Bool, length, subst, ◌∙◌}
-use Rattle.rs_model.specs.declared.limits.TheConstants.{MOST_CANDIDATES}
 use Rattle.rs_graph.specs.Built.{IsBuilt}
 use Rattle.rs_search.specs.Candidates.{begin}
 use Rattle.rs_search.specs.Turns.{nexts_within}
