@@ -260,3 +260,22 @@ fn a_session_closes(rt: HostRuntime) -> Result<(), Fail> {
     );
     Ok(())
 }
+
+/// A session that is given up before any role has made an act.
+fn given_up(session: Session, stages: Vec<Stage>) -> Closed
+    requires { AreFirst session stages.items }
+    ensures { result.machines ≡ session.machines }
+{
+    session.abandon(stages)
+}
+
+#[test]
+fn a_session_is_given_up(rt: HostRuntime) -> Result<(), Fail> {
+    let alloc = rt.alloc();
+    let Some((session, stages)) = begun_of(alloc, TWICE, 1) else {
+        panic!(rt; "not accepted");
+    };
+    let closed = given_up(session, stages);
+    assert_eq!(rt; closed.roles(), 2);
+    Ok(())
+}
