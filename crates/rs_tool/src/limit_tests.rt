@@ -1,27 +1,9 @@
 //! `command` where a quantity is at its limit, and where it passes it.
 
 use crate::Status;
-use crate::tests::{BUFFER, BUFFER_TABLES, REPORT, SESSION, answer};
+use crate::tests::{BUFFER, BUFFER_TABLES, REPORT, SESSION, answer, repeated};
 use std::alloc::Global;
-use std::sync::Wait;
 use std::test::Fail;
-use std::thread::Threads;
-
-/// A piece so many times between two others.
-fn repeated(
-    alloc: Global,
-    before: &str,
-    piece: &str,
-    count: u32,
-    behind: &str,
-) -> Result<String, Fail> {
-    let mut text = String::from_str(alloc, before)?;
-    for _ in 0..count {
-        text.push_str(piece)?;
-    }
-    text.push_str(behind)?;
-    Ok(text)
-}
 
 /// A talk with so many arms.
 fn many_arms(alloc: Global, arms: u32) -> Result<String, Fail> {
@@ -155,7 +137,9 @@ fn candidates_are_counted(rt: HostRuntime) -> Result<(), Fail> {
     let nine = many_ways(alloc, "X", 9, "b")?;
     let ten = many_ways(alloc, "Y", 10, "c")?;
     let eleven = many_ways(alloc, "Z", 11, "d")?;
-    let text = format!(in alloc; "roles p, q, r\nprotocol q->p:a(). q->r{{l1(). {nine}, l2(). {ten}, l3(). {eleven}}}\n")?;
+    let text = format!(in alloc;
+        "roles p, q, r\nprotocol q->p:a(). q->r{{l1(). {nine}, l2(). {ten}, l3(). {eleven}}}\n"
+    )?;
     assert_eq!(rt; text.len(), 9_416);
     let (status, written) = answer(&rt, alloc, &["check"], text.as_bytes())?;
     assert_eq!(rt; status, Status::TooLarge);
@@ -189,7 +173,9 @@ fn roles_and_labels_are_counted(rt: HostRuntime) -> Result<(), Fail> {
 fn machines_are_no_matter_of_projections(rt: HostRuntime) -> Result<(), Fail> {
     let alloc = rt.alloc();
     let mut text = String::from_str(alloc, BUFFER)?;
-    text.push_str("machine K: S!ready(). rec X. S!ready(). T?ready(). S?{copy(bytes). T!copy(bytes). X, stop(). T!stop(). end}\n")?;
+    text.push_str(
+        "machine K: S!ready(). rec X. S!ready(). T?ready(). S?{copy(bytes). T!copy(bytes). X, stop(). T!stop(). end}\n",
+    )?;
     let (status, written) = answer(&rt, alloc, &["project"], text.as_bytes())?;
     assert_eq!(rt; status, Status::Fine);
     assert_eq!(rt; written.as_slice(), BUFFER_TABLES.as_bytes());

@@ -9,7 +9,8 @@ use std::thread::Threads;
 
 pub(crate) const SESSION: &str = "roles A, B\nprotocol A->B:x(). B->A:y(). end\n";
 
-pub(crate) const REPORT: &str = "accepted\nA: nodes 4 pending 1 rank 0\nB: nodes 4 pending 1 rank 0\nroom 3\n";
+pub(crate) const REPORT: &str =
+    "accepted\nA: nodes 4 pending 1 rank 0\nB: nodes 4 pending 1 rank 0\nroom 3\n";
 
 /// The double buffer with an end, without a machine of the kernel's own.
 pub(crate) const BUFFER: &str =
@@ -823,6 +824,22 @@ fn reads_and_writes_that_fail_are_told(rt: HostRuntime) -> Result<(), Fail> {
     assert_eq!(rt; reply.status, Status::WriteFault);
     assert_eq!(rt; sink.bytes(), b"accepted".as_slice());
     Ok(())
+}
+
+/// A piece so many times between two others.
+pub(crate) fn repeated(
+    alloc: Global,
+    before: &str,
+    piece: &str,
+    count: u32,
+    behind: &str,
+) -> Result<String, Fail> {
+    let mut text = String::from_str(alloc, before)?;
+    for _ in 0..count {
+        text.push_str(piece)?;
+    }
+    text.push_str(behind)?;
+    Ok(text)
 }
 
 /// Double buffering with a kernel that is ahead, and a derivation for each role.
