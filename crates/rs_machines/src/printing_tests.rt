@@ -1,6 +1,6 @@
 use crate::tests::three_roles;
 use crate::{machine_text_shaped, print_machine, read_machine};
-use rs_model::{NoMemory, State};
+use rs_model::{Arm, Arms, Label, Machine, NoMemory, Role, Sort, State};
 use rs_text::Text;
 use std::alloc::Global;
 use std::test::Fail;
@@ -121,6 +121,51 @@ fn tells_text_shaped(rt: HostRuntime) -> Result<(), Fail> {
     for (bytes, start, more, want) in cases {
         let found = shaped(rt.alloc(), bytes, start, more)?;
         assert_eq!(rt; found, want);
+    }
+    Ok(())
+}
+
+/// So many sends, each in the first arm of the one before, with a second arm to the end where `braces` says so.
+fn row(alloc: Global, count: u32, braces: bool) -> Result<Machine, NoMemory> {
+    let mut states = Vec::new(alloc);
+    for state in 0..count {
+        let mut arms = Arms::new(alloc);
+        arms.push(arm(state + 1))?;
+        if braces {
+            arms.push(arm(count))?;
+        }
+        states.push(State::Puts {
+            peer: Role(1),
+            arms,
+        })?;
+    }
+    states.push(State::Done)?;
+    Ok(Machine {
+        role: Role(0),
+        states,
+        start: 0,
+    })
+}
+
+fn arm(next: u32) -> Arm {
+    Arm {
+        label: Label(0),
+        sort: Sort::Unit,
+        next,
+    }
+}
+
+#[test]
+fn tells_limits(rt: HostRuntime) -> Result<(), Fail> {
+    let rows = [
+        (256, false, true),
+        (257, false, false),
+        (200, true, true),
+        (201, true, false),
+    ];
+    for (count, braces, want) in rows {
+        let machine = row(rt.alloc(), count, braces)?;
+        assert_eq!(rt; machine_text_shaped(&machine), want, "{count}");
     }
     Ok(())
 }
