@@ -29,7 +29,7 @@ use Rattle.rs_answers.specs.Data.{Answer_data}
 use Rattle.rs_answers.specs.Runs.{TellsEnd, HasEnded, IsStopped, IsFull, TellsRun, actor_of, capacity_of, ended_answer, stopped_answer, full_answer}
 use Rattle.rs_answers.specs.declared.runs.RunOptions.{RunOptions}
 use Rattle.rs_words.specs.Meaning.{IsFrom}
-use Rattle.rs_words.specs.declared.limits.TheConstants.{MOST_CAPACITY}
+use Rattle.rs_model.specs.declared.limits.TheConstants.{MOST_CAPACITY}
 
 -- a capacity that is asked for, or that the room gives, is one that queues can have
 pub capacity_fits : (ring : Option ℕ) (derivations : List Derivation_data) → IfSome ring (IsFrom 1 MOST_CAPACITY) → (1 ≤ capacity_of ring (room_of derivations)) × (capacity_of ring (room_of derivations) ≤ MOST_CAPACITY)

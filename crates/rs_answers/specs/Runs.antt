@@ -22,7 +22,7 @@ use Rattle.rs_answers.specs.TranscriptTexts.{transcripts_text}
 use Rattle.rs_answers.specs.declared.refusals.Refusal.{Refusal}
 use Rattle.rs_answers.specs.declared.runs.RunOptions.{RunOptions}
 use Rattle.rs_answers.specs.declared.verdicts.Verdict.TheVariants as verdict
-use Rattle.rs_words.specs.declared.limits.TheConstants.{MOST_CAPACITY}
+use Rattle.rs_model.specs.declared.limits.TheConstants.{MOST_CAPACITY}
 
 -- the actor of a role: its draws begin at the seed and the role's number
 abbrev pub actor_of : ℕ → ℕ → ℕ

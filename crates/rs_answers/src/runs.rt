@@ -18,10 +18,9 @@ use crate::verdicts::Verdict;
 use rs_core::{Outcome, Run, SeededActor, Transcripts};
 use rs_documents::Document;
 use rs_exec::{ExecFault, Ran, run_inline};
-use rs_model::{Names, NoMemory, Role};
+use rs_model::{MOST_CAPACITY, Names, NoMemory, Role};
 use rs_safety::Accepted;
 use rs_text::Text;
-use rs_words::MOST_CAPACITY;
 use std::alloc::Global;
 
 /// How a session is run.

@@ -6,7 +6,7 @@ ghost use Rattle.rs_demo_answers.specs.Demos.{AnswersDemo, AnswersOwn, Performs,
 ghost use Rattle.rs_documents.specs.Reading.{IsReady};
 ghost use Rattle.rs_safety.specs.Room.{room_of};
 ghost use Rattle.rs_words.specs.Meaning.{IsFrom};
-ghost use Rattle.rs_words.specs.declared.limits.TheConstants.{MOST_CAPACITY};
+ghost use Rattle.rs_model.specs.declared.limits.TheConstants.{MOST_CAPACITY};
 
 use crate::limits::DEMO_LIMIT;
 use rs_answers::Piece::{Number, Words};

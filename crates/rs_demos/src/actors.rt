@@ -63,16 +63,10 @@ fn arm_place(sort: Sort, arms: &[Arm]) -> Option<u16>
     ensures { result ≡ arm_place sort arms.now }
 {
     match arms {
-        [first, ..] if serves(sort, first.sort) => Some(0),
-        [_, second, ..] if serves(sort, second.sort) => Some(1),
+        [first, ..] if sort.serves(first.sort) => Some(0),
+        [_, second, ..] if sort.serves(second.sort) => Some(1),
         _ => None,
     }
-}
-
-fn serves(sort: Sort, wanted: Sort) -> bool
-    ensures { result ≡ serves sort wanted }
-{
-    sort == wanted
 }
 
 /// A value of the sort that says nothing.
@@ -94,7 +88,7 @@ fn inverted(alloc: Global, bytes: &[u8]) -> Result<Octets, NoMemory>
     ensures { IfOk result (λ o. o ≡ inverted bytes.now) }
 {
     let bytes: Vec<u8> = bytes.iter().map(|byte| 255 - *byte).collect(alloc)?;
-    Octets::of(alloc, bytes.as_slice())
+    Ok(Octets::from(bytes))
 }
 
 #[tactic(auto, using(std::proofs::lemmas::Int::wraps))]

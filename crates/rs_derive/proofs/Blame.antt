@@ -15,10 +15,12 @@ use Rattle.rs_prefix.specs.Search.{earliest}
 use Rattle.rs_prefix.specs.declared.earliest.Found.{Found}
 use Rattle.rs_prefix.specs.declared.earliest.Found.TheVariants.{At, Blocked, Absent}
 use Rattle.rs_prefix.specs.declared.earliest.Kind.TheVariants.{Send, Receive}
+use Rattle.rs_model.specs.FirstFailed.{or_later}
+use Rattle.rs_model.proofs.FirstFailed.{or_some}
 use Rattle.rs_derive.proofs.Order.{in_order}
 use Rattle.rs_derive.proofs.Rows.{Is, complete, follow_picks, served, sound}
 use Rattle.rs_derive.proofs.Whole.{is_named, named_is, starts_right}
-use Rattle.rs_derive.specs.Checks.{edge_fault, judged, length_fault, move_fault, names, node_fault, nodes_fault, nexts_fault, or_later, starts, state_fault}
+use Rattle.rs_derive.specs.Checks.{edge_fault, judged, length_fault, move_fault, names, node_fault, nodes_fault, nexts_fault, starts, state_fault}
 use Rattle.rs_derive.specs.Data.{DNode_data, Derivation_data}
 use Rattle.rs_derive.specs.Derivations.{spot_of}
 use Rattle.rs_derive.specs.Due.{Chosen, Due, all_serve, both_at, due, due_at, ends, follows, guesses, paid, pays_receive, pays_send, receives, receives_past, sends, sends_both, sends_past, served_by, serves_some}
@@ -26,10 +28,6 @@ use Rattle.rs_derive.specs.Faults.{Blames, Misnames, first_fault}
 use Rattle.rs_derive.specs.Moves.{Spot, arm_of, owing_receive, owing_send, spot}
 use Rattle.rs_derive.specs.declared.faults.DeriveFault.{DeriveFault}
 use Rattle.rs_derive.specs.declared.faults.DeriveFault.TheVariants.{BadStart, BadState, TooLongPending, NoMove, WrongNext, Forgets}
-
-or_some : (a b : Option DeriveFault) (f : DeriveFault) → or_later a b ≡ Some f → (a ≡ Some f) ⊎ (b ≡ Some f)
-or_some None b f e = inr e
-or_some (Some g) b f e = inl e
 
 failed : (b : Bool) (g f : DeriveFault) → cond b None (Some g) ≡ Some f → (b ≡ false) × (g ≡ f)
 failed true g f e = absurd (none-some f e)

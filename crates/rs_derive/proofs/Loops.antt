@@ -4,7 +4,8 @@ use Rattle.std.proofs.Math.Nat.{min-le_left, min-le_right, min-eq_left, min-eq_r
 use Rattle.std.proofs.lemmas.Bool.{cases_order, eqb-true, eq-eqb, false≢true}
 use Rattle.std.proofs.lemmas.Option.{none-some, same_Some, slice_get-get_or}
 use Rattle.rs_model.specs.declared.graph.Arm.{Arm}
-use Rattle.rs_derive.specs.Checks.{edge_at, edge_fault, or_later, nexts_fault, counted}
+use Rattle.rs_model.specs.FirstFailed.{or_later}
+use Rattle.rs_derive.specs.Checks.{edge_at, edge_fault, nexts_fault, counted}
 use Rattle.rs_derive.specs.Data.{DNode_data}
 use Rattle.rs_derive.specs.Moves.{Spot}
 use Rattle.rs_derive.specs.declared.faults.DeriveFault.{DeriveFault}

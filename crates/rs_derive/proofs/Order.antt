@@ -7,11 +7,12 @@ use Rattle.rs_model.specs.declared.graph.Arm.{Arm}
 use Rattle.rs_model.specs.declared.graph.Role.{Role}
 use Rattle.rs_model.specs.declared.machines.State.{State}
 use Rattle.rs_model.specs.declared.machines.State.TheVariants.{Puts}
-use Rattle.rs_derive.specs.Checks.{derive_fault, edge_fault, move_fault, names, node_fault, nodes_fault, nexts_fault, or_later, starts}
+use Rattle.rs_model.specs.FirstFailed.{Test, first_failed, or_later}
+use Rattle.rs_derive.specs.Checks.{derive_fault, edge_fault, move_fault, names, node_fault, nodes_fault, nexts_fault, starts}
 use Rattle.rs_derive.specs.Data.{DNode_data, Derivation_data}
 use Rattle.rs_derive.specs.Derivations.{spot_of}
 use Rattle.rs_derive.specs.Due.{Due, due, due_at, sends_past}
-use Rattle.rs_derive.specs.Faults.{Test, falls, first_failed, first_fault, is_named, move_tests, next_tests, node_tests, nodes_tests}
+use Rattle.rs_derive.specs.Faults.{falls, first_fault, is_named, move_tests, next_tests, node_tests, nodes_tests}
 use Rattle.rs_derive.specs.Moves.{Spot, owing_send}
 use Rattle.rs_derive.specs.declared.faults.DeriveFault.{DeriveFault}
 use Rattle.rs_derive.specs.declared.faults.DeriveFault.TheVariants.{BadStart, BadState, TooLongPending, WrongNext, Forgets}
@@ -26,7 +27,7 @@ passed_or : (p : Bool) (x y z : Option DeriveFault) (f : DeriveFault) → x ≡ 
 passed_or true x y z f e = e
 passed_or false x y z f e = refl
 
-failed_append : (a b : List Test) → first_failed (a ++ b) ≡ or_later (first_failed a) (first_failed b)
+failed_append : (a b : List (Test DeriveFault)) → first_failed (a ++ b) ≡ or_later (first_failed a) (first_failed b)
 failed_append [] b = refl
 failed_append (t ∷ ts) b =
     passed_or t.passes (first_failed (ts ++ b)) (first_failed ts) (first_failed b) t.fault (failed_append ts b)

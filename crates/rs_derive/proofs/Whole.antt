@@ -4,10 +4,12 @@ use Rattle.std.proofs.lemmas.Bool.{eqb-true, eq-eqb, ltb-true, leb-true, leb-fal
 use Rattle.std.proofs.lemmas.Option.{none-some, same_Some}
 use Rattle.rs_model.specs.Data.{Machine_data}
 use Rattle.rs_model.specs.declared.machines.Act.{Act}
+use Rattle.rs_model.specs.FirstFailed.{or_later}
+use Rattle.rs_model.proofs.FirstFailed.{or_none}
 use Rattle.rs_derive.proofs.Acts.{acts_are, acts_same}
 use Rattle.rs_derive.proofs.Order.{in_order}
 use Rattle.rs_derive.proofs.Rows.{Is, complete, sound}
-use Rattle.rs_derive.specs.Checks.{derive_fault, edge_fault, judged, length_fault, move_fault, names, node_fault, nodes_fault, nexts_fault, or_later, same_acts, same_spot, starts, state_fault}
+use Rattle.rs_derive.specs.Checks.{derive_fault, edge_fault, judged, length_fault, move_fault, names, node_fault, nodes_fault, nexts_fault, same_acts, same_spot, starts, state_fault}
 use Rattle.rs_derive.specs.Data.{DNode_data, Derivation_data}
 use Rattle.rs_derive.specs.Derivations.{IsDerivation, Names, NodeFits, Remembers, spot_of}
 use Rattle.rs_derive.specs.Due.{Chosen, Due, due}
@@ -15,10 +17,6 @@ use Rattle.rs_derive.specs.Faults.{first_fault}
 use Rattle.rs_derive.specs.Moves.{Spot, spot}
 use Rattle.rs_derive.specs.declared.faults.DeriveFault.{DeriveFault}
 use Rattle.rs_derive.specs.declared.faults.DeriveFault.TheVariants.{BadStart, BadState, TooLongPending, NoMove, WrongNext, Forgets}
-
-or_none : (a b : Option DeriveFault) → or_later a b ≡ None → (a ≡ None) × (b ≡ None)
-or_none None b e = (refl, e)
-or_none (Some g) b e = absurd (none-some g (sym e))
 
 passed : (b : Bool) (f : DeriveFault) → cond b None (Some f) ≡ None → b ≡ true
 passed true f e = refl

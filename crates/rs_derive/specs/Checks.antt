@@ -2,6 +2,7 @@
 use Rattle.std.specs.Prelude.{ℕ, ◌+◌, List, [], ◌∷◌, ◌++◌, length, slice_get, Bool, true, false, ◌==◌, ◌&&◌, nat_lt, nat_le, if◌then◌else◌, Option, Some, None}
 use Rattle.std.specs.List.{list_any}
 use Rattle.rs_model.specs.Data.{Machine_data}
+use Rattle.rs_model.specs.FirstFailed.{or_later}
 use Rattle.rs_model.specs.Sorts.{sort_number}
 use Rattle.rs_model.specs.declared.graph.Arm.{Arm}
 use Rattle.rs_model.specs.declared.machines.Act.{Act}
@@ -50,11 +51,6 @@ abbrev pub target_spot : List Act → Target → Spot
 target_spot pending t = spot t.state (changed pending t.change) t.above
 
 -- faults
-
--- the first fault where there is one, else the later one
-abbrev pub or_later : Option DeriveFault → Option DeriveFault → Option DeriveFault
-or_later None later = later
-or_later (Some f) _ = Some f
 
 -- the node is at one of the spots
 abbrev pub names : DNode_data → List Spot → Bool

@@ -1,6 +1,7 @@
 -- Believed: the first fault of a derivation: all its tests in order, and the first that isn't passed.
 use Rattle.std.specs.Prelude.{◌≡◌, ◌≢◌, ◌⊎◌, ℕ, ◌+◌, ◌<◌, ◌≤◌, List, [], ◌∷◌, ◌++◌, length, slice_get, Bool, true, false, not, ◌&&◌, ◌||◌, nat_lt, nat_le, if◌then◌else◌, Option, Some, None}
 use Rattle.rs_model.specs.Data.{Machine_data}
+use Rattle.rs_model.specs.FirstFailed.{Test, first_failed}
 use Rattle.rs_derive.specs.Checks.{names, starts}
 use Rattle.rs_derive.specs.Data.{DNode_data, Derivation_data}
 use Rattle.rs_derive.specs.Derivations.{KeepsItsHead, spot_of}
@@ -8,16 +9,6 @@ use Rattle.rs_derive.specs.Due.{Due, due}
 use Rattle.rs_derive.specs.Moves.{HasMove, Spot, spot}
 use Rattle.rs_derive.specs.declared.faults.DeriveFault.{DeriveFault}
 use Rattle.rs_derive.specs.declared.faults.DeriveFault.TheVariants.{BadStart, BadState, TooLongPending, NoMove, WrongNext, Forgets}
-
--- one test of a derivation: whether it is passed, and the fault that is told where it isn't
-pub record Test : Type 0 where
-  pub passes : Bool
-  pub fault : DeriveFault
-
--- the fault of the first test that isn't passed
-abbrev pub first_failed : List Test → Option DeriveFault
-first_failed [] = None
-first_failed (t ∷ ts) = if t.passes then first_failed ts else Some t.fault
 
 -- the number names a node at one of the spots
 abbrev pub is_named : List Spot → Option DNode_data → Bool
@@ -30,7 +21,7 @@ falls rank None = true
 falls rank (Some m) = nat_lt m.rank rank
 
 -- the tests of node i's nexts from arm k on: for each arm that the next names one of the spots that are due, and that the rank falls where the head is kept; then that there are no fewer and no more nexts than are due
-abbrev pub next_tests : List DNode_data → Bool → ℕ → ℕ → List (List Spot) → List ℕ → ℕ → List Test
+abbrev pub next_tests : List DNode_data → Bool → ℕ → ℕ → List (List Spot) → List ℕ → ℕ → List (Test DeriveFault)
 next_tests nodes keeps rank i [] [] k = []
 next_tests nodes keeps rank i [] (j ∷ js) k = record { passes = false; fault = WrongNext i k } ∷ []
 next_tests nodes keeps rank i (d ∷ ds) [] k = record { passes = false; fault = WrongNext i k } ∷ []
@@ -40,24 +31,24 @@ next_tests nodes keeps rank i (d ∷ ds) (j ∷ js) k =
     ∷ next_tests nodes keeps rank i ds js (k + 1)
 
 -- that the node has a move, and the tests of its nexts
-abbrev pub move_tests : List DNode_data → ℕ → DNode_data → Option Due → List Test
+abbrev pub move_tests : List DNode_data → ℕ → DNode_data → Option Due → List (Test DeriveFault)
 move_tests nodes i n None = record { passes = false; fault = NoMove i } ∷ []
 move_tests nodes i n (Some d) = next_tests nodes d.keeps n.rank i d.nexts n.next 0
 
 -- the tests of node i: its states, how much it owes, its move and its nexts
-abbrev pub node_tests : Derivation_data → Machine_data → Machine_data → ℕ → DNode_data → List Test
+abbrev pub node_tests : Derivation_data → Machine_data → Machine_data → ℕ → DNode_data → List (Test DeriveFault)
 node_tests d sub above i n =
     record { passes = nat_lt n.state (length sub.states) && nat_lt n.above (length above.states); fault = BadState i }
     ∷ record { passes = nat_le (length n.pending) d.bound; fault = TooLongPending i }
     ∷ move_tests d.nodes i n (due sub above (spot_of n))
 
 -- those of the nodes in order, the first of which has the number i
-abbrev pub nodes_tests : Derivation_data → Machine_data → Machine_data → List DNode_data → ℕ → List Test
+abbrev pub nodes_tests : Derivation_data → Machine_data → Machine_data → List DNode_data → ℕ → List (Test DeriveFault)
 nodes_tests d sub above [] i = []
 nodes_tests d sub above (n ∷ later) i = node_tests d sub above i n ++ nodes_tests d sub above later (i + 1)
 
 -- all tests in order: the start, and those of the nodes
-abbrev pub tests_of : Derivation_data → Machine_data → Machine_data → List Test
+abbrev pub tests_of : Derivation_data → Machine_data → Machine_data → List (Test DeriveFault)
 tests_of d sub above =
     record { passes = starts sub above d.nodes; fault = BadStart } ∷ nodes_tests d sub above d.nodes 0
 

@@ -7,7 +7,7 @@ ghost use Rattle.rs_derive.specs.Rules.{Fits, arms_at, due_of, end_rule, keeps_h
 ghost use Rattle.rs_prefix.specs.Search.{earliest};
 ghost use Rattle.rs_prefix.specs.declared.earliest.Kind.TheVariants.{Send, Receive};
 
-use rs_model::{Act, Arm, Label, Role, Sort, State};
+use rs_model::{Act, Arm, Label, Role, State};
 use rs_prefix::{Found, Kind, Pending};
 
 /// A rule of the table of moves, by which a machine follows its projection.
@@ -113,7 +113,7 @@ fn pay_send_rule(pending: &[Act], place: usize, arms: &[Arm]) -> Option<Rule>
 {
     match (arms, pending.get(place)) {
         ([arm], Some(Act::Puts { label, sort, .. }))
-            if arm.label.0 == label.0 && serves(arm.sort, *sort) => {
+            if arm.label.0 == label.0 && arm.sort.serves(*sort) => {
             Some(Rule::Pays { place, arm: *arm })
         }
         _ => None,
@@ -128,7 +128,7 @@ fn pay_receive_rule(pending: &[Act], place: usize, arms: &[Arm]) -> Option<Rule>
         return None;
     };
     match arm_of(arms, *label) {
-        Some(arm) if serves(*sort, arm.sort) => Some(Rule::Pays { place, arm }),
+        Some(arm) if sort.serves(arm.sort) => Some(Rule::Pays { place, arm }),
         _ => None,
     }
 }
@@ -184,14 +184,7 @@ fn serves_some(arm: Arm, their: Option<Arm>) -> bool
     ensures { result ≡ serves_some arm their }
 {
     match their {
-        Some(their) => serves(arm.sort, their.sort),
+        Some(their) => arm.sort.serves(their.sort),
         None => false,
     }
-}
-
-/// Whether a value of the first sort may stand where one of the second is expected.
-fn serves(sort: Sort, wanted: Sort) -> bool
-    ensures { result ≡ serves sort wanted }
-{
-    sort == wanted
 }

@@ -15,6 +15,9 @@ pub const MOST_LABELS: usize = 256;
 /// The most acts of a machine; its end is one state more.
 pub const MOST_ACTS: usize = 256;
 
+/// The most messages of a ring.
+pub const MOST_CAPACITY: u32 = 1_024;
+
 /// The most bytes of a name.
 pub const MOST_NAME_BYTES: usize = 64;
 

@@ -15,6 +15,17 @@ pub enum Sort {
     Numbers,
 }
 
+impl Sort {
+    ghost use Rattle.rs_model.specs.Sorts.{serves, sort_number};
+
+    /// Whether a value of this sort may stand where one of the wanted sort is expected.
+    pub fn serves(self, wanted: Sort) -> bool
+        ensures { result ≡ serves self wanted }
+    {
+        self == wanted
+    }
+}
+
 /// A payload of the sort `bytes`.
 #[derive(Drop, Debug)]
 pub struct Octets {
@@ -27,6 +38,14 @@ impl Model for Octets {
     ghost Value = { List ℕ };
 
     ghost view = { λ o. o.bytes.items };
+}
+
+impl From<Vec<u8>> for Octets {
+    fn from(bytes: Vec<u8>) -> Octets
+        ensures { result ≡ bytes.items }
+    {
+        Octets { bytes }
+    }
 }
 
 impl Octets {

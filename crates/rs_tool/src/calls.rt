@@ -15,7 +15,7 @@ ghost use Rattle.rs_tool.specs.RunHeadline.{IsOfRun};
 ghost use Rattle.rs_tool.specs.Tasks.{ReadTheInput, SpellsCheck, SpellsDemo, SpellsRun, reads_input};
 ghost use Rattle.rs_answers.specs.declared.runs.RunOptions.{RunOptions};
 ghost use Rattle.rs_words.specs.Meaning.{IsFrom, IsInRange, SpellsTask};
-ghost use Rattle.rs_words.specs.declared.limits.TheConstants.{MOST_CAPACITY};
+ghost use Rattle.rs_model.specs.declared.limits.TheConstants.{MOST_CAPACITY};
 ghost use Rattle.rs_words.specs.Words.{bytes_of_words};
 
 use crate::answers::answer_to_text;

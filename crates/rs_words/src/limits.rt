@@ -3,9 +3,6 @@
 /// The bound of a search where none is given: the most acts that a derivation may owe at a node.
 pub const DEFAULT_BOUND: u8 = 16;
 
-/// The greatest capacity of a ring.
-pub const MOST_CAPACITY: u32 = 1_024;
-
 /// The most workers of a run.
 pub const MOST_WORKERS: u32 = 16;
 
