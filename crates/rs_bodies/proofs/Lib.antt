@@ -16,3 +16,4 @@ pub mod Placing
 pub mod Sounding
 pub mod Refusals
 pub mod Fitting
+pub mod Leading

@@ -1,5 +1,6 @@
 -- Believed: what the actors of the demos choose, and what they become.
 use Rattle.std.specs.Prelude.{ℕ, ◌/◌, ◌%◌, ℤ, pos, ◌+ℤ◌, ◌-ℤ◌, List, [], ◌∷◌, ◌++◌, take, drop, false, ◌==◌, if◌then◌else◌, Option, Some, None}
+use Rattle.rs_demos.specs.declared.parts.TheConstants.{PIECE_BYTES}
 use Rattle.rs_model.specs.Sorts.{serves}
 use Rattle.rs_model.specs.declared.graph.Arm.{Arm}
 use Rattle.rs_model.specs.declared.values.Sort.{Sort}
@@ -15,11 +16,11 @@ use Rattle.rs_demos.specs.declared.parts.ButterflyMember.{ButterflyMember}
 
 -- the next piece of bytes that are left: the first 4,096, or all where there are fewer
 abbrev pub piece_of : List ℕ → List ℕ
-piece_of bytes = take 4096 bytes
+piece_of bytes = take PIECE_BYTES bytes
 
 -- what stands behind it
 abbrev pub behind_piece : List ℕ → List ℕ
-behind_piece bytes = drop 4096 bytes
+behind_piece bytes = drop PIECE_BYTES bytes
 
 -- the bytes, where there are some, else the unit
 abbrev pub octets_or_unit : Option (List ℕ) → Value
