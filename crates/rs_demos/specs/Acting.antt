@@ -1,5 +1,6 @@
 -- Believed: what the actors of the demos choose, and what they become.
 use Rattle.std.specs.Prelude.{ℕ, ◌/◌, ◌%◌, ℤ, pos, ◌+ℤ◌, ◌-ℤ◌, List, [], ◌∷◌, ◌++◌, take, drop, false, ◌==◌, if◌then◌else◌, Option, Some, None}
+use Rattle.rs_model.specs.Values.{empty_value}
 use Rattle.rs_demos.specs.declared.parts.TheConstants.{PIECE_BYTES}
 use Rattle.rs_model.specs.Sorts.{serves}
 use Rattle.rs_model.specs.declared.graph.Arm.{Arm}
@@ -56,16 +57,7 @@ arm_place s [] = None
 arm_place s (a ∷ []) = if serves s a.sort then Some 0 else None
 arm_place s (a ∷ b ∷ others) = if serves s a.sort then Some 0 else (if serves s b.sort then Some 1 else None)
 
--- a value of the sort that says nothing
-abbrev pub empty_value : Sort → Value
-empty_value sort.Unit = value.Unit
-empty_value sort.Flag = value.Flag false
-empty_value sort.Natural = value.Natural 0
-empty_value sort.Whole = value.Whole (pos 0)
-empty_value sort.Octets = value.Octets []
-empty_value sort.Numbers = value.Numbers []
-
--- .. of the first arm's sort
+-- the empty value of the first arm's sort
 abbrev pub empty_for : List Arm → Value
 empty_for [] = value.Unit
 empty_for (a ∷ arms) = empty_value a.sort

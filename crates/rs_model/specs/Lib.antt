@@ -4,5 +4,6 @@ pub mod Faults
 pub mod Limits
 pub mod Sorts
 pub mod Talks
+pub mod Values
 pub mod WellFormed
 pub mod FirstFailed
