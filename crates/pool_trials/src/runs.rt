@@ -1,13 +1,14 @@
 //! How a text's session runs.
 
 ghost use Rattle.std.specs.Prelude.{◌≡◌, ◌≤◌, length, IfOk};
+ghost use Rattle.rs_model.specs.declared.limits.TheConstants.{MOST_WORKERS};
 ghost use Rattle.rs_documents.specs.Reading.{IsReady};
 
 use rs_answers::{DerivedSession, accept_derived, derived_session};
 use rs_core::{Actor, Run, run_plain};
 use rs_documents::{Document, read_document};
 use rs_exec::Ran;
-use rs_model::{Machine, NoMemory};
+use rs_model::{MOST_CAPACITY, Machine, NoMemory};
 use rs_pool::{Gate, run_pool};
 use rs_safety::Accepted;
 use rs_words::DEFAULT_BOUND;
@@ -32,10 +33,10 @@ fn pooled<R: Threads + Wait + Sync, A: Actor + Send, G: Gate + Sync>(
     how: HowToRun,
     gate: &G,
 ) -> Option<Run<A>>
-    requires { (1 ≤ how.workers) × (how.workers ≤ 16) }
+    requires { (1 ≤ how.workers) × (how.workers ≤ MOST_WORKERS) }
 {
     let room = accepted.room();
-    if actors.len() != accepted.machines().len() || room < 1 || room > 1_024 {
+    if actors.len() != accepted.machines().len() || room < 1 || room > u64::from(MOST_CAPACITY) {
         return None;
     }
     let capacity = room as u16;
@@ -91,7 +92,7 @@ fn document_by<R: Threads + Wait + Sync, A: Actor + Send, G: Gate + Sync>(
 ) -> Option<Run<A>>
     requires ready { IsReady document.now }
     requires roles { length document.now.names.roles ≡ document.now.protocol.roles }
-    requires workers { (1 ≤ how.workers) × (how.workers ≤ 16) }
+    requires workers { (1 ≤ how.workers) × (how.workers ≤ MOST_WORKERS) }
 {
     let DerivedSession {
         projections,
@@ -147,7 +148,7 @@ pub fn pool_run<R: Threads + Wait + Sync, A: Actor + Send, G: Gate + Sync>(
     how: HowToRun,
     gate: &G,
 ) -> Option<Run<A>>
-    requires { (1 ≤ how.workers) × (how.workers ≤ 16) }
+    requires { (1 ≤ how.workers) × (how.workers ≤ MOST_WORKERS) }
 {
     match read_document(alloc, text) {
         Ok(document) => document_by(rt, alloc, &document, actors, how, gate),

@@ -1,5 +1,7 @@
 // Players: each acts for one role of a session over rings, and waits where a ring is full or empty.
 ghost use Rattle.std.specs.Prelude.{◌≡◌, ◌≢◌, ℕ, ◌+◌, ◌<◌, ◌≤◌, ◌^◌, false, IfOk, IfSome, IfNone, length, slice_get};
+ghost use Rattle.rs_model.specs.declared.limits.TheConstants.{MOST_ROLES};
+ghost use Rattle.rs_model.specs.Limits.{IsCapacity};
 ghost use Rattle.rs_core.specs.Choices.{AreWellFormed};
 ghost use Rattle.rs_core.specs.Safety.{IsSafe};
 ghost use Rattle.rs_rings.specs.Acts.{MayPut};
@@ -23,8 +25,8 @@ pub struct Player {
 
 /// The rings of these machines, and the pass of all roles, each of which stands in its start state.
 pub fn begin(alloc: Global, machines: &[Machine], capacity: u16) -> Result<(Rings, Pass), NoMemory>
-    requires roles { (2 ≤ length machines.now) × (length machines.now ≤ 16) }
-    requires capacity { (1 ≤ capacity) × (capacity ≤ 1024) }
+    requires roles { (2 ≤ length machines.now) × (length machines.now ≤ MOST_ROLES) }
+    requires capacity { IsCapacity capacity }
     requires safe { IsSafe machines.now }
     requires well_formed { AreWellFormed machines.now }
     ensures rings { IfOk result (λ t. (t.0.roles ≡ length machines.now) × (t.0.capacity ≡ capacity) × (t.0.machines ≡ machines.now)) }

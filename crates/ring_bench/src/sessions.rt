@@ -1,5 +1,6 @@
 // Sessions from their start to their end.
 ghost use Rattle.std.specs.Prelude.{◌≡◌, ◌+◌, ◌*◌, ◌<◌, ◌≤◌, ◌^◌, IfOk};
+ghost use Rattle.rs_model.specs.Limits.{IsCapacity};
 
 use crate::machines;
 use crate::players::{Player, begin, gather, give_up, pair_of, player_of};
@@ -19,7 +20,7 @@ pub fn stream<R: Threads + Wait + Sync>(
     capacity: u16,
     count: u64,
 ) -> Result<u64, NoMemory>
-    requires capacity { (1 ≤ capacity) × (capacity ≤ 1024) }
+    requires capacity { IsCapacity capacity }
     requires few { count < 2 ^ 62 }
 {
     let machines = machines::stream(alloc)?;
@@ -45,7 +46,7 @@ pub fn rounds<R: Threads + Wait + Sync>(
     capacity: u16,
     count: u64,
 ) -> Result<u64, NoMemory>
-    requires capacity { (1 ≤ capacity) × (capacity ≤ 1024) }
+    requires capacity { IsCapacity capacity }
     requires few { count < 2 ^ 62 }
 {
     let machines = machines::rounds(alloc)?;

@@ -1,5 +1,6 @@
 // How fast parcels go.
-ghost use Rattle.std.specs.Prelude.{◌≡◌, ◌<◌, ◌≤◌};
+ghost use Rattle.std.specs.Prelude.{◌≡◌, ◌<◌};
+ghost use Rattle.rs_model.specs.Limits.{IsCapacity};
 
 use crate::sessions;
 use std::alloc::{Alloc, Global};
@@ -17,7 +18,7 @@ pub fn of_stream<R: Threads + Wait + Sync + Clock + Alloc<A = Global>>(
     threads: u8,
     capacity: u16,
 ) -> io::Result<u128>
-    requires { (1 ≤ capacity) × (capacity ≤ 1024) }
+    requires { IsCapacity capacity }
 {
     let mut best = 0;
     for _ in 0..5 {

@@ -7,6 +7,8 @@ use Rattle.rs_model.specs.declared.graph.Role.{Role}
 use Rattle.rs_model.specs.declared.machines.State.TheVariants.{Puts, Takes}
 use Rattle.rs_model.specs.declared.values.Sort.{Sort}
 use Rattle.rs_model.specs.declared.values.Sort.TheVariants as sort
+use Rattle.rs_model.specs.Values.{empty_value}
+use Rattle.rs_model.proofs.EmptyValues.{empty-fits}
 use Rattle.rs_core.specs.declared.messages.Event.{Event}
 use Rattle.rs_core.specs.declared.messages.Event.TheVariants.{Send, Receive}
 use Rattle.rs_core.specs.declared.messages.StepFault.{StepFault}
@@ -18,16 +20,8 @@ use Rattle.rs_core.specs.Configurations.{Configuration, Step, state_at}
 use Rattle.rs_core.specs.Core.{HasStepped, IsRefused, IsUnsent, send_fault}
 use Rattle.rs_core.specs.Safety.{CanMove, MaySend, MayReceive}
 use Rattle.rs_core.proofs.Stands.{here-is}
-use Rattle.rs_alive.specs.Schedule.{CanLeadOn, LeadsOn, act_of, plain_value}
+use Rattle.rs_alive.specs.Schedule.{CanLeadOn, LeadsOn, act_of}
 use Rattle.rs_alive.proofs.Chains.{one-chain}
-
-pub plain-fits : (so : Sort) → HasSort (plain_value so) so
-plain-fits sort.Unit = refl
-plain-fits sort.Flag = refl
-plain-fits sort.Natural = refl
-plain-fits sort.Whole = refl
-plain-fits sort.Octets = refl
-plain-fits sort.Numbers = refl
 
 -- where the waits lead, the role can go on
 pub can-move : (ms : List Machine_data) (c : Configuration) (p last : ℕ) → CanLeadOn ms c p → LeadsOn ms c p last → CanMove ms c last
@@ -41,7 +35,7 @@ some-arm : (ms : List Machine_data) (c : Configuration) → AreWellFormed ms →
 some-arm ms c wf role peer [] h =
     let at = here-is (slice_get ms role.0) (c.at role.0) (Puts peer []) h in
     absurd (((wf.fits role.0 at.0 at.1).puts (c.at role.0) peer [] at.2).some refl)
-some-arm ms c wf role peer (arm ∷ arms) h = (Send role 0 (plain_value arm.sort), rw h refl)
+some-arm ms c wf role peer (arm ∷ arms) h = (Send role 0 (empty_value arm.sort), rw h refl)
 
 pub has-act : (ms : List Machine_data) (c : Configuration) → AreWellFormed ms → (role : Role) → CanMove ms c role.0 → (event : Event) × (act_of ms c role ≡ Some event)
 has-act ms c wf role (MaySend peer arms h) = some-arm ms c wf role peer arms h
@@ -49,9 +43,9 @@ has-act ms c wf role (MayReceive peer arms m later h q) = (Receive role, rw h re
 
 -- the act that a role in a state that sends has
 pub sends-first : (ms : List Machine_data) (c : Configuration) (role peer : Role) (arms : List Arm) (event : Event) → state_at ms c role.0 ≡ Some (Puts peer arms) → act_of ms c role ≡ Some event
-    → (arm : Arm) × (slice_get arms 0 ≡ Some arm) × (event ≡ Send role 0 (plain_value arm.sort))
+    → (arm : Arm) × (slice_get arms 0 ≡ Some arm) × (event ≡ Send role 0 (empty_value arm.sort))
 sends-first ms c role peer [] event h a = let a' : None ≡ Some event = rw h at a in absurd (cc (a'))
-sends-first ms c role peer (arm ∷ arms) event h a = let a' : Some (Send role 0 (plain_value arm.sort)) ≡ Some event = rw h at a in (arm, refl, cc (a'))
+sends-first ms c role peer (arm ∷ arms) event h a = let a' : Some (Send role 0 (empty_value arm.sort)) ≡ Some event = rw h at a in (arm, refl, cc (a'))
 
 pub receives : (ms : List Machine_data) (c : Configuration) (role peer : Role) (arms : List Arm) (event : Event) → state_at ms c role.0 ≡ Some (Takes peer arms) → act_of ms c role ≡ Some event
     → event ≡ Receive role
@@ -71,8 +65,8 @@ pub memory : (ms : List Machine_data) (c : Configuration) (role : Role) (event :
 memory ms c role event fault (MaySend peer arms h) a r =
     let s = sends-first ms c role peer arms event h a in
     let P : Event → Type 0 = λ z. IsRefused ms c z fault in
-    let right : send_fault (state_at ms c role.0) 0 (plain_value s.0.sort) ≡ None = rw h (rw s.1 (rw (plain-fits s.0.sort) refl)) in
-    unsent (send_fault (state_at ms c role.0) 0 (plain_value s.0.sort)) fault right (subst P s.2 r)
+    let right : send_fault (state_at ms c role.0) 0 (empty_value s.0.sort) ≡ None = rw h (rw s.1 (rw (empty-fits s.0.sort) refl)) in
+    unsent (send_fault (state_at ms c role.0) 0 (empty_value s.0.sort)) fault right (subst P s.2 r)
 memory ms c role event fault (MayReceive peer arms m later h q) a r =
     let P : Event → Type 0 = λ z. IsRefused ms c z fault in
     let e = subst P (receives ms c role peer arms event h a) r in

@@ -3,13 +3,8 @@ use Rattle.std.proofs.Common.{◌≡◌, ℕ, zero, suc, List, [], ◌∷◌, �
 use Rattle.rs_model.specs.Data.{Machine_data}
 use Rattle.rs_core.specs.declared.messages.Event.{Event}
 use Rattle.rs_core.specs.Configurations.{Configuration, Step, Steps}
+use Rattle.rs_core.proofs.Sessions.{steps-snoc}
 use Rattle.rs_alive.specs.Pasts.{LeadsTo}
-
--- one event more at the end
-steps-snoc : (ms : List Machine_data) (c : Configuration) (es : List Event) (d : Configuration) (e : Event) (x : Configuration) → Steps ms c es d → Step ms d e x
-    → Steps ms c (es ++ (e ∷ [])) x
-steps-snoc ms c [] d e x s t = let P : Configuration → Type 0 = λ z. Step ms z e x in (x, subst P (sym s) t, refl)
-steps-snoc ms c (y ∷ es) d e x s t = (s.0, s.1, steps-snoc ms s.0 es d e x s.2 t)
 
 take-more : (es : List Event) (i : ℕ) (e : Event) → slice_get es i ≡ Some e → take (suc i) es ≡ take i es ++ (e ∷ [])
 take-more [] i e h = absurd (cc (h))

@@ -9,20 +9,12 @@ use Rattle.rs_model.specs.declared.values.Sort.{Sort}
 use Rattle.rs_model.specs.declared.values.Sort.TheVariants as sort
 use Rattle.rs_model.specs.declared.values.Value.{Value}
 use Rattle.rs_model.specs.declared.values.Value.TheVariants as value
+use Rattle.rs_model.specs.Values.{empty_value}
 use Rattle.rs_core.specs.declared.messages.Event.{Event}
 use Rattle.rs_core.specs.declared.messages.Event.TheVariants.{Send, Receive}
 use Rattle.rs_core.specs.declared.messages.Message.{Message}
 use Rattle.rs_core.specs.Configurations.{Configuration, Step, state_at}
 use Rattle.rs_core.specs.Safety.{CanMove}
-
--- the value that is sent: nothing, false, 0 or an empty list, by the sort
-abbrev pub plain_value : Sort → Value
-plain_value sort.Unit = value.Unit
-plain_value sort.Flag = value.Flag false
-plain_value sort.Natural = value.Natural 0
-plain_value sort.Whole = value.Whole (pos 0)
-plain_value sort.Octets = value.Octets []
-plain_value sort.Numbers = value.Numbers []
 
 -- for whom a role in that state waits: for the state's peer, where nothing of it is there
 abbrev pub waits_by : Option State → (ℕ → List Message) → Option Role
@@ -53,7 +45,7 @@ abbrev pub act_by : Option State → Role → Option Event
 act_by None role = None
 act_by (Some Done) role = None
 act_by (Some (Puts peer [])) role = None
-act_by (Some (Puts peer (arm ∷ arms))) role = Some (Send role 0 (plain_value arm.sort))
+act_by (Some (Puts peer (arm ∷ arms))) role = Some (Send role 0 (empty_value arm.sort))
 act_by (Some (Takes peer arms)) role = Some (Receive role)
 
 -- what the role does

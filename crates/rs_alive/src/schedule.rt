@@ -7,7 +7,7 @@ ghost use Rattle.rs_model.specs.declared.graph.Arm.{Arm};
 ghost use Rattle.rs_model.specs.declared.graph.Role.{Role};
 ghost use Rattle.rs_model.specs.declared.machines.State.TheVariants.{Takes};
 ghost use Rattle.rs_core.specs.Choices.{AreWellFormed};
-ghost use Rattle.rs_alive.specs.Schedule.{Advances, CanLeadOn, LeadsOn, act_of, plain_value, takes_from, waits_for};
+ghost use Rattle.rs_alive.specs.Schedule.{Advances, CanLeadOn, LeadsOn, act_of, takes_from, waits_for};
 
 use rs_core::{Core, Event, StepFault};
 use rs_model::{Machine, NoMemory, Numbers, Octets, Role, Sort, State, Value};
@@ -109,7 +109,7 @@ fn act_of(alloc: Global, machines: &[Machine], core: &Core, role: Role) -> Resul
             Some(arm) => Ok(Event::Send {
                 role,
                 arm: 0,
-                value: plain_value(alloc, arm.sort)?,
+                value: arm.sort.empty_value(alloc)?,
             }),
             None => unreachable!(),
         },
@@ -129,20 +129,6 @@ fn takes_from(machines: &[Machine], core: &Core, role: Role, sender: Role, recei
         Some(State::Takes { peer, .. }) => role.0 == receiver.0 && peer.0 == sender.0,
         _ => false,
     }
-}
-
-/// Nothing, false, 0 or an empty list, by the sort.
-fn plain_value(alloc: Global, sort: Sort) -> Result<Value, NoMemory>
-    ensures { IfOk result (λ v. v ≡ plain_value sort) }
-{
-    Ok(match sort {
-        Sort::Unit => Value::Unit,
-        Sort::Flag => Value::Flag(false),
-        Sort::Natural => Value::Natural(0),
-        Sort::Whole => Value::Whole(0),
-        Sort::Octets => Value::Octets(Octets::of(alloc, &[])?),
-        Sort::Numbers => Value::Numbers(Numbers::of(alloc, &[])?),
-    })
 }
 
 /// An equal event.

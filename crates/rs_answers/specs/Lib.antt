@@ -8,6 +8,7 @@ pub mod Report
 pub mod Runs
 pub mod Sessions
 pub mod Shown
+pub mod SpeltFaults
 pub mod Tables
 pub mod Texts
 pub mod TranscriptTexts

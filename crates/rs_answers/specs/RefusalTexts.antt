@@ -84,8 +84,8 @@ label_name names label = name_at names.labels label.0
 abbrev pub role_name : Names_data → Role → List ℕ
 role_name names role = name_at names.roles role.0
 
--- what is answered to a protocol that isn't well formed, by its first fault. What a text spells has arms everywhere,
--- and leads to its own nodes: the second and the last line are never written
+-- what is answered to a protocol that isn't well formed, by its first fault. What a text spells has arms everywhere, and
+-- leads to its own nodes (`faults_of_spelt_protocols`): the second and the last line are never written
 abbrev pub wf_answer : Names_data → WfFault → Answer_data
 wf_answer names (wf.SelfTalk n) = malformed (joined (codes "protocol: node " ∷ decimal n ∷ codes " talks to itself" ∷ []))
 wf_answer names (wf.NoArms n) = malformed (joined (codes "protocol: no arms at node " ∷ decimal n ∷ []))
@@ -108,8 +108,8 @@ proj_answer names (proj.Unreached role node) =
 proj_answer names (proj.TooManyStates role) = too_large (joined (codes "projection " ∷ role_name names role ∷ []))
 proj_answer names proj.NoMemory = unprojectable [] []
 
--- what is wrong at a state. What a text spells has arms everywhere, leads to its own states and knows its peers: the
--- last three lines are never written
+-- what is wrong at a state. What a text spells has arms everywhere, leads to its own states and knows its peers
+-- (`faults_of_spelt_machines`): the last three lines are never written
 abbrev pub state_text : Names_data → MachineFault → List ℕ
 state_text names (bad.TwiceLabel s label) = joined (codes "label " ∷ label_name names label ∷ codes " twice at state " ∷ decimal s ∷ [])
 state_text names (bad.SelfPeer s) = joined (codes "state " ∷ decimal s ∷ codes " talks to itself" ∷ [])

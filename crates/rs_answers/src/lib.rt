@@ -4,6 +4,7 @@
 mod answers;
 mod checks;
 mod derivations;
+pub mod laws;
 mod refusal_texts;
 mod refusals;
 mod report;

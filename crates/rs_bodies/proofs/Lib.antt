@@ -14,5 +14,7 @@ pub mod Answers
 pub mod SpeltLaws
 pub mod Placing
 pub mod Sounding
+pub mod Taken
 pub mod Refusals
 pub mod Fitting
+pub mod Leading

@@ -1,8 +1,9 @@
 -- What the reader refuses is refused by the first fault of the text, or for want of memory.
-use Rattle.std.proofs.Common.{Err, ◌∙◌, ◌≡◌, ℕ, List, length, ◌≤◌, ◌⊎◌, inl, inr, ap, sym, subst}
+use Rattle.std.proofs.Common.{Err, ◌∙◌, ◌≡◌, ℕ, List, length, ◌≤◌, inl, inr, ap, sym, subst}
 use Rattle.rs_model.specs.Data.{Names_data}
 use Rattle.rs_bodies.specs.Data.{Reader_data}
 use Rattle.rs_text.specs.declared.faults.TextFault.{TextFault}
+use Rattle.rs_text.specs.declared.faults.TextKind.{TextKind}
 use Rattle.rs_text.specs.declared.faults.TextKind.TheVariants as kind
 use Rattle.rs_text.specs.declared.reading.Stop.{Stop}
 use Rattle.rs_text.specs.declared.reading.Stop.TheVariants as stops
@@ -14,21 +15,35 @@ use Rattle.rs_bodies.specs.Data.{Spelling_data}
 use Rattle.rs_bodies.specs.Drafts.{names_read, spelling_read}
 use Rattle.rs_bodies.specs.Spells.{Spells}
 use Rattle.rs_bodies.proofs.SpeltRuns.{sound}
-use Rattle.rs_bodies.specs.Feeding.{begin, feeding, first_roles, Leaves, Reads, answered}
+use Rattle.rs_bodies.specs.Feeding.{HasLabels, begin, feeding, first_roles, Leaves, Reads, answered}
 use Rattle.rs_text.specs.Readings.{told, StopsBy, RefusedBy}
 use Rattle.rs_bodies.proofs.OneFault.{leaves}
+use Rattle.rs_bodies.proofs.Taken.{Took, took_labels}
 use Rattle.rs_text.proofs.Keeping.{tokens}
 use Rattle.rs_bodies.specs.declared.dialects.Dialect.{Dialect}
 use Rattle.rs_bodies.specs.declared.dialects.Dialect.TheVariants.{Talks, Acts}
 
 left_by : (dia : Dialect) (old new : Names_data) (bytes : List ℕ) (at : ℕ) (ls : List Lexeme) (f : TextFault) → Lexed bytes at ls → read_all (feeding dia) (Ok (begin dia old)) ls ≡ Err f → KeepsBy dia old new → (last_of (feeding dia) (begin dia old) (Ok (begin dia old)) ls).labels ≡ new.labels → LeavesBy dia old new bytes at f.kind f.at
 left_by Talks old new bytes at ls f lexed h kept k = tt
-left_by Acts old new bytes at ls f lexed h kept k = leaves old new bytes at ls f lexed h kept.roles k
+left_by Acts old new bytes at ls f lexed h kept k = inr (leaves old new bytes at ls f lexed h kept.roles k)
 
--- a fault leaves the labels of the reader that refused
-pub labels_left : (dia : Dialect) (s : Stop) (o d : Reader_data) (bytes : List ℕ) (at : ℕ) (labels : List (List ℕ)) → RefusedBy (feeding dia) s o bytes at d → d.labels ≡ labels → Leaves dia s o bytes at labels
-labels_left dia stops.Memory o d bytes at labels h k = tt
-labels_left dia (stops.Fault f) o d bytes at labels h k = λ ls lexed. ap (λ z. z.labels) (h ls lexed) ∙ k
+-- a refusal leaves the labels of the reader that refused
+pub labels_left : (dia : Dialect) (s : Stop) (o d : Reader_data) (bytes : List ℕ) (at now : ℕ) (labels : List (List ℕ)) → now ≤ length bytes → Took dia o bytes at d now → RefusedBy (feeding dia) s o bytes at d → d.labels ≡ labels → Leaves dia s o bytes at labels
+labels_left dia stops.Memory o d bytes at now labels within took h k = took_labels dia o d bytes at now labels within took (sym k)
+labels_left dia (stops.Fault f) o d bytes at now labels within took h k = λ ls lexed. ap (λ z. z.labels) (h ls lexed) ∙ k
+
+-- refused memory leaves the labels of some first tokens
+left_memory : (dia : Dialect) (old new : Names_data) (bytes : List ℕ) (at : ℕ) (k : TextKind) (offset : ℕ) → k ≡ kind.NoMemory → HasLabels dia old.labels new.labels bytes at → KeepsBy dia old new → LeavesBy dia old new bytes at k offset
+left_memory Talks old new bytes at k offset e h kept = tt
+left_memory Acts old new bytes at k offset e h kept = inl (
+  e,
+  record {
+    before = h.0;
+    others = h.1;
+    lexed = h.2;
+    names_are = ap (λ z. record { roles = z; labels = new.labels }) kept.roles ∙ ap (λ z. record { roles = old.roles; labels = z }) h.3;
+  },
+)
 
 -- the reader begins with the names
 pub begins_with : (dia : Dialect) (o : Reader_data) (old : Names_data) (roles labels : List (List ℕ)) → o ≡ begin dia (record { roles = roles; labels = labels }) → roles ≡ old.roles → labels ≡ old.labels → o ≡ begin dia old
@@ -47,15 +62,19 @@ pub names_first : (dia : Dialect) (o : Reader_data) (old : Names_data) → o ≡
 names_first dia o old e first = ap names_read e ∙ ap (λ z. record { roles = z; labels = old.labels }) (sym first)
 
 pub left : (dia : Dialect) (s : Stop) (old new : Names_data) (o r : Reader_data) (bytes : List ℕ) (at : ℕ) (e : TextFault) → e ≡ told s at → o ≡ begin dia old → at ≤ length bytes → StopsBy (feeding dia) s o bytes at → Leaves dia s o bytes at r.labels → new ≡ names_read r → old.roles ≡ first_roles dia old → KeepsBy dia (names_read o) (names_read r)
-    → (e.kind ≡ kind.NoMemory) ⊎ LeavesBy dia old new bytes at e.kind e.at
-left dia stops.Memory old new o r bytes at e same first within h leave names roles kept = inl (ap (λ (z : TextFault). z.kind) same)
+    → LeavesBy dia old new bytes at e.kind e.at
+left dia stops.Memory old new o r bytes at e same first within h leave names roles kept =
+    let begins : names_read o ≡ old = names_first dia o old first roles in
+    let stays : KeepsBy dia old (names_read r) = subst (λ (z : Names_data). KeepsBy dia z (names_read r)) begins kept in
+    let labels : HasLabels dia old.labels r.labels bytes at = subst (λ (z : Names_data). HasLabels dia z.labels r.labels bytes at) begins leave in
+    subst (λ (z : Names_data). LeavesBy dia old z bytes at e.kind e.at) (sym names) (left_memory dia old (names_read r) bytes at e.kind e.at (ap (λ (z : TextFault). z.kind) same) labels stays)
 left dia (stops.Fault f) old new o r bytes at e same first within h leave names roles kept =
     let t = tokens bytes at within in
     let reads : Reads dia (begin dia old) bytes at (Err f) = subst (λ (z : Reader_data). Reads dia z bytes at (Err f)) first h in
     let labels_are : Leaves dia (stops.Fault f) (begin dia old) bytes at r.labels = subst (λ (z : Reader_data). Leaves dia (stops.Fault f) z bytes at r.labels) first leave in
     let stays : KeepsBy dia old (names_read r) = subst (λ (z : Names_data). KeepsBy dia z (names_read r)) (names_first dia o old first roles) kept in
-    inr (subst (λ (z : TextFault). LeavesBy dia old new bytes at z.kind z.at) (sym same)
-    (subst (λ (z : Names_data). LeavesBy dia old z bytes at f.kind f.at) (sym names) (left_by dia old (names_read r) bytes at t.0 f t.1 (reads t.0 t.1) stays (labels_are t.0 t.1))))
+    subst (λ (z : TextFault). LeavesBy dia old new bytes at z.kind z.at) (sym same)
+    (subst (λ (z : Names_data). LeavesBy dia old z bytes at f.kind f.at) (sym names) (left_by dia old (names_read r) bytes at t.0 f t.1 (reads t.0 t.1) stays (labels_are t.0 t.1)))
 
 -- what the reader gives is spelt
 pub reads_spelt : (dia : Dialect) (old new : Names_data) (bytes : List ℕ) (at : ℕ) (o r : Reader_data) (until : ℕ) (spelling : Spelling_data) → o ≡ begin dia old → at ≤ length bytes → Reads dia o bytes at (Ok (record { reader = r; until = until })) → new ≡ names_read r → spelling ≡ spelling_read r → Spells dia bytes at old new spelling until

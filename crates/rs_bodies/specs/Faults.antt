@@ -6,7 +6,7 @@ use Rattle.rs_text.specs.declared.faults.Wanted.{Wanted}
 use Rattle.rs_text.specs.declared.faults.TextKind.{TextKind}
 use Rattle.rs_text.specs.declared.faults.TextKind.TheVariants as kind
 use Rattle.rs_text.specs.Faults.{kind_of}
-use Rattle.rs_text.specs.Lexemes.{signs_of}
+use Rattle.rs_text.specs.Lexemes.{Lexeme, Lexed, signs_of}
 use Rattle.rs_text.specs.Names.{grown}
 use Rattle.rs_text.specs.Signs.{Sign, rec_word, end_word, plain, bang, question, comma, open_brace, broken}
 use Rattle.rs_bodies.specs.declared.dialects.Dialect.{Dialect}
@@ -97,16 +97,27 @@ names_behind old signs = record { roles = old.roles; labels = grown old.labels (
 abbrev pub LeavesNames : (old new : Names_data) → (bytes : List ℕ) → (at : ℕ) → (kind : TextKind) → (offset : ℕ) → Type 0
 LeavesNames old new bytes at kind offset = (fault : FirstFault Acts old bytes at kind offset) × (new ≡ names_behind old (signs_of fault.before))
 
+-- the names with the labels of some first tokens of the text
+pub record LeavesSome (old new : Names_data) (bytes : List ℕ) (at : ℕ) : Type 0 where
+  pub before : List Lexeme
+  pub others : List Lexeme
+  pub lexed : Lexed bytes at (before ++ others)
+  pub names_are : new ≡ names_behind old (signs_of before)
+
+-- what a refusal leaves: of the first fault the labels of the tokens before it; of refused memory those of some first tokens
+abbrev pub LeavesLabels : (old new : Names_data) → (bytes : List ℕ) → (at : ℕ) → (kind : TextKind) → (offset : ℕ) → Type 0
+LeavesLabels old new bytes at k offset = ((k ≡ kind.NoMemory) × LeavesSome old new bytes at) ⊎ LeavesNames old new bytes at k offset
+
 -- the names that were there stay in their places
 pub record Keeps (old new : Names_data) : Type 0 where
   pub later : List (List ℕ)
   pub roles : new.roles ≡ old.roles
   pub labels : new.labels ≡ old.labels ++ later
 
--- what the fault of a part leaves: of a machine the names with the labels before the fault
+-- what the refusal of a part leaves: of a machine the names with the labels before it
 abbrev pub LeavesBy : Dialect → (old new : Names_data) → (bytes : List ℕ) → (at : ℕ) → (kind : TextKind) → (offset : ℕ) → Type 0
 LeavesBy Talks old new bytes at kind offset = Unit {0}
-LeavesBy Acts old new bytes at kind offset = LeavesNames old new bytes at kind offset
+LeavesBy Acts old new bytes at kind offset = LeavesLabels old new bytes at kind offset
 
 -- a machine keeps the names that were there
 abbrev pub KeepsBy : Dialect → (old new : Names_data) → Type 0

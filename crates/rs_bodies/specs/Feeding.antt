@@ -10,8 +10,8 @@ use Rattle.rs_text.specs.declared.faults.Wanted.{Wanted}
 use Rattle.rs_text.specs.declared.faults.Wanted.TheVariants as wanted
 use Rattle.rs_text.specs.Faults.{kind_of}
 use Rattle.rs_model.specs.Data.{Names_data}
-use Rattle.rs_text.specs.Lexemes.{Lexeme, Lexed}
-use Rattle.rs_text.specs.Names.{place_of, is_among, bound_to}
+use Rattle.rs_text.specs.Lexemes.{Lexeme, Lexed, signs_of}
+use Rattle.rs_text.specs.Names.{place_of, is_among, bound_to, grown}
 use Rattle.rs_text.specs.Seen.{plain_text, word_text, is_text, sort_named}
 use Rattle.rs_bodies.specs.declared.dialects.Mark.TheVariants as mark
 use Rattle.rs_text.specs.Signs.{Sign, rec_word, end_word, plain, arrow, bang, question, colon, dot, comma, open_brace, close_brace, open_paren, close_paren, broken}
@@ -30,6 +30,7 @@ use Rattle.rs_text.specs.declared.reading.Stop.TheVariants as stops
 use Rattle.rs_bodies.specs.Data.{Reader_data, Draft_data, Spelling_data}
 use Rattle.rs_text.specs.Readings.{Automaton, Reading, fault, expected, read_all, ReadsBy, last_of, Fails}
 use Rattle.rs_bodies.specs.Drafts.{with_arm, spelling_read, names_read}
+use Rattle.rs_bodies.specs.Faults.{labels_among}
 
 -- the reader behind a token, or the fault of the token
 abbrev pub Fed : Type 0
@@ -314,9 +315,14 @@ ReadsAs d old bytes at answer = (lexemes : List Lexeme) → Lexed bytes at lexem
 abbrev pub Reads : Dialect → Reader_data → List ℕ → ℕ → Result (Reading Reader_data) TextFault → Type 0
 Reads d r bytes at reading = ReadsBy (feeding d) r bytes at reading
 
--- the labels that the reader has at the fault; a stop by want of memory may come anywhere
+-- the reader, which began with these labels, has those of some first tokens too
+abbrev pub HasLabels : Dialect → (old labels : List (List ℕ)) → List ℕ → ℕ → Type 0
+HasLabels Talks old labels bytes at = Unit {0}
+HasLabels Acts old labels bytes at = (before : List Lexeme) × (others : List Lexeme) × Lexed bytes at (before ++ others) × (labels ≡ grown old (labels_among false (signs_of before)))
+
+-- the labels that the reader has at the fault, or where memory was refused
 abbrev pub Leaves : Dialect → Stop → Reader_data → List ℕ → ℕ → List (List ℕ) → Type 0
-Leaves d stops.Memory r bytes at labels = Unit {0}
+Leaves d stops.Memory r bytes at labels = HasLabels d r.labels labels bytes at
 Leaves d (stops.Fault f) r bytes at labels = (lexemes : List Lexeme) → Lexed bytes at lexemes → (last_of (feeding d) r (Ok r) lexemes).labels ≡ labels
 
 -- a method takes one step of the reader; where it stops the names are as before

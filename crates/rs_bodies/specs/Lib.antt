@@ -9,6 +9,7 @@ pub mod Misplaced
 pub mod Points
 pub mod Fits
 pub mod Spells
+pub mod Leads
 pub mod Faults
 pub mod Drafts
 pub mod Feeding

@@ -12,7 +12,6 @@ pub data Opening : Dialect → Type 0 where
   of_role : (role : List ℕ) → Opening Acts
 
 -- the tokens of a further role on the roles line
--- a further role
 abbrev pub further_signs : List ℕ → List Sign
 further_signs name = comma ∷ plain name ∷ []
 

@@ -11,6 +11,7 @@ ghost use Rattle.rs_bodies.specs.declared.dialects.Dialect.{Dialect};
 ghost use Rattle.rs_bodies.specs.Data.{Spelling_data};
 ghost use Rattle.rs_bodies.specs.Faults.{Begins, FirstFault, IsUnexpected};
 ghost use Rattle.rs_bodies.specs.Feeding.{Answer, ReadsAs};
+ghost use Rattle.rs_bodies.specs.Leads.{LeadsInside};
 ghost use Rattle.rs_bodies.specs.Spells.{Spells};
 
 /// Whatever is read from a text, the text spells it ..
@@ -62,4 +63,10 @@ pub fn tokens_before_the_fault_begin_a_part()
 /// is what its place wants.
 pub fn expected_is_unexpected()
     ensures { (d : Dialect) (old : Names_data) (bytes : List ℕ) (at : ℕ) (wanted : Wanted) (offset : ℕ) (fault : FirstFault d old bytes at (kind.Expected wanted) offset) → IsUnexpected d (signs_of fault.before) fault.token.sign wanted }
+{}
+
+/// What a text spells leads to its own places: its heads have known roles and some arms, and every arm leads to a head or to
+/// the end.
+pub fn spelt_parts_lead_inside()
+    ensures { (d : Dialect) (bytes : List ℕ) (at : ℕ) (old new : Names_data) (spelling : Spelling_data) (until : ℕ) → Spells d bytes at old new spelling until → LeadsInside (length new.roles) spelling }
 {}

@@ -5,7 +5,7 @@ ghost use Rattle.rs_text.specs.Sound.{IsSound};
 ghost use Rattle.rs_bodies.specs.Dialects.{most};
 ghost use Rattle.rs_bodies.specs.Drafts.{names_read, spelling_read};
 ghost use Rattle.rs_bodies.specs.Faults.{FirstFault, KeepsBy, LeavesBy};
-ghost use Rattle.rs_bodies.specs.Feeding.{begin, feeding, first_roles, Leaves, Reads};
+ghost use Rattle.rs_bodies.specs.Feeding.{begin, feeding, first_roles, HasLabels, Leaves, Reads};
 ghost use Rattle.rs_bodies.specs.Spells.{Spells};
 
 use crate::dialects::Dialect;
@@ -26,7 +26,7 @@ use std::mem;
 ///
 /// A fault has the offset of its token: what was wanted instead, an unknown role, a name that is unbound or unguarded, a
 /// role that is there already, one too many of nesting, roles, heads or labels, or a faulty token. Refused memory has
-/// the offset `at`; then some of the new names may be there.
+/// the offset `at`; then the names have the labels of some of a machine's first tokens.
 pub fn read_part(
     alloc: Global,
     dialect: Dialect,
@@ -41,7 +41,7 @@ pub fn read_part(
     requires first { names.old.roles ≡ first_roles dialect names.old }
     ensures ok { IfOk result (λ r. Spells dialect bytes.now at names.old names.new r.0 r.1) }
     ensures err { IfErr result (λ e. (e.kind ≡ kind.NoMemory) ⊎ FirstFault dialect names.old bytes.now at e.kind e.at) }
-    ensures left { IfErr result (λ e. (e.kind ≡ kind.NoMemory) ⊎ LeavesBy dialect names.old names.new bytes.now at e.kind e.at) }
+    ensures left { IfErr result (λ e. LeavesBy dialect names.old names.new bytes.now at e.kind e.at) }
     ensures sound { IsSound names.new }
     ensures roles { length names.new.roles ≤ 16 }
     ensures labels { length names.new.labels ≤ 256 }
@@ -112,6 +112,7 @@ fn read<'a>(
     requires begun { reader.old ≡ begin dialect (names_read reader.old) }
     ensures ok { IfOk result (λ until. Reads dialect reader.old bytes.now at (Ok (record { reader = reader.new; until = until }))) }
     ensures few { IfOk result (λ until. length reader.new.drafts ≤ most dialect) }
+    ensures labels { HasLabels dialect reader.old.labels reader.new.labels bytes.now at }
     ensures within { IfOk result (λ until. until ≤ length bytes.now) }
     ensures err { IfErr result (λ e. StopsBy (feeding dialect) e reader.old bytes.now at) }
     ensures left { IfErr result (λ e. Leaves dialect e reader.old bytes.now at reader.new.labels) }

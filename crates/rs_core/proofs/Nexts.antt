@@ -11,28 +11,13 @@ use Rattle.rs_model.specs.declared.values.Sort.{Sort}
 use Rattle.rs_model.specs.declared.values.Sort.TheVariants as sort
 use Rattle.rs_model.specs.declared.values.Value.{Value}
 use Rattle.rs_model.specs.declared.values.Value.TheVariants as value
+use Rattle.rs_model.specs.Values.{empty_value}
+use Rattle.rs_model.proofs.EmptyValues.{empty-fits}
 use Rattle.rs_core.specs.Configurations.{Message, Configuration, Event, Send, Receive, Step, IsReachable}
 use Rattle.rs_core.specs.Safety.{CanMove, MaySend, MayReceive, CanStep, IsSafe}
 use Rattle.rs_core.specs.Choices.{HaveArms}
 use Rattle.rs_core.proofs.Moves.{after_send, after_receive, send-step, receive-step}
 use Rattle.rs_core.proofs.Stands.{here-is}
-
--- a value of the sort
-abbrev pub value_of : Sort → Value
-value_of sort.Unit = value.Unit
-value_of sort.Flag = value.Flag false
-value_of sort.Natural = value.Natural 0
-value_of sort.Whole = value.Whole (pos 0)
-value_of sort.Octets = value.Octets []
-value_of sort.Numbers = value.Numbers []
-
-pub value_of-has : (so : Sort) → HasSort (value_of so) so
-value_of-has sort.Unit = refl
-value_of-has sort.Flag = refl
-value_of-has sort.Natural = refl
-value_of-has sort.Whole = refl
-value_of-has sort.Octets = refl
-value_of-has sort.Numbers = refl
 
 -- an arm takes the message
 abbrev pub Fitting : Arm → Message → Type 0
@@ -85,8 +70,8 @@ next machines safe arms' c reachable p (MaySend peer [] puts) =
     let at = here-is (slice_get machines p) (c.at p) (Puts peer []) puts in
     absurd (arms' p (c.at p) at.0 peer at.1 at.2)
 next machines safe arms' c reachable p (MaySend peer (x ∷ xs) puts) =
-    let v = value_of x.sort in
-    (Send (record { 0 = p }) 0 v, after_send c p peer x v, send-step machines c p 0 v peer (x ∷ xs) x puts refl (value_of-has x.sort))
+    let v = empty_value x.sort in
+    (Send (record { 0 = p }) 0 v, after_send c p peer x v, send-step machines c p 0 v peer (x ∷ xs) x puts refl (empty-fits x.sort))
 next machines safe arms' c reachable p (MayReceive peer arms message later takes oldest) = elim (find arms message) [
   | inl t ↦ (Receive (record { 0 = p }), after_receive c p peer t.1 later, receive-step machines c p peer arms t.0 t.1 message later takes oldest t.2 t.3.0 t.3.1)
   | inr none ↦ absurd (safe.fits c reachable record { role = p; peer = peer; arms = arms; message = message; later = later; takes = takes; oldest = oldest; no_arm = none })

@@ -22,7 +22,7 @@ use Rattle.rs_core.proofs.Stands.{here-is, machine-at, numbered}
 use Rattle.rs_core.proofs.Nexts.{Taken, find}
 
 -- one event more at the end
-steps-snoc : (ms : List Machine_data) (c : Configuration) (es : List Event) (d : Configuration) (e : Event) (x : Configuration) → Steps ms c es d → Step ms d e x
+pub steps-snoc : (ms : List Machine_data) (c : Configuration) (es : List Event) (d : Configuration) (e : Event) (x : Configuration) → Steps ms c es d → Step ms d e x
     → Steps ms c (es ++ (e ∷ [])) x
 steps-snoc ms c [] d e x s t = let P : Configuration → Type 0 = λ z. Step ms z e x in (x, subst P (sym s) t, refl)
 steps-snoc ms c (y ∷ es) d e x s t = (s.0, s.1, steps-snoc ms s.0 es d e x s.2 t)

@@ -1,5 +1,7 @@
 -- Believed: what the actors of the demos choose, and what they become.
 use Rattle.std.specs.Prelude.{ℕ, ◌/◌, ◌%◌, ℤ, pos, ◌+ℤ◌, ◌-ℤ◌, List, [], ◌∷◌, ◌++◌, take, drop, false, ◌==◌, if◌then◌else◌, Option, Some, None}
+use Rattle.rs_model.specs.Values.{empty_value}
+use Rattle.rs_demos.specs.declared.parts.TheConstants.{PIECE_BYTES}
 use Rattle.rs_model.specs.Sorts.{serves}
 use Rattle.rs_model.specs.declared.graph.Arm.{Arm}
 use Rattle.rs_model.specs.declared.values.Sort.{Sort}
@@ -15,11 +17,11 @@ use Rattle.rs_demos.specs.declared.parts.ButterflyMember.{ButterflyMember}
 
 -- the next piece of bytes that are left: the first 4,096, or all where there are fewer
 abbrev pub piece_of : List ℕ → List ℕ
-piece_of bytes = take 4096 bytes
+piece_of bytes = take PIECE_BYTES bytes
 
 -- what stands behind it
 abbrev pub behind_piece : List ℕ → List ℕ
-behind_piece bytes = drop 4096 bytes
+behind_piece bytes = drop PIECE_BYTES bytes
 
 -- the bytes, where there are some, else the unit
 abbrev pub octets_or_unit : Option (List ℕ) → Value
@@ -55,16 +57,7 @@ arm_place s [] = None
 arm_place s (a ∷ []) = if serves s a.sort then Some 0 else None
 arm_place s (a ∷ b ∷ others) = if serves s a.sort then Some 0 else (if serves s b.sort then Some 1 else None)
 
--- a value of the sort that says nothing
-abbrev pub empty_value : Sort → Value
-empty_value sort.Unit = value.Unit
-empty_value sort.Flag = value.Flag false
-empty_value sort.Natural = value.Natural 0
-empty_value sort.Whole = value.Whole (pos 0)
-empty_value sort.Octets = value.Octets []
-empty_value sort.Numbers = value.Numbers []
-
--- .. of the first arm's sort
+-- the empty value of the first arm's sort
 abbrev pub empty_for : List Arm → Value
 empty_for [] = value.Unit
 empty_for (a ∷ arms) = empty_value a.sort

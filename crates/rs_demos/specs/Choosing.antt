@@ -5,19 +5,11 @@ use Rattle.rs_model.specs.declared.graph.Arm.{Arm}
 use Rattle.rs_model.specs.declared.values.Sort.{Sort}
 use Rattle.rs_model.specs.declared.values.Sort.TheVariants as sort
 use Rattle.rs_model.specs.declared.values.Value.TheVariants as value
+use Rattle.rs_model.proofs.EmptyValues.{empty-fits}
 use Rattle.rs_core.specs.Actors.{ChoosesWell}
-use Rattle.rs_demos.specs.Acting.{wanted, sort_of, arm_place, octets_or_unit, next_piece, empty_value, empty_for, chosen_at, arm_for, by_demo}
+use Rattle.rs_demos.specs.Acting.{wanted, sort_of, arm_place, octets_or_unit, next_piece, empty_for, chosen_at, arm_for, by_demo}
 use Rattle.rs_demos.specs.declared.actors.DemoActor.{DemoActor}
 use Rattle.rs_demos.specs.declared.actors.DemoActor.TheVariants as actor
-
--- the empty value of a sort has the sort
-empty-fits : (s : Sort) → HasSort (empty_value s) s
-empty-fits sort.Unit = refl
-empty-fits sort.Flag = refl
-empty-fits sort.Natural = refl
-empty-fits sort.Whole = refl
-empty-fits sort.Octets = refl
-empty-fits sort.Numbers = refl
 
 -- what serves a sort is of it
 serves-is : (s t : Sort) → serves s t ≡ true → s ≡ t

@@ -3,6 +3,7 @@ use Rattle.std.specs.Prelude.{◌≡◌, ℕ, ◌≤◌, ℤ, pos, neg_ℤ, Fits
 use Rattle.std.specs.List.{list_all}
 use Rattle.std.specs.Str.Parse.{IsNumeral, digits_value}
 use Rattle.std.specs.Int.{w64}
+use Rattle.rs_model.specs.declared.limits.TheConstants.{MOST_ROLES}
 use Rattle.rs_demos.specs.declared.kinds.Demo.{Demo}
 use Rattle.rs_demos.specs.declared.kinds.Demo.TheVariants as demo
 
@@ -56,7 +57,7 @@ SpellsNumbers (z ∷ zs) bytes = BeginsWith z (SpellsNumbers zs) bytes
 
 -- whether a demo takes so many numbers
 abbrev pub takes_numbers : Demo → ℕ → Bool
-takes_numbers demo.Ring n = nat_le 2 n && nat_le n 16
+takes_numbers demo.Ring n = nat_le 2 n && nat_le n MOST_ROLES
 takes_numbers demo.Butterfly n = ((n == 2) || (n == 4)) || ((n == 8) || (n == 16))
 takes_numbers demo.Double n = false
 takes_numbers demo.Stream n = false

@@ -2,7 +2,7 @@
 
 ghost use Rattle.std.specs.Prelude.{◌≡◌, ◌≢◌, ◌+ℤ◌, ◌-ℤ◌, [], IfOk, OnErr, OnOk};
 ghost use Rattle.rs_model.specs.Sorts.{serves, sort_number};
-ghost use Rattle.rs_demos.specs.Acting.{after_sending, butterfly_told, by_demo, empty_value, arm_place, ring_told, sort_of, told_of, wanted};
+ghost use Rattle.rs_demos.specs.Acting.{after_sending, butterfly_told, by_demo, arm_place, ring_told, sort_of, told_of, wanted};
 ghost use Rattle.rs_demos.specs.Choosing.{chooses-well};
 ghost use Rattle.rs_demos.specs.Results.{inverted, wrapped};
 
@@ -69,20 +69,6 @@ fn arm_place(sort: Sort, arms: &[Arm]) -> Option<u16>
     }
 }
 
-/// A value of the sort that says nothing.
-fn empty_value(alloc: Global, sort: Sort) -> Result<Value, NoMemory>
-    ensures { IfOk result (λ v. v ≡ empty_value sort) }
-{
-    Ok(match sort {
-        Sort::Unit => Value::Unit,
-        Sort::Flag => Value::Flag(false),
-        Sort::Natural => Value::Natural(0),
-        Sort::Whole => Value::Whole(0),
-        Sort::Octets => Value::Octets(Octets::of(alloc, &[])?),
-        Sort::Numbers => Value::Numbers(Numbers::of(alloc, &[])?),
-    })
-}
-
 /// The bytes, each one inverted.
 fn inverted(alloc: Global, bytes: &[u8]) -> Result<Octets, NoMemory>
     ensures { IfOk result (λ o. o ≡ inverted bytes.now) }
@@ -141,7 +127,7 @@ impl Actor for DemoActor {
     fn choose(&mut self, alloc: Global, arms: &[Arm]) -> Result<(u16, Value), NoMemory> {
         match arm_place(self.wanted_sort(), arms) {
             Some(place) => Ok((place, self.send(alloc)?)),
-            None => Ok((0, empty_value(alloc, arms[0].sort)?)),
+            None => Ok((0, arms[0].sort.empty_value(alloc)?)),
         }
     }
 

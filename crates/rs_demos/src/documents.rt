@@ -1,6 +1,7 @@
 //! The documents of the demos.
 
 ghost use Rattle.std.specs.Prelude.{◌≡◌, ◌≤◌, ◌<◌, ◌-◌, ◌++◌, true, codes, map, IfOk, OnOk};
+ghost use Rattle.rs_model.specs.declared.limits.TheConstants.{MOST_ROLES};
 ghost use Rattle.std.specs.List.{flat_map};
 ghost use Rattle.rs_demos.specs.Sessions.{both_ways, butterfly_exchanges, butterfly_pair, butterfly_pairs, butterfly_round, has_session, is_clear, next_in_ring, numbers_from, partner, previous_in_ring, ring_exchanges, ring_pairs, ring_round, role_name};
 ghost use Rattle.rs_demos.specs.Texts.{IsDemoText};
@@ -43,7 +44,7 @@ fn constant(alloc: Global, bytes: &[u8]) -> Result<Text, NoMemory>
 }
 
 fn ring(alloc: Global, roles: u8) -> Result<Text, NoMemory>
-    requires { (1 ≤ roles) × (roles ≤ 16) }
+    requires { (1 ≤ roles) × (roles ≤ MOST_ROLES) }
     ensures { IfOk result (λ text. text ≡ ring_text roles) }
 {
     let mut text = Text::new(alloc);
@@ -56,7 +57,7 @@ fn ring(alloc: Global, roles: u8) -> Result<Text, NoMemory>
 }
 
 fn butterfly(alloc: Global, roles: u8) -> Result<Text, NoMemory>
-    requires { (1 ≤ roles) × (roles ≤ 16) }
+    requires { (1 ≤ roles) × (roles ≤ MOST_ROLES) }
     ensures { IfOk result (λ text. text ≡ butterfly_text roles) }
 {
     let mut text = Text::new(alloc);
@@ -124,7 +125,7 @@ fn push_head(text: &mut Text, role: u8) -> Result<(), NoMemory>
 
 /// A round of the ring: each role sends to the next one.
 fn push_ring_round(text: &mut Text, roles: u8) -> Result<(), NoMemory>
-    requires { roles ≤ 16 }
+    requires { roles ≤ MOST_ROLES }
     ensures { OnOk result (text.new ≡ text.old ++ exchanges_text (ring_round roles)) }
 {
     for role in 0..roles {
@@ -134,7 +135,7 @@ fn push_ring_round(text: &mut Text, roles: u8) -> Result<(), NoMemory>
 }
 
 fn push_ring_rounds(text: &mut Text, roles: u8) -> Result<(), NoMemory>
-    requires { (1 ≤ roles) × (roles ≤ 16) }
+    requires { (1 ≤ roles) × (roles ≤ MOST_ROLES) }
     ensures { OnOk result (text.new ≡ text.old ++ exchanges_text (ring_exchanges roles)) }
 {
     for round in 1..roles {
@@ -144,7 +145,7 @@ fn push_ring_rounds(text: &mut Text, roles: u8) -> Result<(), NoMemory>
 }
 
 fn push_ring_acts(text: &mut Text, roles: u8, role: u8) -> Result<(), NoMemory>
-    requires { (role < roles) × (roles ≤ 16) }
+    requires { (role < roles) × (roles ≤ MOST_ROLES) }
     ensures { OnOk result (text.new ≡ text.old ++ pairs_text (ring_pairs roles role)) }
 {
     for round in 1..roles {
@@ -154,7 +155,7 @@ fn push_ring_acts(text: &mut Text, roles: u8, role: u8) -> Result<(), NoMemory>
 }
 
 fn push_ring_machine(text: &mut Text, roles: u8, role: u8) -> Result<(), NoMemory>
-    requires { (role < roles) × (roles ≤ 16) }
+    requires { (role < roles) × (roles ≤ MOST_ROLES) }
     ensures { OnOk result (text.new ≡ text.old ++ ring_line roles role) }
 {
     push_head(text, role)?;
@@ -164,7 +165,7 @@ fn push_ring_machine(text: &mut Text, roles: u8, role: u8) -> Result<(), NoMemor
 
 /// The machines of all roles but the first.
 fn push_ring_machines(text: &mut Text, roles: u8) -> Result<(), NoMemory>
-    requires { (1 ≤ roles) × (roles ≤ 16) }
+    requires { (1 ≤ roles) × (roles ≤ MOST_ROLES) }
     ensures { OnOk result (text.new ≡ text.old ++ flat_map (ring_line roles) (numbers_from 1 (roles - 1))) }
 {
     for role in 1..roles {
@@ -183,7 +184,7 @@ fn is_clear(step: u8, role: u8) -> bool
 /// The role whose number differs in that bit.
 fn partner(step: u8, role: u8) -> u8
     requires step { (1 ≤ step) × (step ≤ 8) }
-    requires role { role < 16 }
+    requires role { role < MOST_ROLES }
     ensures { result ≡ partner step role }
 {
     if is_clear(step, role) {
@@ -196,7 +197,7 @@ fn partner(step: u8, role: u8) -> u8
 /// The exchange of a role whose bit is clear with the other.
 fn push_both_ways(text: &mut Text, step: u8, role: u8) -> Result<(), NoMemory>
     requires step { (1 ≤ step) × (step ≤ 8) }
-    requires role { role < 16 }
+    requires role { role < MOST_ROLES }
     ensures { OnOk result (text.new ≡ text.old ++ exchanges_text (both_ways step role)) }
 {
     if is_clear(step, role) {
@@ -208,7 +209,7 @@ fn push_both_ways(text: &mut Text, step: u8, role: u8) -> Result<(), NoMemory>
 
 /// A round of the butterfly, where there is one of that bit.
 fn push_butterfly_round(text: &mut Text, roles: u8, step: u8) -> Result<(), NoMemory>
-    requires roles { roles ≤ 16 }
+    requires roles { roles ≤ MOST_ROLES }
     requires step { (1 ≤ step) × (step ≤ 8) }
     ensures { OnOk result (text.new ≡ text.old ++ exchanges_text (butterfly_round roles step)) }
 {
@@ -222,7 +223,7 @@ fn push_butterfly_round(text: &mut Text, roles: u8, step: u8) -> Result<(), NoMe
 }
 
 fn push_butterfly_rounds(text: &mut Text, roles: u8) -> Result<(), NoMemory>
-    requires { roles ≤ 16 }
+    requires { roles ≤ MOST_ROLES }
     ensures { OnOk result (text.new ≡ text.old ++ exchanges_text (butterfly_exchanges roles)) }
 {
     push_butterfly_round(text, roles, 1)?;
@@ -232,7 +233,7 @@ fn push_butterfly_rounds(text: &mut Text, roles: u8) -> Result<(), NoMemory>
 }
 
 fn push_butterfly_pair(text: &mut Text, roles: u8, role: u8, step: u8) -> Result<(), NoMemory>
-    requires role { role < 16 }
+    requires role { role < MOST_ROLES }
     requires step { (1 ≤ step) × (step ≤ 8) }
     ensures { OnOk result (text.new ≡ text.old ++ pairs_text (butterfly_pair roles role step)) }
 {
@@ -244,7 +245,7 @@ fn push_butterfly_pair(text: &mut Text, roles: u8, role: u8, step: u8) -> Result
 }
 
 fn push_butterfly_acts(text: &mut Text, roles: u8, role: u8) -> Result<(), NoMemory>
-    requires { role < 16 }
+    requires { role < MOST_ROLES }
     ensures { OnOk result (text.new ≡ text.old ++ pairs_text (butterfly_pairs roles role)) }
 {
     push_butterfly_pair(text, roles, role, 1)?;
@@ -254,7 +255,7 @@ fn push_butterfly_acts(text: &mut Text, roles: u8, role: u8) -> Result<(), NoMem
 }
 
 fn push_butterfly_machine(text: &mut Text, roles: u8, role: u8) -> Result<(), NoMemory>
-    requires { role < 16 }
+    requires { role < MOST_ROLES }
     ensures { OnOk result (text.new ≡ text.old ++ butterfly_line roles role) }
 {
     push_head(text, role)?;
@@ -264,7 +265,7 @@ fn push_butterfly_machine(text: &mut Text, roles: u8, role: u8) -> Result<(), No
 
 /// The machines of all roles but the first.
 fn push_butterfly_machines(text: &mut Text, roles: u8) -> Result<(), NoMemory>
-    requires { (1 ≤ roles) × (roles ≤ 16) }
+    requires { (1 ≤ roles) × (roles ≤ MOST_ROLES) }
     ensures { OnOk result (text.new ≡ text.old ++ flat_map (butterfly_line roles) (numbers_from 1 (roles - 1))) }
 {
     for role in 1..roles {

@@ -89,13 +89,14 @@ pub(crate) struct Reader<'a> {
 
 impl<'a> Model for Reader<'a> {
     ghost use Rattle.std.specs.Prelude.{length, ◌≤◌};
+    ghost use Rattle.rs_model.specs.declared.limits.TheConstants.{MOST_LABELS, MOST_ROLES};
     ghost use Rattle.rs_derivations.specs.Data.{Reader_data};
 
     ghost Value = { Reader_data };
 
     ghost view = { λ r. record { roles = r.roles.now; labels = r.labels.items; role = r.role; bound = r.bound; nodes = r.nodes.items; node = r.node; mode = r.mode } };
 
-    ghost invariant = { λ r. (length r.roles.now ≤ 16) × (length r.labels.items ≤ 256) };
+    ghost invariant = { λ r. (length r.roles.now ≤ MOST_ROLES) × (length r.labels.items ≤ MOST_LABELS) };
 }
 
 fn no_node(alloc: Global) -> DNode
@@ -291,8 +292,8 @@ fn has_no_numbers(numbers: &[u32]) -> bool
 impl<'a> Reader<'a> {
     /// A reader before its first token.
     pub fn new(alloc: Global, roles: &'a [Name], labels: Vec<Name>) -> Reader<'a>
-        requires roles { length roles.now ≤ 16 }
-        requires labels { length labels.items ≤ 256 }
+        requires roles { length roles.now ≤ MOST_ROLES }
+        requires labels { length labels.items ≤ MOST_LABELS }
         ensures { result ≡ spec.begin (record { roles = roles.now; labels = labels.items }) }
     {
         Reader {

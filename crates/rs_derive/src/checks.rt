@@ -1,4 +1,5 @@
 ghost use Rattle.std.specs.Prelude.{◌≡◌, ◌<◌, ◌≤◌, ◌^◌, length, slice_get, None, Some, OnOk, IfErr};
+ghost use Rattle.rs_model.specs.declared.limits.TheConstants.{MOST_BOUND};
 ghost use Rattle.rs_derive.specs.Checks.{starts, derive_fault, node_fault, move_fault, state_fault, length_fault};
 ghost use Rattle.rs_derive.specs.Derivations.{IsProper, IsDerivation, Remembers, spot_of};
 ghost use Rattle.rs_derive.specs.Due.{due, due_at};
@@ -23,7 +24,7 @@ use rs_model::{Arm, Machine, State};
 pub fn check(derivation: &Derivation, sub: &Machine, above: &Machine) -> Result<(), DeriveFault>
     requires sub { IsProper sub.now }
     requires above { IsProper above.now }
-    requires bound { (1 ≤ derivation.now.bound) × (derivation.now.bound ≤ 64) }
+    requires bound { (1 ≤ derivation.now.bound) × (derivation.now.bound ≤ MOST_BOUND) }
     requires nodes { length derivation.now.nodes < 2 ^ 32 }
     ensures derivation { OnOk result (IsDerivation derivation.now sub.now above.now) }
     ensures remembers { OnOk result (Remembers derivation.now sub.now above.now) }

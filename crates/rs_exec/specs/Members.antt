@@ -1,5 +1,6 @@
 -- Steps: the roles in a run on one thread, and what their turns tell.
 use Rattle.std.specs.Prelude.{◌≡◌, ◌≢◌, ℕ, zero, suc, ◌<◌, ◌≤◌, List, [], ◌∷◌, length, map, Some, IsSome, slice_get}
+use Rattle.rs_model.specs.declared.limits.TheConstants.{MOST_ROLES}
 use Rattle.rs_model.specs.Data.{Machine_data}
 use Rattle.rs_core.specs.Actors.{Behaviour}
 use Rattle.rs_core.specs.Choices.{AreWellFormed}
@@ -90,7 +91,7 @@ pub record HasTurned {A : Type 0} (b : Behaviour A) (session : Rings_data) (r : 
 -- there is a member of each role, and each role stands at a state
 pub record AreMembers {A : Type 0} (session : Rings_data) (v : View) (members : List (Member A)) : Type 0 where
   pub many : length members ≡ length session.machines
-  pub few : length session.machines ≤ 16
+  pub few : length session.machines ≤ MOST_ROLES
   pub somewhere : (r : ℕ) → r < length session.machines → IsSomewhere session v r
   pub member : (r : ℕ) (m : Member A) → slice_get members r ≡ Some m → IsMember v r m
 
@@ -117,4 +118,4 @@ pub record IsBegun (session : Rings_data) (all : Pass_data) : Type 0 where
   pub first : all.view ≡ starting session.machines
   pub roomy : 1 ≤ session.capacity
   pub some : 2 ≤ length session.machines
-  pub few : length session.machines ≤ 16
+  pub few : length session.machines ≤ MOST_ROLES

@@ -1,6 +1,7 @@
 //! The run of an accepted session on one thread.
 
 ghost use Rattle.std.specs.Prelude.{◌≡◌, ◌≤◌, length, IfErr, IfOk, ℕ, Some};
+ghost use Rattle.rs_model.specs.Limits.{IsCapacity};
 ghost use Rattle.rs_core.specs.Plain.{Ending, IsPlain};
 ghost use Rattle.rs_core.specs.Runs.{IsGiven, IsShown};
 ghost use Rattle.rs_exec.specs.Inline.{Tells};
@@ -57,7 +58,7 @@ pub fn run_inline<A: Actor>(
     limit: u32,
 ) -> Result<Ran<A>, ExecFault>
     requires actors { length actors.items ≡ length accepted.now.machines }
-    requires capacity { (1 ≤ capacity) × (capacity ≤ 1024) }
+    requires capacity { IsCapacity capacity }
     ensures plain { IfOk result (λ r. (given : ℕ → A) → IsGiven given actors.items → (o : Ending A) × IsPlain accepted.now.machines A.behaviour given limit (Some capacity) o × IsShown (length accepted.now.machines) o r.run.outcome r.run.actors.items) }
     ensures closed { IfOk result (λ r. IsSessionOfRun accepted.now.machines A.behaviour actors.items limit r.closed r.run.outcome r.run.actors.items) }
     ensures full { IfErr result (λ e. (given : ℕ → A) → IsGiven given actors.items → Tells accepted.now.machines A.behaviour given limit capacity e) }

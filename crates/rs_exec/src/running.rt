@@ -1,5 +1,6 @@
 // Runs over a session whose roles are all in one hand.
 ghost use Rattle.std.specs.Prelude.{◌≡◌, ◌≤◌, [], length, map, IfErr, IfOk, OnOk, ℕ, None, Some};
+ghost use Rattle.rs_model.specs.declared.limits.TheConstants.{MOST_ROLES};
 ghost use Rattle.rs_core.specs.Choices.{AreWellFormed};
 ghost use Rattle.rs_core.specs.Kinds.{a_player};
 ghost use Rattle.rs_core.specs.Plain.{Ending, IsPlain};
@@ -96,7 +97,7 @@ fn members_of<A: Actor>(
     actors: Vec<A>,
 ) -> Result<Vec<Member<A>>, NoMemory>
     requires actors { length actors.items ≡ length session.now.machines }
-    requires few { length session.now.machines ≤ 16 }
+    requires few { length session.now.machines ≤ MOST_ROLES }
     ensures players { IfOk result (λ v. players_of v.items ≡ map (λ x. a_player x None []) actors.items) }
     ensures new { IfOk result (λ v. AreNew session.now.machines v.items) }
 {

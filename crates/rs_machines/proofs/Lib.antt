@@ -22,3 +22,4 @@ pub mod ShapeGrown
 pub mod ShapeWhole
 pub mod CanonOlder
 pub mod Spelt
+pub mod LeftLabels

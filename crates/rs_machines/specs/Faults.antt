@@ -1,5 +1,5 @@
 -- Believed: the first fault of a text, and the names that it leaves.
-pub use Rattle.rs_bodies.specs.Faults.{Keeps, LeavesNames, labels_among}
+pub use Rattle.rs_bodies.specs.Faults.{Keeps, LeavesLabels, LeavesNames, LeavesSome, labels_among}
 use Rattle.std.specs.Prelude.{ℕ, List}
 use Rattle.rs_model.specs.Data.{Names_data}
 use Rattle.rs_text.specs.declared.faults.TextKind.{TextKind}

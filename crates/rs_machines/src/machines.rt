@@ -1,7 +1,7 @@
 ghost use Rattle.std.specs.Prelude.{◌≡◌, ◌≤◌, ◌+◌, ◌++◌, length, map, take, IfOk, IfErr, ◌⊎◌};
 ghost use Rattle.rs_text.specs.declared.faults.TextKind.TheVariants as kind;
 ghost use Rattle.rs_text.specs.Sound.{IsSound};
-ghost use Rattle.rs_machines.specs.Faults.{FirstFault, Keeps, LeavesNames};
+ghost use Rattle.rs_machines.specs.Faults.{FirstFault, Keeps, LeavesLabels};
 ghost use Rattle.rs_machines.specs.Machines.{done_of, state_of};
 ghost use Rattle.rs_machines.specs.Parts.{machine_spelt, state_at, state_by};
 ghost use Rattle.rs_machines.specs.Spells.{SpellsMachine};
@@ -19,8 +19,8 @@ use std::alloc::Global;
 /// of text, and nothing else changes there; after a fault the names have the labels before it.
 ///
 /// A fault has the offset of its token: what was wanted instead, an unknown role, a name that is unbound or unguarded,
-/// one too many of nesting, acts or labels, or a faulty token. Refused memory has the offset `at`; then some of the new
-/// labels may be there.
+/// one too many of nesting, acts or labels, or a faulty token. Refused memory has the offset `at`; then the names have
+/// the labels of some first tokens.
 pub fn read_machine(
     alloc: Global,
     bytes: &[u8],
@@ -33,7 +33,7 @@ pub fn read_machine(
     requires labels { length names.old.labels ≤ 256 }
     ensures ok { IfOk result (λ r. SpellsMachine bytes.now at names.old names.new r.0 r.1) }
     ensures err { IfErr result (λ e. (e.kind ≡ kind.NoMemory) ⊎ FirstFault names.old bytes.now at e.kind e.at) }
-    ensures left { IfErr result (λ e. (e.kind ≡ kind.NoMemory) ⊎ LeavesNames names.old names.new bytes.now at e.kind e.at) }
+    ensures left { IfErr result (λ e. LeavesLabels names.old names.new bytes.now at e.kind e.at) }
     ensures sound { IsSound names.new }
     ensures roles { names.new.roles ≡ names.old.roles }
     ensures labels { length names.new.labels ≤ 256 }

@@ -2,3 +2,4 @@ pub mod Faults
 pub mod Order
 pub mod Repeats
 pub mod FirstFailed
+pub mod EmptyValues

@@ -16,7 +16,7 @@ pub use checks::{MachineFault, first_repeat, has_next_from};
 pub use graph::{Arm, Arms, Label, Node, Protocol, Role};
 pub use limits::{
     MOST_ACTS, MOST_ARMS, MOST_BOUND, MOST_BYTES, MOST_CANDIDATES, MOST_CAPACITY, MOST_LABELS,
-    MOST_NAME_BYTES, MOST_NESTING, MOST_NUMBER, MOST_ROLES, MOST_STATES, MOST_TALKS,
+    MOST_NAME_BYTES, MOST_NESTING, MOST_NUMBER, MOST_ROLES, MOST_STATES, MOST_TALKS, MOST_WORKERS,
 };
 pub use machines::{Act, Machine, State};
 pub use memory::NoMemory;

@@ -18,6 +18,9 @@ pub const MOST_ACTS: usize = 256;
 /// The most messages of a ring.
 pub const MOST_CAPACITY: u32 = 1_024;
 
+/// The most workers of a run.
+pub const MOST_WORKERS: u32 = 16;
+
 /// The most bytes of a name.
 pub const MOST_NAME_BYTES: usize = 64;
 

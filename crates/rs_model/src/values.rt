@@ -17,12 +17,27 @@ pub enum Sort {
 
 impl Sort {
     ghost use Rattle.rs_model.specs.Sorts.{serves, sort_number};
+    ghost use Rattle.rs_model.specs.Values.{empty_value};
 
     /// Whether a value of this sort may stand where one of the wanted sort is expected.
     pub fn serves(self, wanted: Sort) -> bool
         ensures { result ≡ serves self wanted }
     {
         self == wanted
+    }
+
+    /// A value of the sort that says nothing: `false`, 0, or an empty list.
+    pub fn empty_value(self, alloc: Global) -> Result<Value, NoMemory>
+        ensures { IfOk result (λ v. v ≡ empty_value self) }
+    {
+        Ok(match self {
+            Sort::Unit => Value::Unit,
+            Sort::Flag => Value::Flag(false),
+            Sort::Natural => Value::Natural(0),
+            Sort::Whole => Value::Whole(0),
+            Sort::Octets => Value::Octets(Octets::of(alloc, &[])?),
+            Sort::Numbers => Value::Numbers(Numbers::of(alloc, &[])?),
+        })
     }
 }
 

@@ -1,6 +1,7 @@
 -- Steps: the rule of the bench: what holds of its words, slots and views between any two steps. It knows of a job two things
 -- only: `Fits`, what the job of a role at home is, and `Over`, what the amount that was counted for it says.
 use Rattle.std.specs.Prelude.{◌≡◌, ◌≢◌, ◌⊎◌, ℕ, zero, suc, ◌+◌, ◌-◌, ◌<◌, ◌≤◌, ◌==◌, max, if◌then◌else◌, List, [], ◌∷◌, ◌++◌, length, sum_by, slice_index, Option, Some, None}
+use Rattle.rs_model.specs.declared.limits.TheConstants.{MOST_ROLES}
 use mathlib.Core.Option.{some, none}
 use mathlib.Core.Option as maybe
 use lib.ListN.{get_elem?}
@@ -78,7 +79,7 @@ pub record Shows {T : Type 0} (Fits : ℕ → T → Type 0) (Over : ℕ → T �
   pub holder : ℕ → Option ℕ
   pub counter : ℕ → ℕ
   pub amount : ℕ → ℕ
-  pub few : n ≤ 16
+  pub few : n ≤ MOST_ROLES
   pub words_are : length s.words ≡ suc n
   pub homes_are : length s.homes ≡ n
   pub held : Held n holder s.views

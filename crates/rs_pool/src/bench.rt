@@ -1,5 +1,6 @@
 // The bench: a table with a word and a slot for each role, and one word more, the word of ends.
 ghost use Rattle.std.specs.Prelude.{◌≡◌, ◌⊎◌, ◌+◌, ◌<◌, ◌≤◌, [], ◌∷◌, true, false, Some, None, IfOk, IfErr, map, replicate, vec_len, vec_capacity};
+ghost use Rattle.rs_model.specs.declared.limits.TheConstants.{MOST_ROLES};
 ghost use Rattle.rs_pool.specs.Calls.{AreSeated, AreCollected, HasClaimed, HasRead, Rests};
 ghost use Rattle.rs_pool.specs.Jobs.{Fits, Over};
 ghost use Rattle.rs_pool.specs.Rule.{IsAmount, alone, amount_in, counting, first_view, freed, joined, kept};
@@ -42,7 +43,7 @@ impl<A: Actor, N: StartName<A>> Bench<A, N> {
         slots: Vec<Option<Job<A>>>,
         workers: u8,
     ) -> Result<(Bench<A, N>, Desk<A>), Vec<Option<Job<A>>>>
-        requires few { vec_len slots ≤ 16 }
+        requires few { vec_len slots ≤ MOST_ROLES }
         requires words { words.now ≡ replicate (vec_len slots + 1) 0 }
         requires begun { AreSeated (Fits A.behaviour N.start) (vec_len slots) slots.items }
         ensures table { IfOk result (λ t. t.1.table_id ≡ t.0.board.shared.table_id) }

@@ -1,5 +1,7 @@
 // The run of a session by workers.
 ghost use Rattle.std.specs.Prelude.{◌≡◌, ◌+◌, ◌≤◌, ℕ, [], IfOk, Some, length, map, replicate, vec_capacity, vec_len};
+ghost use Rattle.rs_model.specs.declared.limits.TheConstants.{MOST_ROLES, MOST_WORKERS};
+ghost use Rattle.rs_model.specs.Limits.{IsCapacity};
 ghost use Rattle.rs_core.specs.Runs.{IsGiven};
 ghost use Rattle.rs_exec.specs.Runs.{IsSessionOfRun};
 ghost use Rattle.rs_pool.specs.Calls.{AreSeated, AreCollected};
@@ -41,7 +43,7 @@ struct Lists<A: Actor> {
 
 impl<A: Actor> Lists<A> {
     fn reserve(alloc: Global, roles: usize, workers: usize) -> Result<Lists<A>, NoMemory>
-        requires { roles ≤ 16 }
+        requires { roles ≤ MOST_ROLES }
         ensures words { IfOk result (λ l. l.words.items ≡ replicate (roles + 1) 0) }
         ensures empty { IfOk result (λ l. (l.chairs.items ≡ []) × (l.transcripts.items ≡ []) × (l.slots.items ≡ []) × (l.ended.items ≡ [])) }
         ensures chairs { IfOk result (λ l. workers ≤ vec_capacity l.chairs) }
@@ -94,7 +96,7 @@ fn drive<R: Threads + Wait + Sync, A: Actor + Send, N: StartName<A> + Send + Syn
     workers: u8,
 ) -> Vec<Job<A>>
     requires session { session.now ≡ N.start.session }
-    requires few { bench.roles ≤ 16 }
+    requires few { bench.roles ≤ MOST_ROLES }
     requires table { main.table_id ≡ bench.board.shared.table_id }
     requires main { (main.me ≡ (first_view (workers + 1), [])) × (bench.board.shared.key.shares ≡ workers + 1) }
     requires workers { 1 ≤ workers }
@@ -130,7 +132,7 @@ fn finish<A: Actor, N: StartName<A>>(
     ended: Vec<Ended>,
 ) -> Result<Ran<A>, NoMemory>
     requires session { session ≡ N.start.session }
-    requires few { length session.machines ≤ 16 }
+    requires few { length session.machines ≤ MOST_ROLES }
     requires collected { AreCollected (Fits A.behaviour N.start) Over (length session.machines) jobs.items }
     requires empty { (parts.stages.items ≡ []) × (parts.actors.items ≡ []) × (parts.transcripts.items ≡ []) × (ended.items ≡ []) }
     requires room { (length session.machines ≤ vec_capacity parts.stages) × (length session.machines ≤ vec_capacity parts.actors) × (length session.machines ≤ vec_capacity parts.transcripts) × (length session.machines ≤ vec_capacity ended) }
@@ -201,7 +203,7 @@ fn run_as<R: Threads + Wait + Sync, A: Actor + Send, N: StartName<A> + Send + Sy
     gate: &G,
 ) -> Result<Ran<A>, NoMemory>
     requires start { N.start ≡ record { session = session; limit = made.limit; given = actors_of made.jobs.items } }
-    requires few { length session.machines ≤ 16 }
+    requires few { length session.machines ≤ MOST_ROLES }
     requires workers { 1 ≤ workers }
     requires count { length made.jobs.items ≡ length session.machines }
     requires begun { AreSeated (Fits A.behaviour N.start) (length session.machines) (map Some made.jobs.items) }
@@ -260,7 +262,7 @@ fn play<R: Threads + Wait + Sync, A: Actor + Send, G: Gate + Sync>(
     gate: &G,
 ) -> Result<Ran<A>, NoMemory>
     requires first { AreFirst session stages.items }
-    requires few { length session.machines ≤ 16 }
+    requires few { length session.machines ≤ MOST_ROLES }
     requires actors { length actors.items ≡ length session.machines }
     requires workers { 1 ≤ workers }
     requires words { lists.words.items ≡ replicate (length session.machines + 1) 0 }
@@ -299,9 +301,9 @@ pub fn run_pool<R: Threads + Wait + Sync, A: Actor + Send, G: Gate + Sync>(
     gate: &G,
 ) -> Result<Ran<A>, NoMemory>
     requires actors { length actors.items ≡ length accepted.now.machines }
-    requires capacity { (1 ≤ capacity) × (capacity ≤ 1024) }
+    requires capacity { IsCapacity capacity }
     requires room { room_of accepted.now.derivations ≤ capacity }
-    requires workers { (1 ≤ workers) × (workers ≤ 16) }
+    requires workers { (1 ≤ workers) × (workers ≤ MOST_WORKERS) }
     ensures plain { IfOk result (λ ran. (given : ℕ → A) → IsGiven given actors.items → AgreesWithPlain accepted.now.machines A.behaviour given limit ran.run.outcome ran.run.actors.items) }
     ensures session { IfOk result (λ ran. IsSessionOfRun accepted.now.machines A.behaviour actors.items limit ran.closed ran.run.outcome ran.run.actors.items) }
 {

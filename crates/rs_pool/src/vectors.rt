@@ -1,5 +1,6 @@
 // Lists of stages, jobs and slots. What they hold must be spent.
 ghost use Rattle.std.specs.Prelude.{◌≡◌, ◌+◌, ◌<◌, ◌≤◌, ◌++◌, ◌∷◌, [], All, IfErr, IfOk, Some, length, map, reverse, vec_capacity, vec_len};
+ghost use Rattle.rs_model.specs.declared.limits.TheConstants.{MOST_ROLES};
 ghost use Rattle.rs_exec.specs.Tasks.{HasEnded};
 ghost use Rattle.rs_pool.specs.Jobs.{HasDoneNothing, IsNew, actors_of, first_with, HasItsTranscript, stages_of, transcripts_of};
 ghost use Rattle.rs_session.specs.Stages.{shown};
@@ -176,7 +177,7 @@ pub(crate) fn ended_of(mut stages: Vec<Stage>, mut ended: Vec<Ended>) -> Vec<End
 
 /// The number of the first job with that progress.
 pub(crate) fn first_with<A: Actor>(jobs: &[Job<A>], progress: Progress) -> Option<u8>
-    requires few { length jobs.now ≤ 16 }
+    requires few { length jobs.now ≤ MOST_ROLES }
     ensures { result ≡ first_with progress 0 jobs.now }
 {
     let mut number = 0;

@@ -21,18 +21,19 @@ use Rattle.rs_project.proofs.Lists.{contained, contains, at-among, at-short, amo
 use Rattle.rs_project.proofs.Meetings.{meets-some}
 
 -- each number is below those behind it
-abbrev Rises : List ℕ → Type 0
+abbrev pub Rises : List ℕ → Type 0
 Rises [] = Unit {0}
 Rises (x ∷ xs) = ((y : ℕ) → Among xs y → x < y) × Rises xs
 
-rises : (xs : List ℕ) → AllPairs (λ (n m : ℕ). n < m) xs → Rises xs
+pub rises : (xs : List ℕ) → AllPairs (λ (n m : ℕ). n < m) xs → Rises xs
 rises [] all = tt
 rises (x ∷ xs) all = (
   (λ y m. (let at = contains xs y m in let P : ℕ → Type 0 = λ z. x < z in subst P at.2 (all 0 (suc at.0) y (omega arith) (omega (arith, at.1))))),
   rises xs (λ i j d lt h. all (suc i) (suc j) d (omega (arith, lt)) (omega (arith, h))),
 )
 
-same-list : (xs ys : List ℕ) → Rises xs → Rises ys → ((h : ℕ) → Among xs h → Among ys h) → ((h : ℕ) → Among ys h → Among xs h) → xs ≡ ys
+-- rising lists with the same members are the same
+pub same-list : (xs ys : List ℕ) → Rises xs → Rises ys → ((h : ℕ) → Among xs h → Among ys h) → ((h : ℕ) → Among ys h → Among xs h) → xs ≡ ys
 same-list [] [] r q f g = refl
 same-list [] (y ∷ ys) r q f g = absurd (g y (inl refl))
 same-list (x ∷ xs) [] r q f g = absurd (f x (inl refl))

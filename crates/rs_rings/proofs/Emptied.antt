@@ -5,6 +5,7 @@ use mathlib.Core.Option.{some}
 use native.Mathlib.Decide.{ℕ_discrete, dec_le}
 use mathlib.Core.Logic.{dite}
 use lib.ListN.{get_elem?}
+use Rattle.rs_model.specs.declared.limits.TheConstants.{MOST_CAPACITY}
 use Rattle.rs_slots.specs.declared.parcels.Parcel.{Parcel}
 use Rattle.rs_rings.specs.Closed.{loose_from, sender_of, receiver_of}
 use Rattle.rs_rings.specs.Emptied.{content_of, found_one, found, Emptied, RingHolds}
@@ -135,7 +136,7 @@ base_next i cap = let e : i + 1 ≡ suc i = omega arith in ap (λ (z : ℕ). z *
 pub rings_small : (n : ℕ) → n ≤ 16 → ring_count n ≤ 240
 rings_small n l = let a : n * (n - 1) ≤ 16 * (n - 1) = mul-le-mul_right (n - 1) l in let m : ℕ = n * (n - 1) in let a' : m ≤ 16 * (n - 1) = a in let g : m ≤ 240 = omega arith in g
 
-pub base_small : (i n cap : ℕ) → i < ring_count n → n ≤ 16 → cap ≤ 1024 → i * cap < 4294967296
+pub base_small : (i n cap : ℕ) → i < ring_count n → n ≤ 16 → cap ≤ MOST_CAPACITY → i * cap < 4294967296
 base_small i n cap l s c = let r = rings_small n s in let i' : i ≤ 240 = omega arith in let a : i * cap ≤ 240 * cap = mul-le-mul_right cap i' in let b : ℕ = i * cap in let a' : b ≤ 240 * cap = a in let g : b < 4294967296 = omega arith in g
 
 -- one ring's slots more

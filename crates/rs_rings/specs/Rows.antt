@@ -1,6 +1,7 @@
 -- Steps: what a pass keeps at run time.
 use Rattle.std.specs.Prelude.{◌≡◌, ℕ, ◌<◌, true, List, [], length, Option, Some, None, slice_get, slice_index_or, slice_set, replicate}
 use Rattle.std.specs.Global.{Box}
+use Rattle.rs_model.specs.declared.limits.TheConstants.{MOST_ROLES}
 use Rattle.atomic_table.specs.Table.{Me}
 use Rattle.rs_model.specs.Data.{Machine_data}
 use Rattle.rs_slots.specs.declared.parcels.Parcel.{Parcel}
@@ -32,7 +33,7 @@ with_got_count p got next (Some r) = Some (record { state = next; sent = r.sent;
 
 -- the row of a role at the start
 abbrev pub new_row : ℕ → Row
-new_row state = record { state = state; sent = replicate 16 0; got = replicate 16 0 }
+new_row state = record { state = state; sent = replicate MOST_ROLES 0; got = replicate MOST_ROLES 0 }
 
 -- .. where it has that machine
 abbrev pub row_at_start : Option Machine_data → Option Row
@@ -47,14 +48,14 @@ either_row (Some r) other = Some r
 -- the row has the role's state, and how many parcels the role has sent to each other role and got from it
 pub record RowShows (row : Row) (a : Part) : Type 0 where
   pub state : row.state ≡ a.state
-  pub sent : (q : ℕ) → q < 16 → slice_get row.sent q ≡ Some (length (parcels_sent q a.history))
-  pub got : (p : ℕ) → p < 16 → slice_get row.got p ≡ Some (length (parcels_got p a.history))
+  pub sent : (q : ℕ) → q < MOST_ROLES → slice_get row.sent q ≡ Some (length (parcels_sent q a.history))
+  pub got : (p : ℕ) → p < MOST_ROLES → slice_get row.got p ≡ Some (length (parcels_got p a.history))
 
 -- between calls a seat holds no slot, each role that it speaks for is in no middle and has a row, and there are no other
 -- rows
 pub record IsBetweenCalls (m : Me (Option Parcel) View) (items : List (Option (Box Row))) : Type 0 where
   pub empty : m.1 ≡ []
-  pub few : (r : ℕ) → speaks r m.0.parts ≡ true → r < 16
+  pub few : (r : ℕ) → speaks r m.0.parts ≡ true → r < MOST_ROLES
   pub idle : (r : ℕ) → speaks r m.0.parts ≡ true → (the_part r m.0.parts).middle ≡ Idle
   pub rows : (r : ℕ) → speaks r m.0.parts ≡ true → (row : Row) × (row_at items r ≡ Some row) × RowShows row (the_part r m.0.parts)
-  pub only : (r : ℕ) → r < 16 → (row : Row) → row_at items r ≡ Some row → speaks r m.0.parts ≡ true
+  pub only : (r : ℕ) → r < MOST_ROLES → (row : Row) → row_at items r ≡ Some row → speaks r m.0.parts ≡ true

@@ -1,5 +1,7 @@
 // What the slots of a closed table hold is taken out.
 ghost use Rattle.std.specs.Prelude.{◌≡◌, ◌⊎◌, ℕ, ◌+◌, ◌-◌, ◌*◌, ◌^◌, ◌<◌, ◌≤◌, List, [], ◌++◌, true, false, length, map, slice_get, slice_index_or, vec_len, vec_capacity};
+ghost use Rattle.rs_model.specs.declared.limits.TheConstants.{MOST_ROLES};
+ghost use Rattle.rs_model.specs.Limits.{IsCapacity};
 ghost use Rattle.std.specs.Mem.Slots.{slots_items, slots_filled, slots_len};
 ghost use Rattle.std.specs.Mem.Slots.Ownership.{Filled};
 ghost use Rattle.rs_slots.specs.Places.{ring_count, slot_of};
@@ -97,7 +99,7 @@ fn empty_ring(
 
 /// The sender and the receiver of a ring, by its number.
 fn ends_of(roles: usize, ring: usize) -> (Role, Role)
-    requires roles { (2 ≤ roles) × (roles ≤ 16) }
+    requires roles { (2 ≤ roles) × (roles ≤ MOST_ROLES) }
     requires there { ring < ring_count roles }
     ensures { (result.0.0 ≡ sender_of roles ring) × (result.1.0 ≡ receiver_of roles ring) }
 {
@@ -117,8 +119,8 @@ pub fn empty_all(
     rows: &Rows,
     loose: &mut Vec<Loose>,
 )
-    requires roles { (2 ≤ roles) × (roles ≤ 16) }
-    requires roomy { (1 ≤ capacity) × (capacity ≤ 1024) }
+    requires roles { (2 ≤ roles) × (roles ≤ MOST_ROLES) }
+    requires roomy { IsCapacity capacity }
     requires slots { slots_len closed.old.slots ≡ ring_count roles * capacity }
     requires full { Filled (slots_filled closed.old.slots) 0 (ring_count roles * capacity) }
     requires room { vec_len loose.old + ring_count roles * capacity ≤ vec_capacity loose.old }

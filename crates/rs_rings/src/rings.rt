@@ -1,4 +1,6 @@
 ghost use Rattle.std.specs.Prelude.{◌≡◌, ◌<◌, ◌≤◌, ◌^◌, ◌*◌, [], vec_capacity, ℕ, Some, length, slice_get, IfOk};
+ghost use Rattle.rs_model.specs.declared.limits.TheConstants.{MOST_ROLES};
+ghost use Rattle.rs_model.specs.Limits.{IsCapacity};
 ghost use Rattle.rs_core.specs.Choices.{AreWellFormed};
 ghost use Rattle.rs_core.specs.Configurations.{state_of};
 ghost use Rattle.rs_core.specs.Safety.{IsSafe};
@@ -46,8 +48,8 @@ impl Rings {
         machines: &[Machine],
         capacity: u16,
     ) -> Result<(Rings, Pass), NoMemory>
-        requires roles { (2 ≤ length machines.now) × (length machines.now ≤ 16) }
-        requires capacity { (1 ≤ capacity) × (capacity ≤ 1024) }
+        requires roles { (2 ≤ length machines.now) × (length machines.now ≤ MOST_ROLES) }
+        requires capacity { IsCapacity capacity }
         requires safe { IsSafe machines.now }
         requires well_formed { AreWellFormed machines.now }
         ensures rings { IfOk result (λ t. (t.0.roles ≡ length machines.now) × (t.0.capacity ≡ capacity) × (t.0.machines ≡ machines.now)) }

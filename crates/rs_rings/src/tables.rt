@@ -1,5 +1,7 @@
 // The table and its steps. What a call has to know of its roles without a load, their states and counts, the caller keeps.
 ghost use Rattle.std.specs.Prelude.{◌≡◌, ℕ, ◌+◌, ◌*◌, ◌<◌, ◌≤◌, List, [], ◌∷◌, slice_get, vec_len, vec_capacity, IsSome, IfSome, IfOk, true, length, ◌^◌, ◌≢◌, Some, None};
+ghost use Rattle.rs_model.specs.declared.limits.TheConstants.{MOST_ROLES};
+ghost use Rattle.rs_model.specs.Limits.{IsCapacity};
 ghost use Rattle.rs_core.specs.Choices.{AreWellFormed};
 ghost use Rattle.rs_core.specs.Configurations.{state_of};
 ghost use Rattle.rs_core.specs.Core.{arm_with};
@@ -56,8 +58,8 @@ impl RingTable {
         machines: Vec<Machine>,
         capacity: u16,
     ) -> Result<(RingTable, RingSeat), NoMemory>
-        requires roles { (2 ≤ vec_len machines) × (vec_len machines ≤ 16) }
-        requires capacity { (1 ≤ capacity) × (capacity ≤ 1024) }
+        requires roles { (2 ≤ vec_len machines) × (vec_len machines ≤ MOST_ROLES) }
+        requires capacity { IsCapacity capacity }
         requires safe { IsSafe machines.items }
         requires well_formed { AreWellFormed machines.items }
         ensures table { IfOk result (λ t. t.1.table_id ≡ t.0.board.shared.table_id) }

@@ -1,5 +1,6 @@
 -- Believed: a session over rings as `Bounded` keeps it, and what is told of its steps.
 use Rattle.std.specs.Prelude.{◌≡◌, ◌≢◌, ◌⊎◌, ℕ, suc, ◌+◌, ◌<◌, ◌≤◌, List, [], Some, None, slice_index_or, length}
+use Rattle.rs_model.specs.Limits.{IsCapacity}
 use Rattle.rs_model.specs.Data.{Machine_data}
 use Rattle.rs_model.specs.declared.graph.Arm.{Arm}
 use Rattle.rs_model.specs.declared.graph.Role.{Role}
@@ -42,7 +43,7 @@ pub record IsRingSession (b : Bounded_data) : Type 0 where
   pub accepted : IsAcceptedSession session
   pub machines : b.core.machines ≡ session.machines
   pub room : b.room ≡ room_of session.derivations
-  pub capacity : (1 ≤ b.capacity) × (b.capacity ≤ 1024)
+  pub capacity : IsCapacity b.capacity
   pub reachable : IsReachableWithin b.core.machines b.capacity (configuration_of b.core)
   pub within : (p q : ℕ) → length ((configuration_of b.core).queue p q) ≤ b.capacity
   pub rows : length b.taken ≡ length b.core.machines

@@ -1,4 +1,5 @@
 ghost use Rattle.std.specs.Prelude.{◌≡◌, ◌<◌, ◌≤◌, ◌^◌, ◌⊎◌, ℕ, List, Option, Some, None, length, slice_get, slice_index_or, IfOk, IfErr, IfSome, IfNone, OnErr, OnOk, MatchOption, [], suc};
+ghost use Rattle.rs_model.specs.Limits.{IsCapacity};
 ghost use Rattle.rs_core.specs.Configurations.{StartsAt, role_of, state_at};
 ghost use Rattle.rs_core.specs.Core.{configuration_of};
 ghost use Rattle.rs_core.specs.Safety.{AllEnded};
@@ -70,7 +71,7 @@ impl Model for Bounded {
 impl Bounded {
     /// The session at its start, over rings of that capacity. The one error is that memory was refused.
     pub fn begin(alloc: Global, accepted: &Accepted, capacity: u16) -> Result<Bounded, NoMemory>
-        requires capacity { (1 ≤ capacity) × (capacity ≤ 1024) }
+        requires capacity { IsCapacity capacity }
         ensures machines { IfOk result (λ b. b.core.machines ≡ accepted.now.machines) }
         ensures starts { IfOk result (λ b. StartsAt accepted.now.machines (configuration_of b.core)) }
         ensures capacity { IfOk result (λ b. b.capacity ≡ capacity) }

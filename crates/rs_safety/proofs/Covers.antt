@@ -16,6 +16,7 @@ use Rattle.rs_wellformed.specs.Faults.{Talks}
 use Rattle.rs_project.specs.Data.{Projection_data}
 use Rattle.rs_project.specs.Graph.{LeadsTo, Involves, IsIdle, MeetsFirst, MeetsTheEnd}
 use Rattle.rs_project.specs.Projection.{IsSet, Choice, choice_of, choices_of, HaveSameChoices, HaveSameSorts, Agree, BothSend, BothReceive, first_choices, merged_choices, MeetsBehind, EndsBehind, IsStateOf, IsDone, IsPuts, IsTakes, IsProjection}
+pub use Rattle.rs_project.proofs.Choices.{Labelled, arm-choice, has_label, member_choices, merged-label, same-label}
 use Rattle.rs_safety.proofs.Members.{Among, contained, contains, among-left, among-right, among-split, no-member}
 use Rattle.rs_safety.proofs.Walks.{step_of, involves-sender, involves-receiver}
 
@@ -115,22 +116,6 @@ choice-arm [] c h = absurd h
 choice-arm (a ∷ arms) c (inl e) = (0, a, refl, e)
 choice-arm (a ∷ arms) c (inr h) = let r = choice-arm arms c h in (suc r.0, r.1, r.2, r.3)
 
-pub arm-choice : (arms : List Arm) (k : ℕ) (arm : Arm) → slice_get arms k ≡ Some arm → Among (map choice_of arms) (choice_of arm)
-arm-choice [] k arm h = absurd (cc (h))
-arm-choice (a ∷ arms) zero arm h = let e : a ≡ arm = cc (h) in inl (ap choice_of e)
-arm-choice (a ∷ arms) (suc k) arm h = inr (arm-choice arms k arm h)
-
--- whether the label stands at one of the choices
-abbrev pub has_label : Label → List Choice → Bool
-has_label l cs = list_any (λ b. b.label.0 == l.0) cs
-
-pub label-last : (l : Label) (cs : List Choice) (c : Choice) → has_label l (cs ++ (c ∷ [])) ≡ (has_label l cs || (c.label.0 == l.0))
-label-last l cs c = list_any-append (λ b. b.label.0 == l.0) cs (c ∷ []) ∙ ap (λ (z : Bool). has_label l cs || z) (or-false (c.label.0 == l.0))
-  where
-    or-false : (b : Bool) → (b || false) ≡ b
-    or-false true = refl
-    or-false false = refl
-
 -- the first choices are choices
 pub first-from : (cs earlier : List Choice) (c : Choice) → Among (first_choices cs earlier) c → Among cs c
 first-from [] earlier c h = h
@@ -143,45 +128,6 @@ first-from (a ∷ later) earlier c h = go (has_label a.label earlier) (first-fro
     go false skip keep (inl e) = inl e
     go false skip keep (inr h') = inr (keep h')
 
--- a choice with the label
-abbrev pub Labelled : Label → List Choice → Type 0
-Labelled l cs = (d : Choice) × Among cs d × (d.label ≡ l)
-
-pub same-label : (x y : Label) → x.0 ≡ y.0 → x ≡ y
-same-label x y e = ap (λ (z : ℕ). record { 0 = z }) e
-
--- each label stands at a first choice, or stood earlier
-first-label : (cs earlier : List Choice) (c : Choice) → Among cs c
-    → (has_label c.label earlier ≡ true) ⊎ Labelled c.label (first_choices cs earlier)
-first-label [] earlier c h = absurd h
-first-label (a ∷ later) earlier c h = go (has_label a.label earlier) refl h (first-label later earlier c) (first-label later (earlier ++ (a ∷ [])) c)
-  where
-    kept : (has_label c.label (earlier ++ (a ∷ [])) ≡ true) ⊎ Labelled c.label (first_choices later (earlier ++ (a ∷ [])))
-        → (has_label c.label earlier ≡ true) ⊎ Labelled c.label (a ∷ first_choices later (earlier ++ (a ∷ [])))
-    kept (inr d) = inr (d.0, inr d.1, d.2)
-    kept (inl t) = elim (eqb_tells a.label.0 c.label.0) [
-      | inl u ↦ inr (a, inl refl, same-label a.label c.label u.1)
-      | inr u ↦ inl (drop-last (has_label c.label earlier) (sym (label-last c.label earlier a) ∙ t) u.0)
-    ]
-      where
-        drop-last : (b : Bool) → (b || (a.label.0 == c.label.0)) ≡ true → (a.label.0 == c.label.0) ≡ false → b ≡ true
-        drop-last true e f = refl
-        drop-last false e f = absurd (cc (e, f))
-
-    go : (b : Bool) → has_label a.label earlier ≡ b → Among (a ∷ later) c
-        → (Among later c → (has_label c.label earlier ≡ true) ⊎ Labelled c.label (first_choices later earlier))
-        → (Among later c → (has_label c.label (earlier ++ (a ∷ [])) ≡ true) ⊎ Labelled c.label (first_choices later (earlier ++ (a ∷ []))))
-        → (has_label c.label earlier ≡ true)
-        ⊎ Labelled c.label (if b then first_choices later earlier else a ∷ first_choices later (earlier ++ (a ∷ [])))
-    go true e (inl s) skip keep = let P : Choice → Type 0 = λ z. has_label z.label earlier ≡ true in inl (subst P s e)
-    go true e (inr h') skip keep = skip h'
-    go false e (inl s) skip keep = inr (a, inl refl, ap (λ (z : Choice). z.label) s)
-    go false e (inr h') skip keep = kept (keep h')
-
--- the choices of a member
-abbrev pub member_choices : Protocol_data → ℕ → List Choice
-member_choices pr n = choices_of (slice_get pr.nodes n)
-
 flat-from : (pr : Protocol_data) (members : List ℕ) (c : Choice) → Among (flat_map (λ n. choices_of (slice_get pr.nodes n)) members) c
     → (h : ℕ) × Among members h × Among (member_choices pr h) c
 flat-from pr [] c h = absurd h
@@ -190,30 +136,12 @@ flat-from pr (m ∷ ms) c h = elim (among-split (member_choices pr m) (flat_map 
   | inr b ↦ (let r = flat-from pr ms c b in (r.0, inr r.1, r.2))
 ]
 
-flat-has : (pr : Protocol_data) (members : List ℕ) (h : ℕ) (c : Choice) → Among members h → Among (member_choices pr h) c
-    → Among (flat_map (λ n. choices_of (slice_get pr.nodes n)) members) c
-flat-has pr [] h c m a = absurd m
-flat-has pr (x ∷ xs) h c (inl e) a =
-    let P : ℕ → Type 0 = λ z. Among (member_choices pr z) c in
-    among-left (member_choices pr x) (flat_map (λ n. choices_of (slice_get pr.nodes n)) xs) c (subst P (sym e) a)
-flat-has pr (x ∷ xs) h c (inr m) a =
-    among-right (member_choices pr x) (flat_map (λ n. choices_of (slice_get pr.nodes n)) xs) c (flat-has pr xs h c m a)
-
 -- what is merged comes from a member
 pub merged-from : (pr : Protocol_data) (members : List ℕ) (c : Choice) → Among (merged_choices pr members) c
     → (h : ℕ) × Contains members h × Among (member_choices pr h) c
 merged-from pr members c h =
     let r = flat-from pr members c (first-from (flat_map (λ n. choices_of (slice_get pr.nodes n)) members) [] c h) in
     (r.0, contains members r.0 r.1, r.2)
-
--- each label of a member is merged
-pub merged-label : (pr : Protocol_data) (members : List ℕ) (h : ℕ) (c : Choice) → Contains members h
-    → Among (member_choices pr h) c → Labelled c.label (merged_choices pr members)
-merged-label pr members h c m a =
-    elim (first-label (flat_map (λ n. choices_of (slice_get pr.nodes n)) members) [] c (flat-has pr members h c (contained members h m) a)) [
-      | inl e ↦ absurd (cc (e))
-      | inr d ↦ d
-    ]
 
 -- a covered send of p: the state puts to its receiver, with arms that the talk has
 pub record PutsAt (pr : Protocol_data) (p : Role) (pj : Projection_data) (t : ℕ) (y : Role) (theirs : List Arm) : Type 0 where

@@ -42,7 +42,7 @@ abbrev pub derivation_of : List Derivation_data → ℕ → Derivation_data
 derivation_of ds p = get_or ds p no-derivation
 
 -- the derivation of role p
-derived-at : (pr : Protocol_data) (pjs : List Projection_data) (ms : List Machine_data) (ds : List Derivation_data)
+pub derived-at : (pr : Protocol_data) (pjs : List Projection_data) (ms : List Machine_data) (ds : List Derivation_data)
     → IsDerivedSession pr pjs ms ds → (p : ℕ) → p < length ms
     → IsDerivation (derivation_of ds p) (machine_of ms p) (projection_of pjs p).machine
     × Remembers (derivation_of ds p) (machine_of ms p) (projection_of pjs p).machine
@@ -53,18 +53,18 @@ derived-at pr pjs ms ds s p hp =
     s.derived'.is p (machine_of ms p) (projection_of pjs p) (derivation_of ds p) hm hj hd
 
 -- no derivation's bound is above their sum
-sum_of_bounds : List Derivation_data → ℕ
+pub sum_of_bounds : List Derivation_data → ℕ
 sum_of_bounds [] = 0
 sum_of_bounds (d ∷ ds) = d.bound + sum_of_bounds ds
 
-at-most : (ds : List Derivation_data) (p : ℕ) (d : Derivation_data) → slice_get ds p ≡ Some d → d.bound ≤ sum_of_bounds ds
+pub at-most : (ds : List Derivation_data) (p : ℕ) (d : Derivation_data) → slice_get ds p ≡ Some d → d.bound ≤ sum_of_bounds ds
 unfolding sum_of_bounds
 at-most [] p d h = absurd (none-some d h)
 at-most (x ∷ ds) zero d h = let e : x.bound ≡ d.bound = cc (h) in omega arith
 at-most (x ∷ ds) (suc p) d h = let k = at-most ds p d h in omega arith
 
 -- who follows within a bound follows within a greater one
-unfoldable widen : (m a : Machine_data) (f : ℕ → ℕ) (b c : ℕ) → b ≤ c → Follower m a f b → Follower m a f c
+unfoldable pub widen : (m a : Machine_data) (f : ℕ → ℕ) (b c : ℕ) → b ≤ c → Follower m a f b → Follower m a f c
 widen m a f b c h fl = record {
   F = fl.F;
   start = fl.start;
@@ -75,7 +75,7 @@ widen m a f b c h fl = record {
   short = λ eaten done owed t w. (let k : length owed ≤ b = fl.short eaten done owed t w in omega arith);
 }
 
-unfoldable parts : (pr : Protocol_data) (pjs : List Projection_data) (ms : List Machine_data) (ds : List Derivation_data)
+unfoldable pub parts : (pr : Protocol_data) (pjs : List Projection_data) (ms : List Machine_data) (ds : List Derivation_data)
     → IsDerivedSession pr pjs ms ds → (f : ℕ → ℕ → ℕ) → Parts pr ms f (sum_of_bounds ds)
 parts pr pjs ms ds s f = record {
   fits = s.fits;

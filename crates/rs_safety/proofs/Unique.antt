@@ -15,40 +15,7 @@ use Rattle.rs_safety.specs.Alike.{StandAlike, LeadAlike, ActAlike, BothDone, Bot
 use Rattle.rs_safety.proofs.Members.{Among, contained, contains}
 use Rattle.rs_safety.proofs.Covers.{stood}
 use Rattle.rs_project.proofs.Machines.{a-member}
-
--- each number is below those behind it
-abbrev Rises : List ℕ → Type 0
-Rises [] = Unit {0}
-Rises (x ∷ xs) = ((y : ℕ) → Among xs y → x < y) × Rises xs
-
-rises : (xs : List ℕ) → AllPairs (λ (n m : ℕ). n < m) xs → Rises xs
-rises [] all = tt
-rises (x ∷ xs) all = (
-  (λ y m. (let at = contains xs y m in let P : ℕ → Type 0 = λ z. x < z in subst P at.2 (all 0 (suc at.0) y (omega arith) (omega (arith, at.1))))),
-  rises xs (λ i j d lt h. all (suc i) (suc j) d (omega (arith, lt)) (omega (arith, h))),
-)
-
--- rising lists with the same members are the same
-same-list : (xs ys : List ℕ) → Rises xs → Rises ys → ((h : ℕ) → Among xs h → Among ys h) → ((h : ℕ) → Among ys h → Among xs h) → xs ≡ ys
-same-list [] [] r q f g = refl
-same-list [] (y ∷ ys) r q f g = absurd (g y (inl refl))
-same-list (x ∷ xs) [] r q f g = absurd (f x (inl refl))
-same-list (x ∷ xs) (y ∷ ys) r q f g = ap₂ (λ (u : ℕ) (us : List ℕ). u ∷ us) head (same-list xs ys r.1 q.1 forth back)
-  where
-    head : x ≡ y
-    head = elim (f x (inl refl)) [
-      | inl e ↦ sym e
-      | inr m ↦ elim (g y (inl refl)) [
-        | inl e ↦ e
-        | inr n ↦ (let a = q.0 x m in let b = r.0 y n in absurd (omega (arith, a, b)))
-      ]
-    ]
-
-    forth : (h : ℕ) → Among xs h → Among ys h
-    forth h m = elim (f h (inr m)) [ inl e ↦ (let a = r.0 h m in let s = head in absurd (omega (arith, a, e, s))) | inr n ↦ n ]
-
-    back : (h : ℕ) → Among ys h → Among xs h
-    back h m = elim (g h (inr m)) [ inl e ↦ (let a = q.0 h m in let s = head in absurd (omega (arith, a, e, s))) | inr n ↦ n ]
+use Rattle.rs_project.proofs.Numbers.{rises, same-list}
 
 set-same : (ss ts : List (List ℕ)) (s t : ℕ) (M N : ℕ → Type 0) (E D : Type 0) → (a : IsSet ss s M E) → (b : IsSet ts t N D)
     → ((h : ℕ) → M h → N h) → ((h : ℕ) → N h → M h) → a.members ≡ b.members

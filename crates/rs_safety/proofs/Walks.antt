@@ -5,9 +5,7 @@ use Rattle.rs_model.specs.declared.graph.Arm.{Arm}
 use Rattle.rs_model.specs.declared.graph.Role.{Role}
 use Rattle.rs_wellformed.specs.Faults.{Talks}
 use Rattle.rs_project.specs.Graph.{PathStep, LeadsTo, IsPath, IsReachedFrom, Involves, IsIdle, PassesBy, AllPassBy}
-
-abbrev pub step_of : ℕ → ℕ → PathStep
-step_of g a = record { node = g; place = a }
+pub use Rattle.rs_project.proofs.Spread.{path-snoc, step_of}
 
 -- the role of that number
 abbrev pub numbered : ℕ → Role
@@ -18,12 +16,6 @@ same-role x y e = ap numbered e
 
 pub other-number : (x y : Role) → x ≢ y → x.0 ≢ y.0
 other-number x y n e = n (same-role x y e)
-
--- one step more
-pub path-snoc : (pr : Protocol_data) (ss : List PathStep) (g h a k : ℕ) → IsPath pr g ss h → LeadsTo pr h a k
-    → IsPath pr g (ss ++ (step_of h a ∷ [])) k
-path-snoc pr [] g h a k p goes = let P : ℕ → Type 0 = λ z. LeadsTo pr z a k in (k, sym p, subst P (sym p) goes, refl)
-path-snoc pr (s ∷ ss) g h a k p goes = (p.0, p.1, p.2, path-snoc pr ss p.0 h a k p.3 goes)
 
 pub reach-on : (pr : Protocol_data) (g h a k : ℕ) → IsReachedFrom pr g h → LeadsTo pr h a k → IsReachedFrom pr g k
 reach-on pr g h a k r goes = (r.0 ++ (step_of h a ∷ []), path-snoc pr r.0 g h a k r.1 goes)

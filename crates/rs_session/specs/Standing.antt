@@ -1,5 +1,6 @@
 -- Steps: what is behind a stage at run time, and what its steps on rings tell.
 use Rattle.std.specs.Prelude.{◌≡◌, ℕ, ◌<◌, ◌≤◌, List, length, Some, slice_get}
+use Rattle.rs_model.specs.declared.limits.TheConstants.{MOST_ROLES}
 use Rattle.rs_model.specs.Sorts.{HasSort}
 use Rattle.rs_model.specs.declared.graph.Arm.{Arm}
 use Rattle.rs_model.specs.declared.graph.Role.{Role}
@@ -57,7 +58,7 @@ FoundTells rings p arms old new (Nothing seen) = FindsEmpty p seen old new
 pub record IsWhole (rings : Rings_data) : Type 0 where
   pub roles : rings.roles ≡ length rings.machines
   pub some : 2 ≤ length rings.machines
-  pub few : length rings.machines ≤ 16
+  pub few : length rings.machines ≤ MOST_ROLES
   pub well_formed : AreWellFormed rings.machines
 
 -- the pass speaks for the roles from number k on, each of which has done nothing

@@ -1,5 +1,6 @@
 // Sessions whose roles are all in one hand.
-ghost use Rattle.std.specs.Prelude.{◌≡◌, ◌≤◌, ◌<◌, ◌^◌, ℕ, IfOk, OnOk, Some, length, slice_get};
+ghost use Rattle.std.specs.Prelude.{◌≡◌, ◌<◌, ◌^◌, ℕ, IfOk, OnOk, Some, length, slice_get};
+ghost use Rattle.rs_model.specs.Limits.{IsCapacity};
 ghost use Rattle.rs_core.specs.Configurations.{state_of};
 ghost use Rattle.rs_model.specs.declared.machines.State.TheVariants.{Done};
 ghost use Rattle.rs_rings.specs.Closed.{IsLeft, IsOver};
@@ -37,7 +38,7 @@ impl Session {
         accepted: &Accepted,
         capacity: u16,
     ) -> Result<(Session, Ensemble), NoMemory>
-        requires capacity { (1 ≤ capacity) × (capacity ≤ 1024) }
+        requires capacity { IsCapacity capacity }
         ensures accepted { OnOk result (IsAcceptedSession accepted.now) }
         ensures machines { IfOk result (λ t. t.0.machines ≡ accepted.now.machines) }
         ensures capacity { IfOk result (λ t. t.0.capacity ≡ capacity) }

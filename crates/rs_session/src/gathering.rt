@@ -1,5 +1,6 @@
 // Stages that are handed in at the end of a session.
 ghost use Rattle.std.specs.Prelude.{◌≡◌, ◌<◌, ◌≤◌, ℕ, true, false, map, IfSome, IfNone, vec_len};
+ghost use Rattle.rs_model.specs.declared.limits.TheConstants.{MOST_ROLES};
 ghost use Rattle.rs_rings.specs.Views.{SpeaksFor, part_of};
 ghost use Rattle.rs_session.specs.Data.{Stage_data};
 ghost use Rattle.rs_session.specs.Ends.{AreAll, AreAllThere, IsLeastMissing, IsMissing, IsThere};
@@ -64,7 +65,7 @@ impl Stands for Left {
 
 /// The least role of which there is no stage.
 pub(crate) fn least_missing<S: Stands>(stages: &[S], roles: usize) -> Option<Role>
-    requires few { roles ≤ 16 }
+    requires few { roles ≤ MOST_ROLES }
     ensures some { IfSome result (λ r. IsLeastMissing roles (map S.stage stages.now) r.0) }
     ensures none { IfNone result (AreAllThere roles (map S.stage stages.now)) }
 {

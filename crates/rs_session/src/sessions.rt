@@ -1,4 +1,5 @@
 ghost use Rattle.std.specs.Prelude.{◌≡◌, ◌≤◌, ◌<◌, ◌++◌, ◌∷◌, ℕ, [], IfOk, IsSome, Some, length, slice_get, vec_len, vec_capacity};
+ghost use Rattle.rs_model.specs.Limits.{IsCapacity};
 ghost use Rattle.rs_core.specs.Choices.{AreWellFormed};
 ghost use Rattle.rs_core.specs.Configurations.{state_of};
 ghost use Rattle.rs_model.specs.declared.machines.State.TheVariants.{Takes};
@@ -42,7 +43,7 @@ impl Session {
         accepted: &Accepted,
         capacity: u16,
     ) -> Result<(Session, Vec<Stage>), NoMemory>
-        requires capacity { (1 ≤ capacity) × (capacity ≤ 1024) }
+        requires capacity { IsCapacity capacity }
         ensures machines { IfOk result (λ t. t.0.machines ≡ accepted.now.machines) }
         ensures capacity { IfOk result (λ t. t.0.capacity ≡ capacity) }
         ensures stages { IfOk result (λ t. AreFirst t.0 t.1.items) }

@@ -1,4 +1,6 @@
 ghost use Rattle.std.specs.Prelude.{◌≡◌, ◌≢◌, ◌*◌, ◌<◌, ◌≤◌};
+ghost use Rattle.rs_model.specs.Limits.{IsCapacity};
+ghost use Rattle.rs_model.specs.declared.limits.TheConstants.{MOST_CAPACITY, MOST_ROLES};
 ghost use Rattle.rs_slots.specs.Places.{ring_count, ring_of, head_word, tail_word, slot_of};
 
 use rs_model::Role;
@@ -10,16 +12,16 @@ pub struct Layout {
     roles: u8,
     capacity: u16,
     pub ghost some: { 2 ≤ roles },
-    pub ghost few: { roles ≤ 16 },
+    pub ghost few: { roles ≤ MOST_ROLES },
     pub ghost roomy: { 1 ≤ capacity },
-    pub ghost small: { capacity ≤ 1024 },
+    pub ghost small: { capacity ≤ MOST_CAPACITY },
 }
 
 impl Layout {
     /// The layout for so many roles, with rings of so many slots.
     pub fn new(roles: u8, capacity: u16) -> Layout
-        requires roles { (2 ≤ roles) × (roles ≤ 16) }
-        requires capacity { (1 ≤ capacity) × (capacity ≤ 1024) }
+        requires roles { (2 ≤ roles) × (roles ≤ MOST_ROLES) }
+        requires capacity { IsCapacity capacity }
         ensures { (result.roles ≡ roles) × (result.capacity ≡ capacity) }
     {
         Layout { roles, capacity }

@@ -43,7 +43,7 @@ word_whole a true c text at next r = refl
 word_whole a false true text at next r = refl
 word_whole a false false text at next r = refl
 
-whole : {R : Type 0} (a : Automaton R) (k : Kind) (text : List ℕ) (at : ℕ) (next : Lexeme) (r : R) → feed_sign a (sign_of k text) at next r ≡ a.feed (sign_of k text) at next r
+pub whole : {R : Type 0} (a : Automaton R) (k : Kind) (text : List ℕ) (at : ℕ) (next : Lexeme) (r : R) → feed_sign a (sign_of k text) at next r ≡ a.feed (sign_of k text) at next r
 whole a kind.Word text at next r = word_whole a (bytes_eq text (codes "rec")) (bytes_eq text (codes "end")) text at next r
 whole a _ text at next r = refl
 
@@ -52,7 +52,7 @@ word_more true b text = refl
 word_more false true text = refl
 word_more false false text = refl
 
-more_if : {R : Type 0} {a : Automaton R} (e : StopsAtEnd a) (k : Kind) (text : List ℕ) (at : ℕ) (next : Lexeme) (r d : R) → a.feed (sign_of k text) at next r ≡ Ok d → is_last (sign_of k text) ≡ false
+pub more_if : {R : Type 0} {a : Automaton R} (e : StopsAtEnd a) (k : Kind) (text : List ℕ) (at : ℕ) (next : Lexeme) (r d : R) → a.feed (sign_of k text) at next r ≡ Ok d → is_last (sign_of k text) ≡ false
 more_if e kind.Word text at next r d h = word_more (bytes_eq text (codes "rec")) (bytes_eq text (codes "end")) text
 more_if e kind.Finish text at next r d h = absurd (e.never at next r d h)
 more_if e _ text at next r d h = refl

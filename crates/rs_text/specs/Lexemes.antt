@@ -1,6 +1,7 @@
 -- Believed: the tokens of a text, cut off from its front one by one.
 use Rattle.std.specs.Prelude.{◌≡◌, ℕ, suc, ◌+◌, ◌-◌, ◌*◌, List, [], ◌∷◌, drop, take, map, nat_lt, if◌then◌else◌, ◌==◌, Bool, true, false}
 use Rattle.std.specs.List.{prefix_len}
+use Rattle.rs_model.specs.declared.limits.TheConstants.{MOST_NAME_BYTES, MOST_NUMBER}
 use Rattle.rs_text.specs.declared.tokens.Fault.{Fault}
 use Rattle.rs_text.specs.declared.tokens.FaultKind.TheVariants as fault
 use Rattle.rs_text.specs.declared.tokens.Kind.{Kind}
@@ -43,11 +44,11 @@ front sign size = record { sign = sign; size = size }
 
 -- the word of the first n bytes
 abbrev pub word_front : List ℕ → ℕ → Front
-word_front bytes n = if nat_lt 64 n then front (broken fault.NameTooLong) 0 else front (word_sign (take n bytes)) n
+word_front bytes n = if nat_lt MOST_NAME_BYTES n then front (broken fault.NameTooLong) 0 else front (word_sign (take n bytes)) n
 
 -- the number of the first n bytes
 abbrev pub number_front : List ℕ → ℕ → Front
-number_front bytes n = if nat_lt 4294967295 (value_of (take n bytes)) then front (broken fault.NumberTooLarge) 0 else front (number (value_of (take n bytes))) n
+number_front bytes n = if nat_lt MOST_NUMBER (value_of (take n bytes)) then front (broken fault.NumberTooLarge) 0 else front (number (value_of (take n bytes))) n
 
 -- behind a first -
 abbrev pub arrow_front : List ℕ → Front

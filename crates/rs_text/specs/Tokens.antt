@@ -1,6 +1,7 @@
 -- Believed: what the tokens of a text are, apart from any way to find them.
 use Rattle.std.specs.Prelude.{◌≡◌, ◌≢◌, ◌<◌, ◌≤◌, ◌+◌, ℕ, List, [], ◌∷◌, ◌++◌, length, drop, codes, ◌==◌, true, false}
 use Rattle.std.specs.List.{list_all, list_any}
+use Rattle.rs_model.specs.declared.limits.TheConstants.{MOST_NAME_BYTES, MOST_NUMBER}
 use Rattle.rs_text.specs.declared.tokens.FaultKind.{FaultKind}
 use Rattle.rs_text.specs.declared.tokens.FaultKind.TheVariants as fault
 use Rattle.rs_text.specs.Bytes.{is_blank, is_letter, is_digit, is_word_byte}
@@ -55,15 +56,15 @@ pub record BeginsNothing (b : ℕ) (bs : List ℕ) : Type 0 where
 -- what stands here is at fault
 abbrev pub IsFaulty : FaultKind → List ℕ → Type 0
 IsFaulty fault.BadByte here = (b : ℕ) × (bs : List ℕ) × (here ≡ b ∷ bs) × BeginsNothing b bs
-IsFaulty fault.NumberTooLarge here = (text : List ℕ) × (behind : List ℕ) × (here ≡ text ++ behind) × IsWholeNumber text behind × (4294967295 < value_of text)
-IsFaulty fault.NameTooLong here = (text : List ℕ) × (behind : List ℕ) × (here ≡ text ++ behind) × IsWholeWord text behind × (64 < length text)
+IsFaulty fault.NumberTooLarge here = (text : List ℕ) × (behind : List ℕ) × (here ≡ text ++ behind) × IsWholeNumber text behind × (MOST_NUMBER < value_of text)
+IsFaulty fault.NameTooLong here = (text : List ℕ) × (behind : List ℕ) × (here ≡ text ++ behind) × IsWholeWord text behind × (MOST_NAME_BYTES < length text)
 
 -- the text is a token of this sign before the bytes behind it. A faulty token has no text of its own
 abbrev pub IsToken : Sign → (text behind : List ℕ) → Type 0
 IsToken rec_word text behind = IsWholeWord text behind × (text ≡ codes "rec")
 IsToken end_word text behind = IsWholeWord text behind × (text ≡ codes "end")
-IsToken (plain name) text behind = IsWholeWord text behind × (length text ≤ 64) × (text ≢ codes "rec") × (text ≢ codes "end") × (name ≡ text)
-IsToken (number value) text behind = IsWholeNumber text behind × (value_of text ≤ 4294967295) × (value ≡ value_of text)
+IsToken (plain name) text behind = IsWholeWord text behind × (length text ≤ MOST_NAME_BYTES) × (text ≢ codes "rec") × (text ≢ codes "end") × (name ≡ text)
+IsToken (number value) text behind = IsWholeNumber text behind × (value_of text ≤ MOST_NUMBER) × (value ≡ value_of text)
 IsToken arrow text behind = text ≡ codes "->"
 IsToken bang text behind = text ≡ codes "!"
 IsToken question text behind = text ≡ codes "?"

@@ -2,6 +2,7 @@
 use Rattle.std.specs.Prelude.{ℕ, List, [], ◌∷◌, length, codes, not, nat_le, Bool, false, ◌&&◌}
 use Rattle.std.specs.List.{list_all}
 use Rattle.std.specs.Str.{bytes_eq}
+use Rattle.rs_model.specs.declared.limits.TheConstants.{MOST_NAME_BYTES}
 use Rattle.rs_text.specs.Bytes.{is_letter, is_word_byte}
 
 -- there is a first byte, and it passes
@@ -11,7 +12,7 @@ begins test (b ∷ bs) = test b
 
 -- a letter or _, then letters, digits and _: 1 to 64 bytes
 abbrev pub is_word : List ℕ → Bool
-is_word text = begins is_letter text && (list_all is_word_byte text && nat_le (length text) 64)
+is_word text = begins is_letter text && (list_all is_word_byte text && nat_le (length text) MOST_NAME_BYTES)
 
 -- a word other than rec and end
 abbrev pub is_role_word : List ℕ → Bool

@@ -7,11 +7,12 @@ use Rattle.rs_model.specs.declared.graph.Arm.{Arm}
 use Rattle.rs_model.specs.declared.graph.Role.{Role}
 use Rattle.rs_model.specs.declared.machines.State.TheVariants.{Puts, Takes}
 use Rattle.rs_model.specs.declared.values.Value.{Value}
+use Rattle.rs_model.specs.Values.{empty_value}
+use Rattle.rs_model.proofs.EmptyValues.{empty-fits}
 use Rattle.rs_core.specs.declared.messages.Message.{Message}
 use Rattle.rs_core.specs.Configurations.{Configuration, Sends, Receives, state_at}
 use Rattle.rs_core.proofs.Items.{entry, sends, Fits}
 use Rattle.rs_core.proofs.Moves.{after_send, after_receive, send-step, receive-step}
-use Rattle.rs_core.proofs.Nexts.{value_of, value_of-has}
 use Rattle.rs_core.proofs.Stands.{Known, Stands, Peered, machine-at, within, next_get, head-fits}
 
 -- a send by the first arm
@@ -25,10 +26,10 @@ pub first-send : (ms : List Machine_data) (c : Configuration) (p : ℕ) (q : Rol
     → state_at ms c p ≡ Some (Puts q arms) → arms ≢ [] → FirstSend ms c p q
 first-send ms c p q [] h ne = absurd (ne refl)
 first-send ms c p q (x ∷ xs) h ne =
-    let to : Configuration = after_send c p q x (value_of x.sort) in
-    let st : Sends ms c p 0 (value_of x.sort) to = send-step ms c p 0 (value_of x.sort) q (x ∷ xs) x h refl (value_of-has x.sort) in
+    let to : Configuration = after_send c p q x (empty_value x.sort) in
+    let st : Sends ms c p 0 (empty_value x.sort) to = send-step ms c p 0 (empty_value x.sort) q (x ∷ xs) x h refl (empty-fits x.sort) in
     let same : Some (Puts st.peer st.arms) ≡ Some (Puts q (x ∷ xs)) = sym st.puts ∙ h in
-    record { to = to; value' = value_of x.sort; step = st; peer = cc (same) }
+    record { to = to; value' = empty_value x.sort; step = st; peer = cc (same) }
 
 -- the oldest message of a queue fits an arm of the state that takes it
 pub record Fitting (arms : List Arm) (m : Message) : Type 0 where

@@ -18,58 +18,8 @@ use Rattle.rs_safety.proofs.Built.{Parts, good-of-parts}
 use Rattle.rs_safety.proofs.Sessions.{no-machine, no-projection}
 use Rattle.rs_safety.proofs.Derived.{derived}
 use Rattle.rs_safety.proofs.Limits.{limits}
-use Rattle.rs_safety.proofs.Reordered.{IsDerivedSession, no-derivation, machine_of, projection_of, derivation_of}
+use Rattle.rs_safety.proofs.Reordered.{IsDerivedSession, derivation_of, derived-at, machine_of, no-derivation, parts, projection_of, sum_of_bounds, widen}
 use Rattle.rs_walks.proofs.Places.{Recorded, Here, stand-here}
-
--- the derivation of role p
-derived-at : (pr : Protocol_data) (pjs : List Projection_data) (ms : List Machine_data) (ds : List Derivation_data)
-    → IsDerivedSession pr pjs ms ds → (p : ℕ) → p < length ms
-    → IsDerivation (derivation_of ds p) (machine_of ms p) (projection_of pjs p).machine
-    × Remembers (derivation_of ds p) (machine_of ms p) (projection_of pjs p).machine
-derived-at pr pjs ms ds s p hp =
-    let hm : slice_get ms p ≡ Some (machine_of ms p) = slice_get-get_or ms p no-machine hp in
-    let hj : slice_get pjs p ≡ Some (projection_of pjs p) = slice_get-get_or pjs p no-projection (omega (arith, s.projected.many, s.many)) in
-    let hd : slice_get ds p ≡ Some (derivation_of ds p) = slice_get-get_or ds p no-derivation (omega (arith, s.derived'.many)) in
-    s.derived'.is p (machine_of ms p) (projection_of pjs p) (derivation_of ds p) hm hj hd
-
--- no derivation's bound is above their sum
-sum_of_bounds : List Derivation_data → ℕ
-sum_of_bounds [] = 0
-sum_of_bounds (d ∷ ds) = d.bound + sum_of_bounds ds
-
-at-most : (ds : List Derivation_data) (p : ℕ) (d : Derivation_data) → slice_get ds p ≡ Some d → d.bound ≤ sum_of_bounds ds
-unfolding sum_of_bounds
-at-most [] p d h = absurd (none-some d h)
-at-most (x ∷ ds) zero d h = let e : x.bound ≡ d.bound = cc (h) in omega arith
-at-most (x ∷ ds) (suc p) d h = let k = at-most ds p d h in omega arith
-
--- who follows within a bound follows within a greater one
-unfoldable widen : (m a : Machine_data) (f : ℕ → ℕ) (b c : ℕ) → b ≤ c → Follower m a f b → Follower m a f c
-widen m a f b c h fl = record {
-  F = fl.F;
-  start = fl.start;
-  gives = fl.gives;
-  takes = fl.takes;
-  ends = fl.ends;
-  trace = fl.trace;
-  short = λ eaten done owed t w. (let k : length owed ≤ b = fl.short eaten done owed t w in omega arith);
-}
-
-unfoldable parts : (pr : Protocol_data) (pjs : List Projection_data) (ms : List Machine_data) (ds : List Derivation_data)
-    → IsDerivedSession pr pjs ms ds → (f : ℕ → ℕ → ℕ) → Parts pr ms f (sum_of_bounds ds)
-parts pr pjs ms ds s f = record {
-  fits = s.fits;
-  roles = sym s.many;
-  machine = machine_of ms;
-  is = λ p hp. slice_get-get_or ms p no-machine (omega (arith, s.many));
-  projection = projection_of pjs;
-  projected = λ p hp. s.projected.each p (projection_of pjs p) (slice_get-get_or pjs p no-projection (omega (arith, s.projected.many)));
-  follower = λ p hp.
-      let hm : slice_get ms p ≡ Some (machine_of ms p) = slice_get-get_or ms p no-machine (omega (arith, s.many)) in
-      let hd : slice_get ds p ≡ Some (derivation_of ds p) = slice_get-get_or ds p no-derivation (omega (arith, s.many, s.derived'.many)) in
-      widen (machine_of ms p) (projection_of pjs p).machine (f p) (derivation_of ds p).bound (sum_of_bounds ds) (at-most ds p (derivation_of ds p) hd)
-      (derived (derivation_of ds p) (machine_of ms p) (projection_of pjs p).machine (length ms) (f p) (s.order.fits p (machine_of ms p) hm) (derived-at pr pjs ms ds s p (omega (arith, s.many))).0);
-}
 
 -- what is recorded of each role: its walk through its derivation
 abbrev pub WalksOf : Protocol_data → List Projection_data → List Machine_data → List Derivation_data → Known

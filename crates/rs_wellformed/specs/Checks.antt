@@ -1,6 +1,7 @@
 -- Steps: the first fault of a protocol, as the code finds it.
 use Rattle.std.specs.Prelude.{ℕ, ◌+◌, List, [], ◌∷◌, length, ◌==◌, ◌||◌, nat_lt, nat_le, if◌then◌else◌, Option, Some, None}
 use Rattle.std.specs.List.{list_any}
+use Rattle.rs_model.specs.declared.limits.TheConstants.{MOST_ARMS}
 use Rattle.rs_model.specs.FirstFailed.{or_later, label_fault}
 use Rattle.rs_model.specs.Checks.{first_repeat}
 use Rattle.rs_model.specs.Data.{Protocol_data}
@@ -18,7 +19,7 @@ self_fault n sender receiver = if sender.0 == receiver.0 then Some (SelfTalk n) 
 -- no arms, or more than 32
 abbrev pub count_fault : ℕ → List Arm → Option WfFault
 count_fault n arms =
-    if length arms == 0 then Some (NoArms n) else (if nat_le (length arms) 32 then None else Some (TooManyArms n))
+    if length arms == 0 then Some (NoArms n) else (if nat_le (length arms) MOST_ARMS then None else Some (TooManyArms n))
 
 -- an arm leads to no node, or the sender or the receiver is none of the roles
 abbrev pub next_fault : Protocol_data → ℕ → Role → Role → List Arm → Option WfFault

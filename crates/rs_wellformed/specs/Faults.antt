@@ -1,5 +1,6 @@
 -- Believed: the first fault of a protocol, and what each fault says.
 use Rattle.std.specs.Prelude.{◌≡◌, ◌⊎◌, ℕ, ◌+◌, ◌<◌, ◌≤◌, List, [], ◌∷◌, ◌++◌, length, slice_get, not, ◌==◌, nat_le, nat_lt, Option, Some}
+use Rattle.rs_model.specs.declared.limits.TheConstants.{MOST_ARMS}
 use Rattle.rs_model.specs.FirstFailed.{Test, first_failed, label_tests, next_tests}
 use Rattle.rs_model.specs.Data.{Protocol_data}
 use Rattle.rs_model.specs.Faults.{StandsTwice}
@@ -22,7 +23,7 @@ abbrev pub talk_tests : Protocol_data → ℕ → Role → Role → List Arm →
 talk_tests p n sender receiver arms =
     record { passes = not (sender.0 == receiver.0); fault = SelfTalk n }
     ∷ record { passes = nat_lt 0 (length arms); fault = NoArms n }
-    ∷ record { passes = nat_le (length arms) 32; fault = TooManyArms n }
+    ∷ record { passes = nat_le (length arms) MOST_ARMS; fault = TooManyArms n }
     ∷ (label_tests (λ l. TwiceLabel n l) arms [] ++ (next_tests (BadNext n) (length p.nodes) arms ++ role_tests n p.roles sender receiver))
 
 -- those of node n, of any kind
@@ -60,7 +61,7 @@ abbrev pub Blames : Protocol_data → WfFault → Type 0
 Blames p (SelfTalk n) = (role : Role) × (arms : List Arm) × Talks p n role role arms
 Blames p (NoArms n) = (sender : Role) × (receiver : Role) × Talks p n sender receiver []
 Blames p (TooManyArms n) =
-    (sender : Role) × (receiver : Role) × (arms : List Arm) × Talks p n sender receiver arms × (32 < length arms)
+    (sender : Role) × (receiver : Role) × (arms : List Arm) × Talks p n sender receiver arms × (MOST_ARMS < length arms)
 Blames p (TwiceLabel n label) =
     (sender : Role) × (receiver : Role) × (arms : List Arm) × Talks p n sender receiver arms × StandsTwice arms label
 Blames p (BadNext n) =

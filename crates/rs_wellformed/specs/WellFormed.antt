@@ -1,5 +1,6 @@
 -- Believed: what is asked of a protocol.
 use Rattle.std.specs.Prelude.{◌≡◌, ◌≢◌, ℕ, ◌<◌, ◌≤◌, List, [], length, slice_get, Some}
+use Rattle.rs_model.specs.declared.limits.TheConstants.{MOST_ARMS}
 use Rattle.rs_model.specs.Data.{Protocol_data}
 use Rattle.rs_model.specs.declared.graph.Arm.{Arm}
 use Rattle.rs_model.specs.declared.graph.Node.TheVariants.{Talk}
@@ -11,7 +12,7 @@ pub record TalkFits (protocol : Protocol_data) (sender receiver : Role) (arms : 
   pub puts : sender.0 < protocol.roles
   pub takes : receiver.0 < protocol.roles
   pub some : arms ≢ []
-  pub few : length arms ≤ 32
+  pub few : length arms ≤ MOST_ARMS
   pub once : (i j : ℕ) (a b : Arm) → slice_get arms i ≡ Some a → slice_get arms j ≡ Some b → a.label ≡ b.label → i ≡ j
   pub nexts : (i : ℕ) (a : Arm) → slice_get arms i ≡ Some a → a.next < length protocol.nodes
 

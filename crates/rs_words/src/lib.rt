@@ -10,7 +10,7 @@ mod numbers;
 mod reading;
 mod tasks;
 
-pub use limits::{DEFAULT_BOUND, DEFAULT_LIMIT, MOST_GEN, MOST_LIMIT, MOST_SEED, MOST_WORKERS};
+pub use limits::{DEFAULT_BOUND, DEFAULT_LIMIT, MOST_GEN, MOST_LIMIT, MOST_SEED};
 pub use reading::read_words;
 pub use tasks::Task;
 

@@ -3,9 +3,6 @@
 /// The bound of a search where none is given: the most acts that a derivation may owe at a node.
 pub const DEFAULT_BOUND: u8 = 16;
 
-/// The most workers of a run.
-pub const MOST_WORKERS: u32 = 16;
-
 /// The most acts of a role in a run where no limit is given.
 pub const DEFAULT_LIMIT: u32 = 10_000;
 

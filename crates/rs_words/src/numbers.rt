@@ -3,8 +3,8 @@
 ghost use Rattle.std.specs.Prelude.{◌≡◌, ◌≤◌, IfOk, IfSome, option_map};
 ghost use Rattle.rs_words.specs.Meaning as spec;
 
-use crate::limits::{DEFAULT_BOUND, DEFAULT_LIMIT, MOST_LIMIT, MOST_SEED, MOST_WORKERS};
-use rs_model::{MOST_BOUND, MOST_CAPACITY};
+use crate::limits::{DEFAULT_BOUND, DEFAULT_LIMIT, MOST_LIMIT, MOST_SEED};
+use rs_model::{MOST_BOUND, MOST_CAPACITY, MOST_WORKERS};
 use std::alloc::{AllocError, Global};
 
 /// The number whose decimal text this is, where it lies from the low one to the high one.

@@ -1,6 +1,7 @@
 //! What rings do after two sends.
 
-ghost use Rattle.std.specs.Prelude.{◌≡◌, ◌≤◌};
+ghost use Rattle.std.specs.Prelude.{◌≡◌};
+ghost use Rattle.rs_model.specs.Limits.{IsCapacity};
 ghost use Rattle.rs_core.specs.Configurations.{role_of};
 
 use crate::session::{Session, session_of};
@@ -30,7 +31,7 @@ fn sends(number: u8) -> Event
 }
 
 fn told_of(alloc: Global, accepted: &Accepted, capacity: u16) -> Option<RingsTold>
-    requires { (1 ≤ capacity) × (capacity ≤ 1024) }
+    requires { IsCapacity capacity }
 {
     if accepted.machines().len() < 2 {
         return None;
@@ -60,7 +61,7 @@ fn told_of(alloc: Global, accepted: &Accepted, capacity: u16) -> Option<RingsTol
 /// What is told of the text's session over rings of that capacity: none where it isn't accepted, the two roles can't send,
 /// or memory was refused.
 pub fn rings_of(alloc: Global, text: &[u8], capacity: u16) -> Option<RingsTold>
-    requires { (1 ≤ capacity) × (capacity ≤ 1024) }
+    requires { IsCapacity capacity }
 {
     let Ok(document) = read_document(alloc, text) else {
         return None;

@@ -9,7 +9,7 @@ use rs_core::{Outcome, Run};
 use rs_demos::{Demo, DemoActor, demo_actors, demo_document, demo_output};
 use rs_documents::read_document;
 use rs_exec::{Ran, run_inline};
-use rs_model::NoMemory;
+use rs_model::{MOST_CAPACITY, NoMemory};
 use rs_safety::{Accepted, accept};
 use rs_text::Text;
 use std::alloc::Global;
@@ -24,7 +24,7 @@ fn printed_by(
     actors: Vec<DemoActor>,
 ) -> Option<Text> {
     let room = accepted.room();
-    if actors.len() != accepted.machines().len() || room < 1 || room > 1_024 {
+    if actors.len() != accepted.machines().len() || room < 1 || room > u64::from(MOST_CAPACITY) {
         return None;
     }
     match run_inline(alloc, accepted, actors, room as u16, 4_096) {

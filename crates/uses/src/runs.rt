@@ -1,6 +1,7 @@
 //! What a text is accepted as, and how it runs.
 
-ghost use Rattle.std.specs.Prelude.{◌≡◌, ◌≤◌, length, IfOk, IfSome};
+ghost use Rattle.std.specs.Prelude.{◌≡◌, length, IfOk, IfSome};
+ghost use Rattle.rs_model.specs.Limits.{IsCapacity};
 ghost use Rattle.rs_safety.specs.Room.{room_of};
 ghost use Rattle.rs_documents.specs.Data.{Document_data};
 ghost use Rattle.rs_documents.specs.Documents.{SpellsDocument};
@@ -76,7 +77,7 @@ fn run_session(
     capacity: Option<u16>,
     limit: u32,
 ) -> Result<End, ExecFault>
-    requires { IfSome capacity (λ c. (1 ≤ c) × (c ≤ 1024)) }
+    requires { IfSome capacity IsCapacity }
 {
     let actors = actors_for(alloc, accepted.machines())?;
     match capacity {
@@ -95,7 +96,7 @@ fn run_session(
 
 /// What is told of an accepted session.
 fn told_of(alloc: Global, accepted: &Accepted, capacity: Option<u16>, limit: u32) -> Told
-    requires { IfSome capacity (λ c. (1 ≤ c) × (c ≤ 1024)) }
+    requires { IfSome capacity IsCapacity }
     ensures machines { result.machines ≡ length accepted.now.machines }
     ensures room { result.room ≡ room_of accepted.now.derivations }
 {
@@ -109,7 +110,7 @@ fn told_of(alloc: Global, accepted: &Accepted, capacity: Option<u16>, limit: u32
 /// Reads the text, has its session accepted, and runs it, over queues of a capacity or over unbounded ones: none where
 /// the text is refused, or memory was.
 pub fn run_of(alloc: Global, text: &[u8], capacity: Option<u16>, limit: u32) -> Option<Told>
-    requires { IfSome capacity (λ c. (1 ≤ c) × (c ≤ 1024)) }
+    requires { IfSome capacity IsCapacity }
     ensures { IfSome result (λ t. (document : Document_data) × SpellsDocument text.now document × (t.machines ≡ document.protocol.roles)) }
 {
     let Ok(document) = read_document(alloc, text) else {

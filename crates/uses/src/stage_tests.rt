@@ -1,5 +1,6 @@
 // Stages and tasks on documents.
-ghost use Rattle.std.specs.Prelude.{◌≡◌, ◌≤◌, ◌++◌, ◌∷◌, [], None, IfSome};
+ghost use Rattle.std.specs.Prelude.{◌≡◌, ◌++◌, ◌∷◌, [], None, IfSome};
+ghost use Rattle.rs_model.specs.Limits.{IsCapacity};
 ghost use Rattle.rs_exec.specs.Tasks.{IsTaskOf};
 ghost use Rattle.rs_session.specs.Stages.{AreFirst, IsEnded, shown};
 ghost use Rattle.rs_session.specs.declared.stages.Stage.TheVariants as kind;
@@ -22,7 +23,7 @@ const TWICE: &[u8] =
 
 /// The session of a text, and its first stages.
 fn begun_of(alloc: Global, text: &[u8], capacity: u16) -> Option<(Session, Vec<Stage>)>
-    requires { (1 ≤ capacity) × (capacity ≤ 1024) }
+    requires { IsCapacity capacity }
     ensures { IfSome result (λ begun. AreFirst begun.0 begun.1.items) }
 {
     let Ok(document) = read_document(alloc, text) else {
@@ -71,7 +72,7 @@ fn task_of(rt: &impl Abort, alloc: Global, stage: Stage) -> RoleTask<SeededActor
 }
 
 fn pair_of(rt: &impl Abort, alloc: Global, text: &[u8], capacity: u16) -> Pair
-    requires { (1 ≤ capacity) × (capacity ≤ 1024) }
+    requires { IsCapacity capacity }
     ensures a { IsTaskOf result.session result.a }
     ensures b { IsTaskOf result.session result.b }
 {

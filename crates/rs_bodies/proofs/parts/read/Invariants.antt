@@ -1,5 +1,6 @@
 use Rattle.std.proofs.Common.{◌≡◌, ◌≤◌, ◌-◌, length}
 use Rattle.rs_bodies.specs.Drafts.{names_read}
+use Rattle.rs_bodies.proofs.Taken.{Took}
 use Rattle.rs_bodies.proofs.Sounding.{Kept}
 use Rattle.rs_bodies.specs.Feeding.{feeding}
 use Rattle.rs_text.proofs.Standing.{Stands}
@@ -9,4 +10,4 @@ abbrev pub decreases-loop-dialect : goal.decreases-loop-dialect
 decreases-loop-dialect l = length l.bytes - l.lexer.at
 
 abbrev pub invariant-loop-dialect : goal.invariant-loop-dialect
-invariant-loop-dialect l = (l.lexer.bytes ≡ l.bytes) × ((l.lexer.at ≤ length l.bytes) × (Stands (feeding l.dialect) l.initial.reader l.bytes l.at l.reader l.lexer.at × Kept l.dialect (names_read l.initial.reader) l.reader))
+invariant-loop-dialect l = (l.lexer.bytes ≡ l.bytes) × ((l.lexer.at ≤ length l.bytes) × (Stands (feeding l.dialect) l.initial.reader l.bytes l.at l.reader l.lexer.at × (Kept l.dialect (names_read l.initial.reader) l.reader × Took l.dialect l.initial.reader l.bytes l.at l.reader l.lexer.at)))

@@ -1,5 +1,14 @@
+use Rattle.std.proofs.Common.{◌≡◌, ap, rules}
+use Rattle.rs_text.specs.declared.faults.TextFault.{TextFault}
+use Rattle.rs_text.specs.declared.faults.TextKind.TheVariants as kind
+use Rattle.rs_machines.proofs.LeftLabels.{spelt_leaves}
 use Rattle.rs_machines.proofs.Spelt.{spells}
 use Rattle.rs_machines.proofs.machines.read_machine.Goals as goal
 
 pub returns-in-Ok-clause-ok : goal.returns-in-Ok-clause-ok
 returns-in-Ok-clause-ok c = spells c.args.bytes.now c.args.at c.args.names.now _ _ c.in-Ok.machine _ c.in_ok-spelling.ensures.ok c.in-Ok.ensures.machine
+
+pub returns-in-Err-clause-left : goal.returns-in-Err-clause-left
+returns-in-Err-clause-left c =
+    let memory : c.told.result.kind ≡ kind.NoMemory = ap (λ (z : TextFault). z.kind) c.told.ensures in
+    spelt_leaves c.args.bytes.now c.args.at c.args.names.now c.read_part.new.names c.in_ok-spelling.spelling c.in_ok-spelling.until c.told.result.kind c.told.result.at memory c.in_ok-spelling.ensures.ok
