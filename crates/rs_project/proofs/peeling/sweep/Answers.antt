@@ -16,6 +16,6 @@ loop-number-preserved c = record {
   size = c.peel_one-peeled.ensures.size;
   unreached = λ role has. c.peel_one-peeled.ensures.unreached role (c.loop-number.invariant.unreached role has);
   none = λ e. none-from c.loop-number.left.items c.peel_one-peeled.new.left.items c.loop-number.number c.index.result.now c.loop-number-test.true
-    (let s = c.peel_one-peeled.ensures.size in let q = c.loop-number.invariant.size in let w = c.loop-number.invariant.within in omega arith)
-    c.index.ensures c.if-index.false c.peel_one-peeled.ensures.fewer (c.loop-number.invariant.none e);
+      (let s = c.peel_one-peeled.ensures.size in let q = c.loop-number.invariant.size in let w = c.loop-number.invariant.within in omega arith)
+      c.index.ensures c.if-index.false c.peel_one-peeled.ensures.fewer (c.loop-number.invariant.none e);
 }
