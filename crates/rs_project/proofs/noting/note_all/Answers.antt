@@ -1,4 +1,4 @@
-use Rattle.std.proofs.Common.{◌≡◌, ◌<◌, refl, arith}
+use Rattle.std.proofs.Common.{arith}
 use Rattle.std.proofs.lemmas.Option.{slice_get_within}
 use Rattle.rs_project.proofs.Notes.{arms-more}
 use Rattle.rs_project.proofs.noting.note_all.Goals as goal

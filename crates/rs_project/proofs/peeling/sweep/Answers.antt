@@ -1,4 +1,4 @@
-use Rattle.std.proofs.Common.{rules, arith, ◌≡◌, ◌-◌, ◌≤◌, length, true, false}
+use Rattle.std.proofs.Common.{arith}
 use Rattle.rs_project.proofs.Peels.{none-from}
 use Rattle.rs_project.proofs.peeling.sweep.Goals as goal
 

@@ -1,5 +1,5 @@
-use Rattle.std.proofs.Common.{◌≡◌, List, Bool, ap, ◌∙◌}
-use Rattle.rs_project.specs.Marks.{HasUnreached, Survey_data}
+use Rattle.std.proofs.Common.{◌≡◌, ap, ◌∙◌}
+use Rattle.rs_project.specs.Marks.{Survey_data}
 use Rattle.rs_project.proofs.Peels.{unreached-pass}
 use Rattle.rs_project.proofs.rounds.may_go_round.Goals as goal
 
