@@ -54,8 +54,8 @@ pub fn read_part(
     let labels = mem::replace(&mut names.labels, Vec::new(alloc));
     let mut reader = Reader::new(alloc, dialect, roles, labels);
     let result = read_with(alloc, dialect, &mut reader, bytes, at);
-    names.roles = reader.roles;
-    names.labels = reader.labels;
+    names.roles = reader.roles.into_names();
+    names.labels = reader.labels.into_names();
     match result {
         Ok(read) => Ok(read),
         Err(stop) => Err(stop.told(at)),

@@ -1,6 +1,7 @@
-ghost use Rattle.std.specs.Prelude.{◌≡◌, ◌≤◌, ◌<◌, ◌+◌, ◌++◌, ◌∷◌, [], length, OnOk, OnErr, IfOk, IfErr, Some, None, Option, Ok, Err, true, false, drop, reverse, codes, suc, nat_le, if◌then◌else◌};
+ghost use Rattle.std.specs.Prelude.{◌≡◌, ◌≤◌, ◌<◌, ◌+◌, ◌++◌, ◌∷◌, [], length, OnOk, OnErr, IfOk, IfErr, IfSome, IfNone, Some, None, Option, Ok, Err, true, false, drop, reverse, codes, suc, nat_le, if◌then◌else◌};
 ghost use Rattle.std.specs.Option.{option_map};
 ghost use Rattle.rs_text.specs.Lexemes.{sign_of, text_of, next_lexeme, lexeme_of};
+ghost use Rattle.rs_text.specs.Names.{place_of};
 ghost use Rattle.rs_text.specs.Seen.{plain_text, word_text};
 ghost use Rattle.rs_text.specs.Seen.{is_text};
 ghost use Rattle.rs_bodies.specs.Drafts.{names_read};
@@ -13,8 +14,8 @@ use rs_model::{
     Label, MOST_ACTS, MOST_LABELS, MOST_NESTING, MOST_ROLES, MOST_TALKS, Name, Role, Sort,
 };
 use rs_text::{
-    Binding, Kind, Lexer, Stop, TextKind, Token, Wanted, bound_number, expected, fault, seen,
-    unbind,
+    Binding, Kind, Lexer, NameTable, Stop, TextKind, Token, Wanted, bound_number, expected, fault,
+    seen, unbind,
 };
 use std::alloc::Global;
 use std::marker::Model;
@@ -71,8 +72,8 @@ pub(crate) enum Mode {
 #[derive(Drop)]
 pub(crate) struct Reader<'a> {
     alloc: Global,
-    pub roles: Vec<Name>,
-    pub labels: Vec<Name>,
+    pub roles: NameTable,
+    pub labels: NameTable,
     pub role: Role,
     pub drafts: Vec<Draft>,
     pub start: Option<u32>,
@@ -89,9 +90,9 @@ impl<'a> Model for Reader<'a> {
 
     ghost Value = { Reader_data };
 
-    ghost view = { λ r. record { roles = r.roles.items; labels = r.labels.items; role = r.role; drafts = r.drafts.items; start = r.start; ended = r.ended; bound = reverse r.bound.items; depth = r.depth; frames = reverse r.frames.items; mode = r.mode } };
+    ghost view = { λ r. record { roles = r.roles; labels = r.labels; role = r.role; drafts = r.drafts.items; start = r.start; ended = r.ended; bound = reverse r.bound.items; depth = r.depth; frames = reverse r.frames.items; mode = r.mode } };
 
-    ghost invariant = { λ r. (length r.roles.items ≤ 16) × ((length r.labels.items ≤ 256) × (length r.drafts.items ≤ 1024)) };
+    ghost invariant = { λ r. (length r.roles ≤ 16) × ((length r.labels ≤ 256) × (length r.drafts.items ≤ 1024)) };
 }
 
 /// Heads at most.
@@ -116,6 +117,28 @@ fn is_turn(dialect: Dialect, bytes: &[u8], token: Token) -> bool
     }
 }
 
+/// The role with this name.
+#[tactic(auto, using(rs_text::proofs::Numbers::place_below))]
+fn role_named(roles: &NameTable, word: &[u8]) -> Option<Role>
+    requires { length roles.now ≤ 16 }
+    ensures some { IfSome result (λ role. place_of word.now roles.now ≡ Some role.0) }
+    ensures none { IfNone result (place_of word.now roles.now ≡ None) }
+{
+    let place = roles.find(word)?;
+    Some(Role(place as u8))
+}
+
+/// The label with this name.
+#[tactic(auto, using(rs_text::proofs::Numbers::place_below))]
+fn label_named(labels: &NameTable, word: &[u8]) -> Option<Label>
+    requires { length labels.now ≤ 256 }
+    ensures some { IfSome result (λ label. place_of word.now labels.now ≡ Some label.0) }
+    ensures none { IfNone result (place_of word.now labels.now ≡ None) }
+{
+    let place = labels.find(word)?;
+    Some(Label(place as u16))
+}
+
 impl<'a> Reader<'a> {
     /// A reader before its first token.
     pub fn new(alloc: Global, dialect: Dialect, roles: Vec<Name>, labels: Vec<Name>) -> Reader<'a>
@@ -126,8 +149,8 @@ impl<'a> Reader<'a> {
     {
         Reader {
             alloc,
-            roles,
-            labels,
+            roles: NameTable::new(alloc, roles),
+            labels: NameTable::new(alloc, labels),
             role: Role(0),
             drafts: Vec::new(alloc),
             start: None,
@@ -171,7 +194,7 @@ impl<'a> Reader<'a> {
         if self.roles.len() >= MOST_ROLES {
             return fault(TextKind::TooManyRoles, at);
         }
-        self.roles.push(Name::of(self.alloc, word)?)?;
+        let _place = self.roles.add(self.alloc, word)?;
         self.mode = after;
         Ok(())
     }
@@ -269,7 +292,7 @@ impl<'a> Reader<'a> {
         let Some(word) = seen::plain(bytes, token) else {
             return expected(Wanted::Role, token.from);
         };
-        let role = seen::role(self.roles.as_slice(), word);
+        let role = role_named(&self.roles, word);
         self.played_by(role, token.from)
     }
 
@@ -424,7 +447,7 @@ impl<'a> Reader<'a> {
         let Some(word) = seen::plain(bytes, token) else {
             return expected(Wanted::Role, token.from);
         };
-        let Some(receiver) = seen::role(self.roles.as_slice(), word) else {
+        let Some(receiver) = role_named(&self.roles, word) else {
             return fault(TextKind::UnknownRole, token.from);
         };
         self.begin_act(
@@ -508,7 +531,7 @@ impl<'a> Reader<'a> {
         let Some(word) = seen::word(bytes, token) else {
             return expected(wanted, token.from);
         };
-        match seen::label(self.labels.as_slice(), word) {
+        match label_named(&self.labels, word) {
             Some(label) => {
                 self.mode = Mode::Paren { act, label };
                 Ok(())
@@ -523,8 +546,8 @@ impl<'a> Reader<'a> {
         if self.labels.len() >= MOST_LABELS {
             return fault(TextKind::TooManyLabels, at);
         }
-        let label = Label(self.labels.len() as u16);
-        self.labels.push(Name::of(self.alloc, word)?)?;
+        let place = self.labels.add(self.alloc, word)?;
+        let label = Label(place as u16);
         self.mode = Mode::Paren { act, label };
         Ok(())
     }
@@ -700,7 +723,7 @@ impl<'a> Reader<'a> {
     {
         let next = Lexer::new(bytes, token.until).next()?;
         if is_turn(dialect, bytes, next) {
-            let first = seen::role(self.roles.as_slice(), word);
+            let first = role_named(&self.roles, word);
             self.met_by(dialect, from, first, token.from)
         } else {
             let act = bound_number(self.bound.as_slice(), word);

@@ -9,6 +9,7 @@ pub mod Peels
 pub mod Merged
 pub mod Meetings
 pub mod Agreeing
+pub mod Notes
 pub mod Alone
 pub mod Numbers
 pub mod Buckets

@@ -1,12 +1,13 @@
 -- Nodes that aren't unreached, by what they lead to.
-use Rattle.std.proofs.Common.{◌≡◌, ◌≢◌, inl, inr, ℕ, zero, suc, Bool, false, List, [], ◌∷◌, ◌++◌, set, Some, slice_get, refl, ◌∙◌, subst}
-use Rattle.std.proofs.lemmas.List.{length-set, get_or-set_other}
+use Rattle.std.proofs.Common.{◌≡◌, ◌≢◌, inl, inr, ℕ, zero, suc, ◌-◌, ◌<◌, ◌≤◌, Bool, true, false, List, [], ◌∷◌, ◌++◌, length, get_or, set, Some, slice_get, refl, sym, ◌∙◌, subst, arith}
+use Rattle.std.proofs.lemmas.List.{length-set, get_or_default, get_or-set_other}
+use Rattle.std.proofs.lemmas.Bool.{cases_lt}
 use Rattle.std.proofs.lemmas.Bool.Decides.{eqb_tells}
 use Rattle.rs_model.specs.Data.{Protocol_data}
 use Rattle.rs_model.specs.declared.graph.Node.{Node}
 use Rattle.rs_model.specs.declared.graph.Role.{Role}
 use Rattle.rs_project.specs.Graph.{PathStep, LeadsTo, IsPath, PassesBy, AllPassBy, IsUnreached}
-use Rattle.rs_project.specs.Marks.{IsOn, IsLeft, IsLive, leads_on}
+use Rattle.rs_project.specs.Marks.{IsOn, HasUnreached, IsLeft, IsLive, IsSurvey, Survey_data, leads_on}
 use Rattle.rs_project.proofs.Cycles.{passes-unreached}
 use Rattle.rs_project.proofs.Spread.{step_of, path-snoc}
 use Rattle.rs_project.proofs.Surveys.{leads-on-by}
@@ -47,12 +48,25 @@ onward pr role n u = go u.steps u.some u.cycle u.around
           },
         )
 
-off-before : (flags : List Bool) (x n : ℕ) → IsOn (set flags x false) n → IsOn flags n
+pub off-before : (flags : List Bool) (x n : ℕ) → IsOn (set flags x false) n → IsOn flags n
 off-before [] x n h = absurd (cc (h))
 off-before (b ∷ bs) zero zero h = absurd (cc (h))
 off-before (b ∷ bs) zero (suc n) h = h
 off-before (b ∷ bs) (suc x) zero h = h
 off-before (b ∷ bs) (suc x) (suc n) h = off-before bs x n h
+
+pub unreached-less : (pr : Protocol_data) (role : Role) (flags : List Bool) (n : ℕ) (node : Node) → slice_get pr.nodes n ≡ Some node → leads_on flags node ≡ false → HasUnreached pr role flags
+    → HasUnreached pr role (set flags n false)
+unreached-less pr role flags n node is ends has = record {
+  size = length-set flags n false ∙ has.size;
+  whole = λ m u. elim (eqb_tells m n) [
+    | inl p ↦ (let o = onward pr role m u in
+        let P : ℕ → Type 0 = λ z. LeadsTo pr z o.0 o.1 in
+        let on = leads-on-by pr flags n o.0 o.1 node is (subst P p.1 o.2) (has.whole o.1 o.3) in
+        absurd (cc (on, ends)))
+    | inr p ↦ get_or-set_other flags n m false false p.1 ∙ has.whole m u
+  ];
+}
 
 pub left-less : (pr : Protocol_data) (role : Role) (flags : List Bool) (n : ℕ) (node : Node) → slice_get pr.nodes n ≡ Some node → leads_on flags node ≡ false → IsLeft pr role flags
     → IsLeft pr role (set flags n false)
@@ -60,11 +74,24 @@ left-less pr role flags n node is ends left = record {
   size = length-set flags n false ∙ left.size;
   reached = λ m h. left.reached m (off-before flags n m h);
   passing = λ m h. left.passing m (off-before flags n m h);
-  whole = λ m u. elim (eqb_tells m n) [
-    | inl p ↦ (let o = onward pr role m u in
-        let P : ℕ → Type 0 = λ z. LeadsTo pr z o.0 o.1 in
-        let on = leads-on-by pr flags n o.0 o.1 node is (subst P p.1 o.2) (left.whole o.1 o.3) in
-        absurd (cc (on, ends)))
-    | inr p ↦ get_or-set_other flags n m false false p.1 ∙ left.whole m u
-  ];
+  whole = (unreached-less pr role flags n node is ends (record { size = left.size; whole = left.whole })).whole;
 }
+
+-- the passing nodes have all unreached ones among them
+pub unreached-pass : (pr : Protocol_data) (role : Role) (survey : Survey_data) (flags : List Bool) → IsSurvey pr role survey → flags ≡ survey.passing → HasUnreached pr role flags
+unreached-pass pr role survey flags is e = subst (λ (z : List Bool). HasUnreached pr role z) (sym e) (record {
+  size = is.passing_size;
+  whole = λ n u. (is.passing n).1 (passes-unreached pr role n u);
+})
+
+-- no node from `number` on is flagged, where none behind it was and it isn't
+pub none-from : (flags less : List Bool) (number : ℕ) (b : Bool) → 0 < number → number ≤ length less → b ≡ get_or less (number - 1) b → b ≡ false → ((n : ℕ) → IsOn less n → IsOn flags n) → ((n : ℕ) → number ≤ n → IsOn flags n → ⊥)
+    → (n : ℕ) → number - 1 ≤ n → IsOn less n → ⊥
+none-from flags less number b some within is off fewer none n le on = elim (cases_lt (number - 1) n) [
+  | inl below ↦ none n (omega (arith, below, some)) (fewer n on)
+  | inr above ↦ (let q : n ≡ number - 1 = omega (arith, above, le) in
+      let P : ℕ → Type 0 = λ z. IsOn less z in
+      let here : get_or less (number - 1) false ≡ true = subst P q on in
+      let there : b ≡ get_or less (number - 1) false = is ∙ get_or_default less (number - 1) b false (omega (arith, some, within)) in
+      absurd (cc (here, there, off)))
+]

@@ -7,5 +7,6 @@ pub mod Reached
 pub mod Refusals
 pub mod Marks
 pub mod Clashes
+pub mod Noted
 pub mod Filing
 pub mod Working

@@ -140,6 +140,11 @@ pub record IsLeft (protocol : Protocol_data) (role : Role) (flags : List Bool) :
   pub passing : (n : ℕ) → IsOn flags n → PassesBy protocol role n
   pub whole : (n : ℕ) → IsUnreached protocol role n → IsOn flags n
 
+-- all unreached nodes are flagged
+pub record HasUnreached (protocol : Protocol_data) (role : Role) (flags : List Bool) : Type 0 where
+  pub size : length flags ≡ length protocol.nodes
+  pub whole : (n : ℕ) → IsUnreached protocol role n → IsOn flags n
+
 -- what is known of the nodes for the role: which involve the role, from which a talk of it can be reached, and which pass by it
 pub record Survey_data : Type 0 where
   pub role : Role

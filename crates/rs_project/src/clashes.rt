@@ -1,12 +1,15 @@
-ghost use Rattle.std.specs.Prelude.{◌≡◌, ◌<◌, ◌≤◌, ℕ, [], true, false, length, slice_get, Some, None, MatchOption};
+ghost use Rattle.std.specs.Prelude.{◌≡◌, ◌<◌, ◌≤◌, ◌+◌, ℕ, [], true, false, length, slice_get, Some, None, IfOk, MatchOption};
 ghost use Rattle.std.specs.List.{All, list_any};
 ghost use Rattle.rs_project.specs.Clashes.{AgreeBefore, AllAgree, ClashesWith, EndsAlone, TalksClash, agree_nodes, both_receive, both_send, has_all, is_choice, is_other_sort, same_sorts, sends};
+ghost use Rattle.rs_project.specs.Noted.{AreNoted};
 ghost use Rattle.rs_project.specs.Projection.{Agree};
 ghost use Rattle.rs_project.specs.Refusals.{FirstClash};
 ghost use Rattle.rs_wellformed.specs.WellFormed.{IsWellFormed};
 
 use crate::fronts::Front;
-use rs_model::{Arm, Node, Protocol, Role};
+use crate::noting::{Notes, first_sender, joins};
+use rs_model::{Arm, NoMemory, Node, Protocol, Role};
+use std::alloc::Global;
 
 /// Two members that clash: the earlier one, and the later one, which is None for the end.
 #[derive(Clone, Copy)]
@@ -16,18 +19,24 @@ pub struct Clash {
 }
 
 /// The first two members that clash: the least later one, and for it the least earlier one.
-pub fn first_clash(protocol: &Protocol, role: Role, front: &Front) -> Option<Clash>
+pub fn first_clash(
+    alloc: Global,
+    protocol: &Protocol,
+    role: Role,
+    front: &Front,
+) -> Result<Option<Clash>, NoMemory>
     requires well_formed { IsWellFormed protocol.now }
     requires talks { All (λ t. t < length protocol.now.nodes) front.now.talks }
-    ensures { MatchOption result (AllAgree protocol.now role front.now.talks (length front.now.talks) × EndsAlone front.now) (λ clash. FirstClash protocol.now role front.now clash.a clash.b) }
+    ensures { IfOk result (λ found. MatchOption found (AllAgree protocol.now role front.now.talks (length front.now.talks) × EndsAlone front.now) (λ clash. FirstClash protocol.now role front.now clash.a clash.b)) }
 {
-    if let Some(clash) = talk_clash(protocol, role, &front.talks) {
-        return Some(clash);
+    let found = talk_clash(alloc, protocol, role, &front.talks)?;
+    if let Some(clash) = found {
+        return Ok(Some(clash));
     }
     if let Some(clash) = end_clash(front) {
-        return Some(clash);
+        return Ok(Some(clash));
     }
-    None
+    Ok(None)
 }
 
 // The end and the first talk, where both are there.
@@ -46,20 +55,53 @@ fn end_clash(front: &Front) -> Option<Clash>
     })
 }
 
-fn talk_clash(protocol: &Protocol, role: Role, talks: &[u32]) -> Option<Clash>
+fn talk_clash(
+    alloc: Global,
+    protocol: &Protocol,
+    role: Role,
+    talks: &[u32],
+) -> Result<Option<Clash>, NoMemory>
     requires well_formed { IsWellFormed protocol.now }
     requires talks { All (λ t. t < length protocol.now.nodes) talks.now }
-    ensures { MatchOption result (AllAgree protocol.now role talks.now (length talks.now)) (λ clash. TalksClash protocol.now role talks.now clash.a clash.b) }
+    ensures { IfOk result (λ found. MatchOption found (AllAgree protocol.now role talks.now (length talks.now)) (λ clash. TalksClash protocol.now role talks.now clash.a clash.b)) }
 {
+    let sender = first_sender(protocol, talks);
+    let mut notes = Notes::new(alloc, talks.len())?;
     for later in 0..talks.len() {
-        if let Some(earlier) = clash_before(protocol, role, talks, later) {
-            return Some(Clash {
+        if let Some(earlier) = clash_at(protocol, role, sender, talks, later, &mut notes) {
+            return Ok(Some(Clash {
                 a: talks[earlier],
                 b: Some(talks[later]),
-            });
+            }));
         }
     }
-    None
+    Ok(None)
+}
+
+// The place of the first talk that clashes with the one at a later place, where those before it agree. While all talks so
+// far are receives from the sender whose labels are noted, the notes tell that none does.
+fn clash_at(
+    protocol: &Protocol,
+    role: Role,
+    sender: Role,
+    talks: &[u32],
+    later: usize,
+    notes: &mut Notes,
+) -> Option<usize>
+    requires well_formed { IsWellFormed protocol.now }
+    requires earlier { AllAgree protocol.now role talks.now later }
+    requires talks { All (λ t. t < length protocol.now.nodes) talks.now }
+    requires later { later < length talks.now }
+    requires noted { notes.old.tell ≡ true → AreNoted protocol.now role sender notes.old.sorts.items talks.now later }
+    ensures clash { MatchOption result (AgreeBefore protocol.now role talks.now later later) (λ i. ClashesWith protocol.now role talks.now i later) }
+    ensures noted { notes.new.tell ≡ true → AreNoted protocol.now role sender notes.new.sorts.items talks.now (later + 1) }
+{
+    let talk = &protocol.nodes[talks[later] as usize];
+    if notes.tell && joins(&mut notes.sorts, role, sender, talk) {
+        return None;
+    }
+    notes.tell = false;
+    clash_before(protocol, role, talks, later)
 }
 
 // The place of the first talk that clashes with the one at a later place, where those before it agree.

@@ -8,6 +8,7 @@ mod finding;
 mod fronts;
 pub mod laws;
 mod merging;
+mod noting;
 mod peeling;
 mod projecting;
 mod rounds;

@@ -1,11 +1,30 @@
-ghost use Rattle.std.specs.Prelude.{◌≡◌, ◌<◌, ◌^◌, length, OnOk};
+ghost use Rattle.std.specs.Prelude.{◌≡◌, ◌<◌, ◌^◌, ℕ, true, false, length, OnOk};
 ghost use Rattle.rs_model.specs.declared.graph.Role.{Role};
-ghost use Rattle.rs_project.specs.Marks.{IsLeft};
+ghost use Rattle.rs_project.specs.Marks.{HasUnreached, IsLeft, IsOn};
 ghost use Rattle.rs_wellformed.specs.WellFormed.{IsWellFormed};
 
 use crate::surveying::leads_to_one;
 use rs_model::{Arm, NoMemory, Node, Protocol};
 use std::alloc::Global;
+
+/// Takes flags away as `peel` does, in one sweep from the last node to the first; whether some are left.
+pub fn sweep(protocol: &Protocol, left: &mut Vec<bool>) -> bool
+    requires well_formed { IsWellFormed protocol.now }
+    requires size { length left.old.items ≡ length protocol.now.nodes }
+    ensures unreached { (role : Role) → HasUnreached protocol.now role left.old.items → HasUnreached protocol.now role left.new.items }
+    ensures none { result ≡ false → (n : ℕ) → IsOn left.new.items n → ⊥ }
+{
+    let mut some = false;
+    let mut number = left.len();
+    while number > 0 {
+        number -= 1;
+        let _peeled = peel_one(protocol, left, number);
+        if left[number] {
+            some = true;
+        }
+    }
+    some
+}
 
 /// Takes away the flags of the nodes from which one can't go on for ever through flagged nodes.
 pub fn peel(alloc: Global, protocol: &Protocol, left: &mut Vec<bool>) -> Result<(), NoMemory>
@@ -33,6 +52,8 @@ fn peel_one(protocol: &Protocol, left: &mut Vec<bool>, number: usize) -> bool
     requires size { length left.old.items ≡ length protocol.now.nodes }
     ensures size { length left.new.items ≡ length protocol.now.nodes }
     ensures left { (role : Role) → IsLeft protocol.now role left.old.items → IsLeft protocol.now role left.new.items }
+    ensures unreached { (role : Role) → HasUnreached protocol.now role left.old.items → HasUnreached protocol.now role left.new.items }
+    ensures fewer { (n : ℕ) → IsOn left.new.items n → IsOn left.old.items n }
 {
     if number >= left.len() || !left[number] {
         return false;

@@ -19,6 +19,7 @@ use crate::rounds::first_unreached;
 use crate::spreading::Marks;
 use crate::surveying::{Survey, survey_of};
 use rs_model::{Arm, Arms, Machine, NoMemory, Node, Protocol, Role, State};
+use smallvec::SmallVec;
 use std::alloc::{AllocError, AllocFailed, Global};
 use std::marker::Model;
 
@@ -156,15 +157,16 @@ fn state_of(
     ensures err { IfErr result (λ e. StateFault protocol.now survey.now.role fronts.old number e) }
 {
     let front = &fronts.as_slice()[number];
-    if let Some(clash) = first_clash(protocol, survey.role, front) {
+    let found = first_clash(alloc, protocol, survey.role, front)?;
+    if let Some(clash) = found {
         return Err(ProjFault::Unmergeable {
             role: survey.role,
             a: clash.a,
             b: clash.b,
         });
     }
-    let talks = Vec::from_slice(alloc, &front.talks)?;
-    let state = merged_state(alloc, protocol, survey, marks, &talks, fronts)?;
+    let talks: SmallVec<u32, 4> = SmallVec::from_slice(alloc, &front.talks)?;
+    let state = merged_state(alloc, protocol, survey, marks, talks.as_slice(), fronts)?;
     Ok(state)
 }
 

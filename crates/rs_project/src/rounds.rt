@@ -5,7 +5,7 @@ ghost use Rattle.rs_project.specs.Numbered.{nexts_of};
 ghost use Rattle.rs_project.specs.Refusals.{NoneUnreached};
 ghost use Rattle.rs_wellformed.specs.WellFormed.{IsWellFormed};
 
-use crate::peeling::peel;
+use crate::peeling::{peel, sweep};
 use crate::spreading::spread;
 use crate::surveying::Survey;
 use rs_model::{Arm, NoMemory, Node, Protocol};
@@ -22,6 +22,9 @@ pub fn first_unreached(
     requires survey { IsSurvey protocol.now survey.now.role survey.now }
     ensures { IfOk result (λ o. MatchOption o (NoneUnreached protocol.now survey.now.role) (λ node. IsUnreached protocol.now survey.now.role node × ((n : ℕ) → IsUnreached protocol.now survey.now.role n → node ≤ n))) }
 {
+    if !may_go_round(alloc, protocol, survey)? {
+        return Ok(None);
+    }
     let left = left_nodes(alloc, protocol, survey)?;
     for number in 0..left.len() {
         let unreached = is_unreached(alloc, protocol, survey, &left, number as u32)?;
@@ -30,6 +33,16 @@ pub fn first_unreached(
         }
     }
     Ok(None)
+}
+
+// Whether some nodes that pass by the role are left by one sweep.
+fn may_go_round(alloc: Global, protocol: &Protocol, survey: &Survey) -> Result<bool, NoMemory>
+    requires well_formed { IsWellFormed protocol.now }
+    requires survey { IsSurvey protocol.now survey.now.role survey.now }
+    ensures { IfOk result (λ b. b ≡ false → NoneUnreached protocol.now survey.now.role) }
+{
+    let mut left = Vec::from_slice(alloc, &survey.passing)?;
+    Ok(sweep(protocol, &mut left))
 }
 
 fn is_unreached(

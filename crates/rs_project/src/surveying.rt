@@ -48,7 +48,7 @@ pub fn survey_of(alloc: Global, protocol: &Protocol, role: Role) -> Result<Surve
 fn involved_nodes(alloc: Global, protocol: &Protocol, role: Role) -> Result<Vec<bool>, NoMemory>
     ensures { IfOk result (λ v. v.items ≡ map (λ n. involves_role role n) protocol.now.nodes) }
 {
-    let mut involved = Vec::new(alloc);
+    let mut involved = Vec::with_capacity(alloc, protocol.nodes.len())?;
     for node in &protocol.nodes {
         involved.push(involves(node, role))?;
     }
@@ -157,7 +157,7 @@ fn passing_nodes(alloc: Global, involved: &[bool], awaited: &[bool]) -> Result<V
     ensures size { IfOk result (λ v. length v.items ≡ length involved.now) }
     ensures each { IfOk result (λ v. (n : ℕ) → n < length involved.now → slice_index_or v.items n false ≡ (slice_index_or awaited.now n false && not (slice_index_or involved.now n false))) }
 {
-    let mut passing = Vec::new(alloc);
+    let mut passing = Vec::with_capacity(alloc, involved.len())?;
     for i in 0..involved.len() {
         passing.push(awaited[i] && !involved[i])?;
     }

@@ -4,6 +4,7 @@ pub mod Gaps
 pub mod Starts
 pub mod Nexts
 pub mod Naming
+pub mod Tabling
 pub mod Basics
 pub mod Numbers
 pub mod Written

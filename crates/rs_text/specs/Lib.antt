@@ -6,6 +6,7 @@ pub mod Lexemes
 pub mod Tokens
 pub mod Places
 pub mod Names
+pub mod Tables
 pub mod Sound
 pub mod Faults
 pub mod Arms

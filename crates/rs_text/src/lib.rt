@@ -11,6 +11,7 @@ mod places;
 mod reading;
 pub mod seen;
 pub mod shown;
+mod tables;
 #[cfg(test)]
 mod tests;
 mod tokens;
@@ -22,4 +23,5 @@ pub use names::{add, find, is_role_word, is_word, sound};
 pub use output::Text;
 pub use places::place;
 pub use reading::{Stop, expected, fault};
+pub use tables::NameTable;
 pub use tokens::{Fault, FaultKind, Kind, Token};

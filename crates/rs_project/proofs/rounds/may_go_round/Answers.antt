@@ -1,0 +1,10 @@
+use Rattle.std.proofs.Common.{◌≡◌, ap, ◌∙◌}
+use Rattle.rs_project.specs.Marks.{Survey_data}
+use Rattle.rs_project.proofs.Peels.{unreached-pass}
+use Rattle.rs_project.proofs.rounds.may_go_round.Goals as goal
+
+pub returns : goal.returns
+returns c = λ none n u.
+    let passing : c.in_ok-left.left.items ≡ c.args.survey.now.passing = c.in_ok-left.ensures.items ∙ c.deref.ensures.value ∙ ap (λ (z : Survey_data). z.passing) c.survey.view_is in
+    let has = c.sweep.ensures.unreached c.args.survey.now.role (unreached-pass c.args.protocol.now c.args.survey.now.role c.args.survey.now c.in_ok-left.left.items c.requires.survey passing) in
+    c.sweep.ensures.none none n (has.whole n u)

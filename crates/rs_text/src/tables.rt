@@ -1,0 +1,177 @@
+ghost use Rattle.std.specs.Prelude.{◌≡◌, ◌⊎◌, ◌<◌, ◌≤◌, ◌++◌, ◌∷◌, [], ℕ, true, false, length, slice_get, Some, IfOk, OnOk, OnErr, MatchOption};
+ghost use Rattle.rs_text.specs.Names.{place_of};
+ghost use Rattle.rs_text.specs.Tables.{AreFiled, AreFiledIn, IsChained, bucket_of, bucket_on};
+
+use crate::names::find;
+use rs_model::{Name, NoMemory};
+use std::alloc::Global;
+use std::marker::Model;
+
+const BUCKETS: usize = 256;
+
+/// Names in order, with an index by which one is found: of each bucket the head of a chain of places, and of each place
+/// the next of its chain. Each is one more than the place; 0 ends a chain. Without memory for the buckets there are none.
+#[derive(Drop)]
+pub struct NameTable {
+    names: Vec<Name>,
+    heads: Vec<usize>,
+    links: Vec<usize>,
+}
+
+impl Model for NameTable {
+    ghost use Rattle.std.specs.Prelude.{List, ℕ};
+    ghost use Rattle.rs_text.specs.Tables.{AreFiledIn};
+
+    ghost Value = { List (List ℕ) };
+
+    ghost view = { λ t. t.names.items };
+
+    ghost invariant = { λ t. AreFiledIn t.heads.items t.names.items t.links.items };
+}
+
+impl NameTable {
+    /// These names.
+    pub fn new(alloc: Global, names: Vec<Name>) -> NameTable
+        ensures { result ≡ names.items }
+    {
+        match index_of(alloc, names.as_slice()) {
+            Ok(Index { heads, links }) => NameTable {
+                names,
+                heads,
+                links,
+            },
+            Err(_) => NameTable {
+                names,
+                heads: Vec::new(alloc),
+                links: Vec::new(alloc),
+            },
+        }
+    }
+
+    /// The names, by their places.
+    pub fn as_slice(&self) -> &[Name]
+        ensures { result.now ≡ self.now }
+    {
+        self.names.as_slice()
+    }
+
+    /// The names, without the index.
+    pub fn into_names(self) -> Vec<Name>
+        ensures { result.items ≡ self }
+    {
+        let NameTable { names, .. } = self;
+        names
+    }
+
+    /// How many there are.
+    pub fn len(&self) -> usize
+        ensures { result ≡ length self.now }
+    {
+        self.names.len()
+    }
+
+    /// The place of a name, the first one if it stands there more than once.
+    pub fn find(&self, word: &[u8]) -> Option<usize>
+        ensures { result ≡ place_of word.now self.now }
+    {
+        if self.heads.is_empty() {
+            return find(self.names.as_slice(), word);
+        }
+        let head = self.heads[bucket_of(word)];
+        place_along(self.names.as_slice(), &self.links, head, word)
+    }
+
+    /// Puts a name behind the others and gives its place; where memory is refused nothing changes.
+    pub fn add(&mut self, alloc: Global, word: &[u8]) -> Result<usize, NoMemory>
+        ensures place { IfOk result (λ place. place ≡ length self.old) }
+        ensures added { OnOk result (self.new ≡ self.old ++ word.now ∷ []) }
+        ensures kept { OnErr result (self.new ≡ self.old) }
+    {
+        let place = self.names.len();
+        let name = Name::of(alloc, word)?;
+        self.links.reserve(1)?;
+        self.names.push(name)?;
+        if self.heads.is_empty() {
+            return Ok(place);
+        }
+        let bucket = bucket_of(word);
+        self.links.push(self.heads[bucket]).unwrap();
+        self.heads[bucket] = place + 1;
+        Ok(place)
+    }
+}
+
+#[derive(Drop)]
+struct Index {
+    heads: Vec<usize>,
+    links: Vec<usize>,
+}
+
+fn index_of(alloc: Global, names: &[Name]) -> Result<Index, NoMemory>
+    ensures { IfOk result (λ i. AreFiled names.now i.heads.items i.links.items) }
+{
+    let mut heads = vec![in alloc; 0; BUCKETS]?;
+    let mut links = Vec::with_capacity(alloc, names.len())?;
+    for name in names {
+        let bucket = bucket_of(name.as_slice());
+        let head = heads[bucket];
+        links.push(head)?;
+        heads[bucket] = links.len();
+    }
+    Ok(Index { heads, links })
+}
+
+fn bucket_of(name: &[u8]) -> usize
+    ensures is { result ≡ bucket_of name.now }
+    ensures within { result < 256 }
+{
+    let (_, end) = name.split_at(name.len().saturating_sub(8));
+    bucket_on(end)
+}
+
+fn bucket_on(bytes: &[u8]) -> usize
+    ensures is { result ≡ bucket_on 0 bytes.now }
+    ensures within { result < 256 }
+{
+    let mut bucket = 0;
+    for byte in bytes {
+        bucket = (bucket * 31 + *byte as usize) % BUCKETS;
+    }
+    bucket
+}
+
+// The least place along a chain at which the word stands.
+fn place_along(names: &[Name], links: &[usize], head: usize, word: &[u8]) -> Option<usize>
+    requires size { length links.now ≡ length names.now }
+    requires within { head ≤ length names.now }
+    requires falls { (m next : ℕ) → slice_get links.now m ≡ Some next → next ≤ m }
+    ensures { MatchOption result ((n : ℕ) → IsChained links.now head n → slice_get names.now n ≡ Some word.now → ⊥) (λ p. (slice_get names.now p ≡ Some word.now) × ((n : ℕ) → IsChained links.now head n → slice_get names.now n ≡ Some word.now → p ≤ n)) }
+{
+    let mut found = None;
+    let mut left = head;
+    while left > 0 {
+        let place = left - 1;
+        if is_at(names, place, word) {
+            found = Some(place);
+        }
+        left = links[place];
+    }
+    found
+}
+
+fn is_at(names: &[Name], place: usize, word: &[u8]) -> bool
+    ensures sound { result ≡ true → slice_get names.now place ≡ Some word.now }
+    ensures whole { result ≡ false → slice_get names.now place ≡ Some word.now → ⊥ }
+{
+    match names.get(place) {
+        Some(name) => is_same(name.as_slice(), word),
+        None => false,
+    }
+}
+
+fn is_same(one: &[u8], other: &[u8]) -> bool
+    ensures sound { result ≡ true → one.now ≡ other.now }
+    ensures whole { result ≡ false → one.now ≡ other.now → ⊥ }
+{
+    one == other
+}
