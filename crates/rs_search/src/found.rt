@@ -231,7 +231,7 @@ fn bucket_count(sub: &Machine, above: &Machine) -> usize
     ensures some { 0 < result }
     ensures few { result < 2 ^ 32 }
 {
-    first_room(sub, above) * 64 + 1
+    first_room(sub, above) * 16 + 1
 }
 
 // An index without numbers, with room for some.
