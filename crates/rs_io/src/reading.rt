@@ -21,8 +21,20 @@ pub enum ReadStop {
     NoMemory,
 }
 
-// The most bytes that one turn asks for.
+// The most bytes that the first turn asks for.
+const FIRST_PIECE: usize = 2_048;
+
+// The most bytes that a later turn asks for, once a turn gave all that it asked for.
 const PIECE: usize = 65_536;
+
+// Grows the buffer to a whole piece; where memory is refused it stays as it is.
+fn widen(buffer: &mut Vec<u8>)
+    ensures { vec_len buffer.old ≤ vec_len buffer.new }
+{
+    if buffer.len() < PIECE {
+        let _widened = buffer.resize(PIECE, 0);
+    }
+}
 
 /// Reads all bytes that are left, at most `limit` of them.
 /// `ReadFault`: the source failed in this call. `TooLong`: one byte more than `limit` was taken.
@@ -40,7 +52,7 @@ pub fn read_all<S: Source>(alloc: Global, source: &mut S, limit: usize) -> Resul
     ensures read_fault { result ≡ Err ReadStop.ReadFault → Rose (S.faults source.old) (S.faults source.new) (S.last source.new) }
 {
     let mut all = Vec::new(alloc);
-    let Ok(mut buffer) = vec![in alloc; 0u8; PIECE.min(limit + 1)] else {
+    let Ok(mut buffer) = vec![in alloc; 0u8; FIRST_PIECE.min(limit + 1)] else {
         return Err(ReadStop::NoMemory);
     };
     loop {
@@ -57,6 +69,9 @@ pub fn read_all<S: Source>(alloc: Global, source: &mut S, limit: usize) -> Resul
         }
         if all.extend_from_slice(&piece[..count]).is_err() {
             return Err(ReadStop::NoMemory);
+        }
+        if count == buffer.len() {
+            widen(&mut buffer);
         }
     }
 }

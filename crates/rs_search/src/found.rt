@@ -67,6 +67,9 @@ pub struct Candidates {
     pub choosing: bool,
 }
 
+// A great odd number, by which the codes of different acts come apart.
+const CODE_FACTOR: u64 = 11_400_714_819_323_198_485;
+
 fn act_code(act: Act) -> u64
     ensures code { result ≡ act_code act }
     ensures small { result < 2 ^ 26 }
@@ -83,12 +86,13 @@ fn bucket_of(size: usize, p: &Point) -> usize
     ensures within { result < size }
     ensures is { result ≡ bucket_of size p.now }
 {
-    let size = size as u64;
-    let mut code = (u64::from(p.state) % size * 1031 + u64::from(p.above) % size) % size;
+    let mut code = u64::from(p.state)
+        .wrapping_mul(65_599)
+        .wrapping_add(u64::from(p.above));
     for act in p.pending.as_slice() {
-        code = (code * 31 + act_code(*act)) % size;
+        code = code.wrapping_mul(CODE_FACTOR).wrapping_add(act_code(*act));
     }
-    code as usize
+    (code % size as u64) as usize
 }
 
 /// Where the numbers of spots are found again: of each bucket the head of a chain of numbers, and of each number the
@@ -215,23 +219,30 @@ fn either(a: bool, b: bool) -> bool
     a || b
 }
 
+// For how many candidates there is room at once: one for each state of either machine.
+fn first_room(sub: &Machine, above: &Machine) -> usize
+    ensures { result ≤ 4000 }
+{
+    sub.states.len().min(2_000) + above.states.len().min(2_000)
+}
+
 // How many buckets there are: some for each state of either machine.
 fn bucket_count(sub: &Machine, above: &Machine) -> usize
     ensures some { 0 < result }
     ensures few { result < 2 ^ 32 }
 {
-    (sub.states.len().min(2_000) + above.states.len().min(2_000)) * 16 + 1
+    first_room(sub, above) * 16 + 1
 }
 
-// An index without numbers.
-fn empty_index(alloc: Global, size: usize) -> Result<Index, Fault>
+// An index without numbers, with room for some.
+fn empty_index(alloc: Global, size: usize, room: usize) -> Result<Index, Fault>
     ensures heads { IfOk result (λ i. i.heads.items ≡ replicate size 0) }
     ensures links { IfOk result (λ i. i.links.items ≡ []) }
     ensures err { IfErr result (λ e. e ≡ Memory) }
 {
     Ok(Index {
         heads: vec![in alloc; 0; size]?,
-        links: Vec::new(alloc),
+        links: Vec::with_capacity(alloc, room)?,
     })
 }
 
@@ -257,14 +268,15 @@ pub fn find_all(
     ensures large { IfErr result (λ e. e ≡ TooLarge → MoreThan limit (nexts_within sub.now above.now bound) (begin sub.now above.now)) }
 {
     let start = start_of(alloc, sub, above);
-    let mut index = empty_index(alloc, bucket_count(sub, above))?;
+    let mut index = empty_index(alloc, bucket_count(sub, above), first_room(sub, above))?;
     let bucket = bucket_of(index.heads.len(), &start);
     file(&mut index, bucket, 0)?;
-    let mut points = Vec::new(alloc);
+    let room = first_room(sub, above);
+    let mut points = Vec::with_capacity(alloc, room)?;
     points.push(start)?;
-    let mut rows: Vec<Row> = Vec::new(alloc);
-    let mut anys = Vec::new(alloc);
-    let mut keeps = Vec::new(alloc);
+    let mut rows: Vec<Row> = Vec::with_capacity(alloc, room)?;
+    let mut anys = Vec::with_capacity(alloc, room)?;
+    let mut keeps = Vec::with_capacity(alloc, room)?;
     let mut cut = false;
     let mut choosing = false;
     while rows.len() < points.len() {

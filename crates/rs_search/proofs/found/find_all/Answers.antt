@@ -16,7 +16,7 @@ use Rattle.rs_search.proofs.found.find_all.Goals as goal
 
 pub loop-alloc-init : goal.loop-alloc-init
 loop-alloc-init c =
-    let e : c.push.new.self.items ≡ begin c.args.sub.now c.args.above.now ∷ [] = search (rules, c.in_ok-push.ensures.items, c.new-points.ensures.items, c.start_of-start.ensures) in
+    let e : c.push.new.self.items ≡ begin c.args.sub.now c.args.above.now ∷ [] = search (rules, c.in_ok-push.ensures.items, c.in_ok-points.ensures.items, c.start_of-start.ensures) in
     let z : length (replicate {A = ℕ} c.bucket_count.result 0) ≡ c.bucket_count.result = length-replicate {A = ℕ} c.bucket_count.result 0 in
     let l : length c.in_ok-index.index.heads.items ≡ c.bucket_count.result = ap (λ (w : List ℕ). length w) c.in_ok-index.ensures.heads ∙ z in
     let m : c.len.result ≡ length c.in_ok-index.index.heads.items = grind (arith, c.len.ensures) in
@@ -26,7 +26,7 @@ loop-alloc-init c =
     let s = c.in_ok-file.ensures.size in
     let f' : AreChained (bucket_of (length c.file.new.index.heads.items)) (begin c.args.sub.now c.args.above.now ∷ []) c.file.new.index.heads.items c.file.new.index.links.items =
     subst (λ (w : ℕ). AreChained (bucket_of w) (begin c.args.sub.now c.args.above.now ∷ []) c.file.new.index.heads.items c.file.new.index.links.items) (sym s) f in
-    rw (e, c.new-rows.ensures.items, c.new-anys.ensures.items, c.new-keeps.ensures.items) (growing_begin (nexts_within c.args.sub.now c.args.above.now c.args.bound) (begin c.args.sub.now c.args.above.now), c.requires.some, ((let b = c.bucket_count.ensures.some in omega arith), (let b = c.bucket_count.ensures.few in omega arith)), f', refl, refl, refl, refl, λ n. omega arith)
+    rw (e, c.in_ok-rows.ensures.items, c.in_ok-anys.ensures.items, c.in_ok-keeps.ensures.items) (growing_begin (nexts_within c.args.sub.now c.args.above.now c.args.bound) (begin c.args.sub.now c.args.above.now), c.requires.some, ((let b = c.bucket_count.ensures.some in omega arith), (let b = c.bucket_count.ensures.few in omega arith)), f', refl, refl, refl, refl, λ n. omega arith)
 
 pub loop-alloc-preserved : goal.loop-alloc-preserved
 loop-alloc-preserved c =
