@@ -7,6 +7,7 @@ pub mod Cuts
 pub mod Scenes
 pub mod Misplaced
 pub mod Points
+pub mod Places
 pub mod Fits
 pub mod Spells
 pub mod Faults

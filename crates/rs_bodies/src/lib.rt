@@ -5,9 +5,11 @@ mod dialects;
 mod drafts;
 pub mod laws;
 mod parts;
+mod places;
 mod points;
 mod reading;
 
 pub use dialects::{Dialect, Head, Mark};
 pub use parts::read_part;
+pub use places::{Numbered, Place, PointRef};
 pub use points::{Point, Spelling};
