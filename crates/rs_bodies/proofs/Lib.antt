@@ -16,3 +16,6 @@ pub mod Placing
 pub mod Sounding
 pub mod Refusals
 pub mod Fitting
+pub mod Reaches
+pub mod ShapeForms
+pub mod ShapeGoes

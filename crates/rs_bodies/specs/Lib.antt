@@ -8,6 +8,7 @@ pub mod Scenes
 pub mod Misplaced
 pub mod Points
 pub mod Places
+pub mod Shapes
 pub mod Fits
 pub mod Spells
 pub mod Faults

@@ -8,6 +8,7 @@ mod parts;
 mod places;
 mod points;
 mod reading;
+mod shapes;
 
 pub use dialects::{Dialect, Head, Mark};
 pub use parts::read_part;
