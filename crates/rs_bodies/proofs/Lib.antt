@@ -19,3 +19,5 @@ pub mod Fitting
 pub mod Reaches
 pub mod ShapeForms
 pub mod ShapeGoes
+pub mod ShapeTrees
+pub mod ShapeGrown

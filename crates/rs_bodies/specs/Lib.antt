@@ -9,6 +9,7 @@ pub mod Misplaced
 pub mod Points
 pub mod Places
 pub mod Shapes
+pub mod Writable
 pub mod Fits
 pub mod Spells
 pub mod Faults
