@@ -21,3 +21,5 @@ pub mod ShapeForms
 pub mod ShapeGoes
 pub mod ShapeTrees
 pub mod ShapeGrown
+pub mod ShapeRecs
+pub mod ShapeWhole

@@ -57,6 +57,12 @@ top_more base n = elim (leb_tells base n) [
   | inr e ↦ (let lt : n < base = e.1 in subst (λ (z : ℕ). n ≤ z) (sym (top_low base n lt)) (omega arith))
 ]
 
+pub top_base : (base n : ℕ) → n ≤ base → top base n ≡ base
+top_base base n le = elim (leb_tells base n) [
+  | inl e ↦ (let same : n ≡ base = (let h : base ≤ n = e.1 in omega arith) in top_high base n e.1 ∙ same)
+  | inr e ↦ top_low base n e.1
+]
+
 -- ---- steps of the walk
 
 met_back : (visit : ℕ → Walk → Option Walk) (last from next : ℕ) (w : Walk) → next < from → met visit last from next w ≡ Some w

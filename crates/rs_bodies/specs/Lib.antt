@@ -10,6 +10,7 @@ pub mod Points
 pub mod Places
 pub mod Shapes
 pub mod Writable
+pub mod Bodied
 pub mod Fits
 pub mod Spells
 pub mod Faults

@@ -14,3 +14,4 @@ pub use dialects::{Dialect, Head, Mark};
 pub use parts::read_part;
 pub use places::{Numbered, Place, PointRef};
 pub use points::{Point, Spelling};
+pub use shapes::has_body;

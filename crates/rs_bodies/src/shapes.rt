@@ -1,5 +1,6 @@
-ghost use Rattle.std.specs.Prelude.{◌≡◌, ◌≤◌, ◌<◌, ◌+◌, length, Some, None, nat_lt, replicate, if◌then◌else◌};
-ghost use Rattle.rs_model.specs.declared.limits.TheConstants.{MOST_NESTING, MOST_TALKS};
+ghost use Rattle.std.specs.Prelude.{◌≡◌, ◌≤◌, ◌<◌, ◌+◌, length, Some, None, nat_lt, replicate, if◌then◌else◌, ◌↔◌, IsTrue};
+ghost use Rattle.rs_model.specs.declared.limits.TheConstants.{MOST_LABELS, MOST_NESTING, MOST_ROLES, MOST_TALKS};
+ghost use Rattle.rs_bodies.specs.Bodied.{HasBody};
 ghost use Rattle.rs_bodies.specs.Dialects.{most};
 ghost use Rattle.rs_bodies.specs.Shapes as spec;
 ghost use Rattle.rs_bodies.specs.Shapes.{IsTrailOf, AreReaches, outline, reach_of};
@@ -38,8 +39,20 @@ fn most(dialect: Dialect) -> usize
     }
 }
 
+/// Whether some body of the dialect spells the graph, with so many roles and so many labels before it: heads are numbered
+/// in order of text, each arm leads to a head round it, to the next new head or to the end, which is the last place and
+/// is there where something leads to it, new labels are numbered in order of their first places, and roles, heads,
+/// labels and the nesting of the canonical text are within their limits.
+pub fn has_body<G: Numbered>(graph: &G, dialect: Dialect, roles: u32, labels: u32) -> bool
+    requires roles { roles ≤ MOST_ROLES }
+    requires labels { labels ≤ MOST_LABELS }
+    ensures { IsTrue result ↔ HasBody dialect roles labels (G.places graph.now) (G.root graph.now) }
+{
+    is_walked(graph, dialect, roles, labels)
+}
+
 /// Whether a walk over the places in order of text meets them all.
-pub(crate) fn is_walked<G: Numbered>(graph: &G, dialect: Dialect, roles: u32, labels: u32) -> bool
+fn is_walked<G: Numbered>(graph: &G, dialect: Dialect, roles: u32, labels: u32) -> bool
     ensures { result ≡ spec.is_walked dialect (record { roles = roles; places = G.places graph.now }) (G.root graph.now) labels }
 {
     if graph.size() > MOST_PLACES {
