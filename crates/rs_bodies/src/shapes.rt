@@ -1,14 +1,14 @@
 ghost use Rattle.std.specs.Prelude.{◌≡◌, ◌≤◌, ◌<◌, ◌+◌, length, Some, None, nat_lt, replicate, if◌then◌else◌, ◌↔◌, IsTrue};
 ghost use Rattle.rs_model.specs.declared.limits.TheConstants.{MOST_LABELS, MOST_NESTING, MOST_ROLES, MOST_TALKS};
 ghost use Rattle.rs_bodies.specs.Bodied.{HasBody};
-ghost use Rattle.rs_bodies.specs.Dialects.{most};
 ghost use Rattle.rs_bodies.specs.Shapes as spec;
 ghost use Rattle.rs_bodies.specs.Shapes.{IsTrailOf, AreReaches, outline, reach_of};
 ghost use Rattle.rs_bodies.specs.declared.places.Place.TheVariants as place;
 
 use crate::dialects::{Dialect, Head};
 use crate::places::{Numbered, Place, PointRef};
-use rs_model::{Arm, MOST_ACTS, MOST_LABELS, MOST_NESTING, MOST_TALKS};
+use crate::reading::most_heads;
+use rs_model::{Arm, MOST_LABELS, MOST_NESTING, MOST_TALKS};
 
 const MOST_PLACES: usize = MOST_TALKS + 1;
 
@@ -28,15 +28,6 @@ pub struct Trail {
     pub roles: u32,
     pub last: u32,
     pub reaches: [u32; MOST_PLACES],
-}
-
-fn most(dialect: Dialect) -> usize
-    ensures { result ≡ most dialect }
-{
-    match dialect {
-        Dialect::Talks => MOST_TALKS,
-        Dialect::Acts => MOST_ACTS,
-    }
 }
 
 /// Whether some body of the dialect spells the graph, with so many roles and so many labels before it: heads are numbered
@@ -59,7 +50,7 @@ fn is_walked<G: Numbered>(graph: &G, dialect: Dialect, roles: u32, labels: u32) 
         return false;
     }
     let last = last_of(graph);
-    if last > most(dialect) {
+    if last > most_heads(dialect) {
         return false;
     }
     let trail = Trail {
