@@ -7,11 +7,15 @@ ghost use Rattle.rs_text.specs.declared.faults.TextKind.{TextKind};
 ghost use Rattle.rs_text.specs.declared.faults.TextKind.TheVariants as kind;
 ghost use Rattle.rs_text.specs.declared.faults.Wanted.{Wanted};
 ghost use Rattle.rs_text.specs.Lexemes.{signs_of};
+ghost use Rattle.rs_model.specs.declared.limits.TheConstants.{MOST_LABELS, MOST_ROLES};
 ghost use Rattle.rs_bodies.specs.declared.dialects.Dialect.{Dialect};
+ghost use Rattle.rs_bodies.specs.declared.places.Place.{Place};
+ghost use Rattle.rs_bodies.specs.Bodied.{HasBody, SpellsPlaces};
 ghost use Rattle.rs_bodies.specs.Data.{Spelling_data};
 ghost use Rattle.rs_bodies.specs.Faults.{Begins, FirstFault, IsUnexpected};
 ghost use Rattle.rs_bodies.specs.Feeding.{Answer, ReadsAs};
 ghost use Rattle.rs_bodies.specs.Spells.{Spells};
+ghost use Rattle.rs_bodies.specs.Trees.{Body};
 
 /// Whatever is read from a text, the text spells it ..
 pub fn read_text_is_spelt()
@@ -62,4 +66,9 @@ pub fn tokens_before_the_fault_begin_a_part()
 /// is what its place wants.
 pub fn expected_is_unexpected()
     ensures { (d : Dialect) (old : Names_data) (bytes : List ℕ) (at : ℕ) (wanted : Wanted) (offset : ℕ) (fault : FirstFault d old bytes at (kind.Expected wanted) offset) → IsUnexpected d (signs_of fault.before) fault.token.sign wanted }
+{}
+
+/// What a body spells with some names before it, a body of words spells with any number of names that is no less.
+pub fn spelt_graph_has_a_body()
+    ensures { (d : Dialect) (old : Names_data) (b : Body d) (roles start labels : ℕ) (places : List Place) → length old.roles ≤ roles → length old.labels ≤ labels → roles ≤ MOST_ROLES → labels ≤ MOST_LABELS → SpellsPlaces d old b places start → HasBody d roles labels places start }
 {}

@@ -184,11 +184,11 @@ fit_roles p h =
       (λ s. walked_has_body Talks p.roles p.root 0 (places_of_protocol p) few (omega arith) (both (nat_le 2 p.roles && nat_le p.roles MOST_ROLES) (is_walked Talks (record { roles = p.roles; places = places_of_protocol p }) p.root 0) (shaped_is_walked p s)).1),
     )
 
-pub shaped_exactly : (p : Protocol_data) (roles : ℕ) (fit b : Bool) → roles ≡ p.roles → fit ≡ (nat_le 2 roles && nat_le roles MOST_ROLES) → fit ≡ true → IsTrue b ↔ HasBody Talks roles 0 (places_of_protocol p) p.root → IsTrue b ↔ IsTextShaped p
-shaped_exactly p roles fit b same e h k =
+pub shaped_exactly : (p : Protocol_data) (roles many : ℕ) (fit b : Bool) → roles ≡ p.roles → many ≡ roles → fit ≡ (nat_le 2 roles && nat_le roles MOST_ROLES) → fit ≡ true → IsTrue b ↔ HasBody Talks many 0 (places_of_protocol p) p.root → IsTrue b ↔ IsTextShaped p
+shaped_exactly p roles many fit b same as_many e h k =
     let x : HasBody Talks p.roles 0 (places_of_protocol p) p.root ↔ IsTextShaped p = fit_roles p (subst (λ (z : ℕ). (nat_le 2 z && nat_le z MOST_ROLES) ≡ true) same (sym e ∙ h)) in (
-      (λ t. x.0 (subst (λ (z : ℕ). HasBody Talks z 0 (places_of_protocol p) p.root) same (k.0 t))),
-      (λ t. k.1 (subst (λ (z : ℕ). HasBody Talks z 0 (places_of_protocol p) p.root) (sym same) (x.1 t))),
+      (λ t. x.0 (subst (λ (z : ℕ). HasBody Talks z 0 (places_of_protocol p) p.root) (as_many ∙ same) (k.0 t))),
+      (λ t. k.1 (subst (λ (z : ℕ). HasBody Talks z 0 (places_of_protocol p) p.root) (sym (as_many ∙ same)) (x.1 t))),
     )
 
 pub not_shaped : (p : Protocol_data) (roles : ℕ) (fit : Bool) → roles ≡ p.roles → fit ≡ (nat_le 2 roles && nat_le roles MOST_ROLES) → fit ≡ false → IsTextShaped p → ⊥

@@ -1,5 +1,5 @@
 -- The names that a text has are enough for the machine that it spells.
-use Rattle.std.proofs.Common.{◌≡◌, ℕ, suc, ◌+◌, ◌≤◌, List, [], ◌∷◌, ◌++◌, length, Bool, true, false, Some, nat_lt, if◌then◌else◌, refl, sym, ap, ◌∙◌, subst, inl, inr}
+use Rattle.std.proofs.Common.{◌≡◌, ℕ, suc, ◌+◌, List, [], ◌∷◌, ◌++◌, length, Bool, true, false, Some, nat_lt, if◌then◌else◌, refl, sym, ap, ◌∙◌, subst, inl, inr}
 use Rattle.std.proofs.lemmas.List.Folds.{list_all-append}
 use Rattle.std.specs.List.{list_all}
 use Rattle.rs_model.specs.Data.{Machine_data, Names_data}
@@ -9,13 +9,10 @@ use Rattle.rs_model.specs.declared.machines.State.TheVariants.{Done, Puts, Takes
 use Rattle.rs_model.specs.declared.graph.Role.{Role}
 use Rattle.rs_bodies.specs.declared.dialects.Mark.{Mark}
 use Rattle.rs_bodies.specs.declared.dialects.Mark.TheVariants as mark
-use Rattle.rs_model.specs.declared.limits.TheConstants.{MOST_LABELS, MOST_ROLES}
 use Rattle.rs_text.specs.Names.{Bound, grown, is_among, place_of}
-use Rattle.rs_text.specs.Sound.{IsSound}
 use Rattle.rs_text.proofs.Gaps.{true_or_false}
 use Rattle.rs_text.proofs.Naming.{grown_stays, place_of_new, placed_by, absent_by}
 use Rattle.rs_text.proofs.Numbers.{place_below}
-use Rattle.rs_machines.specs.Canonical.{IsMachineTextShaped}
 use Rattle.rs_machines.specs.Enough.{AreEnoughFor}
 use Rattle.rs_machines.specs.Machines.{state_of, act_of, numbering, states_of, states_of_arms, done_of, names_of, machine_of}
 use Rattle.rs_machines.specs.Spells.{Fits, SpellsMachine}
@@ -116,6 +113,3 @@ tree_enough old t fits =
 pub spelt_enough : (bytes : List ℕ) (at : ℕ) (old new : Names_data) (machine : Machine_data) (until : ℕ) → SpellsMachine bytes at old new machine until → AreEnoughFor new machine
 spelt_enough bytes at old new machine until s =
     subst (λ (n : Names_data). AreEnoughFor n machine) (sym s.names_are) (subst (λ (p : Machine_data). AreEnoughFor (names_of old s.tree) p) (sym s.machine_is) (tree_enough old s.tree s.fits))
-
-pub spelt_shaped : (bytes : List ℕ) (at : ℕ) (old new : Names_data) (machine : Machine_data) (until : ℕ) → IsSound old → length old.roles ≤ MOST_ROLES → length old.labels ≤ MOST_LABELS → SpellsMachine bytes at old new machine until → IsMachineTextShaped machine
-spelt_shaped bytes at old new machine until sound roles labels s = record { bytes = bytes; at = at; old = old; sound = sound; few_roles = roles; few_labels = labels; new = new; until = until; spells = s }

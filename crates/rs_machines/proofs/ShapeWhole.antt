@@ -175,6 +175,10 @@ walked_is_shaped p h =
     let q = both (nat_lt p.role.0 MOST_ROLES) (is_walked Acts (record { roles = MOST_ROLES; places = places_of_machine p }) p.start MOST_LABELS) h in
     body_text p (ltb-true p.role.0 MOST_ROLES q.0) (walked_has_body Acts MOST_ROLES p.start MOST_LABELS (places_of_machine p) (omega arith) (omega arith) q.1)
 
+-- what a text spells with so few names is text-shaped, since a text spells it with sound ones too
+pub spelt_shaped : (bytes : List ℕ) (at : ℕ) (old new : Names_data) (machine : Machine_data) (until : ℕ) → length old.roles ≤ MOST_ROLES → length old.labels ≤ MOST_LABELS → SpellsMachine bytes at old new machine until → IsMachineTextShaped machine
+spelt_shaped bytes at old new machine until roles labels s = walked_is_shaped machine (ap is_shaped s.machine_is ∙ tree_shaped old s.tree roles labels s.fits)
+
 -- ---- the test of the role, and of the body
 
 pub shaped_exactly : (p : Machine_data) (role : Role) (fit b : Bool) → role ≡ p.role → fit ≡ nat_lt role.0 MOST_ROLES → fit ≡ true → IsTrue b ↔ HasBody Acts MOST_ROLES MOST_LABELS (places_of_machine p) p.start → IsTrue b ↔ IsMachineTextShaped p

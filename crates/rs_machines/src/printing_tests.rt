@@ -6,7 +6,7 @@ use std::alloc::Global;
 use std::test::Fail;
 
 /// The canonical text of what a text spells, or nothing.
-#[tactic(auto, using(crate::proofs::EnoughNames::spelt_enough, crate::proofs::EnoughNames::spelt_shaped))]
+#[tactic(auto, using(crate::proofs::EnoughNames::spelt_enough, crate::proofs::ShapeWhole::spelt_shaped))]
 fn printed(alloc: Global, bytes: &[u8]) -> Result<Text, NoMemory> {
     let mut names = three_roles(alloc)?;
     if rs_text::sound(&names) && names.roles.len() <= 16 && names.labels.len() <= 256 {
