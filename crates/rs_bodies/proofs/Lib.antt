@@ -18,3 +18,10 @@ pub mod Taken
 pub mod Refusals
 pub mod Fitting
 pub mod Leading
+pub mod Reaches
+pub mod ShapeForms
+pub mod ShapeGoes
+pub mod ShapeTrees
+pub mod ShapeGrown
+pub mod ShapeRecs
+pub mod ShapeWhole

@@ -7,6 +7,10 @@ pub mod Cuts
 pub mod Scenes
 pub mod Misplaced
 pub mod Points
+pub mod Places
+pub mod Shapes
+pub mod Writable
+pub mod Bodied
 pub mod Fits
 pub mod Spells
 pub mod Leads

@@ -7,12 +7,16 @@ ghost use Rattle.rs_text.specs.declared.faults.TextKind.{TextKind};
 ghost use Rattle.rs_text.specs.declared.faults.TextKind.TheVariants as kind;
 ghost use Rattle.rs_text.specs.declared.faults.Wanted.{Wanted};
 ghost use Rattle.rs_text.specs.Lexemes.{signs_of};
+ghost use Rattle.rs_model.specs.declared.limits.TheConstants.{MOST_LABELS, MOST_ROLES};
 ghost use Rattle.rs_bodies.specs.declared.dialects.Dialect.{Dialect};
+ghost use Rattle.rs_bodies.specs.declared.places.Place.{Place};
+ghost use Rattle.rs_bodies.specs.Bodied.{HasBody, SpellsPlaces};
 ghost use Rattle.rs_bodies.specs.Data.{Spelling_data};
 ghost use Rattle.rs_bodies.specs.Faults.{Begins, FirstFault, IsUnexpected};
 ghost use Rattle.rs_bodies.specs.Feeding.{Answer, ReadsAs};
 ghost use Rattle.rs_bodies.specs.Leads.{LeadsInside};
 ghost use Rattle.rs_bodies.specs.Spells.{Spells};
+ghost use Rattle.rs_bodies.specs.Trees.{Body};
 
 /// Whatever is read from a text, the text spells it ..
 pub fn read_text_is_spelt()
@@ -69,4 +73,9 @@ pub fn expected_is_unexpected()
 /// the end.
 pub fn spelt_parts_lead_inside()
     ensures { (d : Dialect) (bytes : List ℕ) (at : ℕ) (old new : Names_data) (spelling : Spelling_data) (until : ℕ) → Spells d bytes at old new spelling until → LeadsInside (length new.roles) spelling }
+{}
+
+/// What a body spells with some names before it, a body of words spells with any number of names that is no less.
+pub fn spelt_graph_has_a_body()
+    ensures { (d : Dialect) (old : Names_data) (b : Body d) (roles start labels : ℕ) (places : List Place) → length old.roles ≤ roles → length old.labels ≤ labels → roles ≤ MOST_ROLES → labels ≤ MOST_LABELS → SpellsPlaces d old b places start → HasBody d roles labels places start }
 {}

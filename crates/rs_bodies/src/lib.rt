@@ -5,9 +5,13 @@ mod dialects;
 mod drafts;
 pub mod laws;
 mod parts;
+mod places;
 mod points;
 mod reading;
+mod shapes;
 
 pub use dialects::{Dialect, Head, Mark};
 pub use parts::read_part;
+pub use places::{Numbered, Place, PointRef};
 pub use points::{Point, Spelling};
+pub use shapes::has_body;

@@ -96,7 +96,7 @@ impl<'a> Model for Reader<'a> {
 }
 
 /// Heads at most.
-fn most_acts(dialect: Dialect) -> usize
+pub(crate) fn most_heads(dialect: Dialect) -> usize
     ensures number { result ≡ most dialect }
     ensures few { result ≤ 1024 }
 {
@@ -331,7 +331,7 @@ impl<'a> Reader<'a> {
         let Some(first) = first else {
             return fault(TextKind::UnknownRole, at);
         };
-        if self.drafts.len() >= most_acts(dialect) {
+        if self.drafts.len() >= most_heads(dialect) {
             return fault(TextKind::TooManyNodes, at);
         }
         self.mode = Mode::AtTurn { from, first };
@@ -464,7 +464,7 @@ impl<'a> Reader<'a> {
     fn begin_act(&mut self, dialect: Dialect, from: Link, head: Head, at: usize) -> Result<(), Stop>
         ensures { spec.Feeds result (spec.headed dialect from head at self.old) self.old self.new }
     {
-        if self.drafts.len() >= most_acts(dialect) {
+        if self.drafts.len() >= most_heads(dialect) {
             return fault(TextKind::TooManyNodes, at);
         }
         let act = self.drafts.len() as u32;

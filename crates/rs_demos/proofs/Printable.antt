@@ -17,7 +17,7 @@ use Rattle.rs_global.specs.Shapes.{is_shaped}
 use Rattle.rs_global.proofs.ShapeWhole as protocols
 use Rattle.rs_machines.specs.Enough.{AreEnoughFor}
 use Rattle.rs_machines.specs.Machines.{state_of}
-use Rattle.rs_machines.specs.Shapes.{are_small, walks}
+use Rattle.rs_machines.specs.Shapes as machine_shapes
 use Rattle.rs_bodies.specs.declared.dialects.Mark.{Mark}
 use Rattle.rs_bodies.specs.declared.dialects.Mark.TheVariants as mark
 use Rattle.rs_machines.proofs.ShapeWhole as machines
@@ -46,7 +46,7 @@ state_named roles k (Takes p arms) = nat_lt p.0 roles && have_labels k arms
 abbrev machine_test : Names_data → Option Machine_data → Bool
 machine_test names None = true
 machine_test names (Some m) =
-    (are_small m && walks m) && (nat_lt m.role.0 (length names.roles) && list_all (state_named (length names.roles) (length names.labels)) m.states)
+    machine_shapes.is_shaped m && (nat_lt m.role.0 (length names.roles) && list_all (state_named (length names.roles) (length names.labels)) m.states)
 
 abbrev document_test : Names_data → Protocol_data → List (Option Machine_data) → Bool
 document_test names p ms =
@@ -95,10 +95,9 @@ shown names [] h = tt
 shown names (None ∷ ms) h = (tt, shown names ms h)
 shown names (Some m ∷ ms) h =
     let p = and_parts (machine_test names (Some m)) (list_all (machine_test names) ms) h in
-    let q = and_parts (are_small m && walks m) (nat_lt m.role.0 (length names.roles) && list_all (state_named (length names.roles) (length names.labels)) m.states) p.0 in
-    let w = and_parts (are_small m) (walks m) q.0 in
+    let q = and_parts (machine_shapes.is_shaped m) (nat_lt m.role.0 (length names.roles) && list_all (state_named (length names.roles) (length names.labels)) m.states) p.0 in
     let e = and_parts (nat_lt m.role.0 (length names.roles)) (list_all (state_named (length names.roles) (length names.labels)) m.states) q.1 in
-    ((machines.walked_is_shaped m w.0 w.1, enough-for names m e.0 e.1), shown names ms p.1)
+    ((machines.walked_is_shaped m q.0, enough-for names m e.0 e.1), shown names ms p.1)
 
 eq-by : (x y : ℕ) → (x == y) ≡ true → x ≡ y
 eq-by x y h = elim (eqb_tells x y) [ inl t ↦ t.1 | inr t ↦ absurd (false≢true (sym t.0 ∙ h)) ]

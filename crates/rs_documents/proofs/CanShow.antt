@@ -10,16 +10,18 @@ use Rattle.rs_documents.specs.Data.{Document_data}
 use Rattle.rs_documents.specs.Documents.{SpellsDocument}
 use Rattle.rs_documents.specs.Parts.{PartKind, Row, GoesOn, Stops, Repeats, Fails, Adds, with_part, machine_parts, derivation_parts, no_parts}
 use Rattle.rs_documents.specs.Reading.{AllHave}
+use Rattle.rs_documents.proofs.FewLabels.{protocol_few}
 use Rattle.rs_documents.proofs.PartKinds.{of_machines, of_derivations}
-use Rattle.rs_documents.proofs.Parts.{IsKind, good, keeps, none_there, row_of, set_all}
+use Rattle.rs_documents.proofs.Parts.{IsKind, good, keeps, keeps_few, none_there, row_of, set_all}
 use Rattle.rs_global.proofs.EnoughNames.{spelt_enough, spelt_shaped}
 use Rattle.rs_global.specs.Canonical.{IsTextShaped}
 use Rattle.rs_global.specs.Enough.{AreEnough}
 use Rattle.rs_machines.proofs.EnoughNames as machine_names
+use Rattle.rs_machines.proofs.ShapeWhole as machine_shapes
 use Rattle.rs_machines.specs.Canonical.{IsMachineTextShaped}
 use Rattle.rs_machines.specs.Enough.{AreEnoughFor}
 use Rattle.rs_model.specs.Data.{Names_data, Protocol_data, Machine_data}
-use Rattle.rs_model.specs.declared.limits.TheConstants.{MOST_ROLES}
+use Rattle.rs_model.specs.declared.limits.TheConstants.{MOST_LABELS, MOST_ROLES}
 use Rattle.rs_model.specs.declared.machines.Act.{Act}
 use Rattle.rs_text.specs.Sound.{IsSound}
 use Rattle.rs_text.specs.declared.faults.TextFault.{TextFault}
@@ -44,15 +46,15 @@ kept {A} kind i P more has bytes at names parts what row (Adds a next n new m pa
     let before : AllHave (P new) parts = λ k x there. more names new grows x (all k x there) in
     kept kind i P more has bytes next new (with_part kind parts part) what row g is (set_all (P new) parts (kind.role_of part).0 part before (has bytes at names new part next s))
 
--- machines
+-- machines: text-shaped where there are few names, and the names are enough
 abbrev CanBeNamed : Names_data → Machine_data → Type 0
-CanBeNamed names machine = IsMachineTextShaped machine × AreEnoughFor names machine
+CanBeNamed names machine = (length names.roles ≤ MOST_ROLES → length names.labels ≤ MOST_LABELS → IsMachineTextShaped machine) × AreEnoughFor names machine
 
 more_enough_for : (names new : Names_data) → Grows names new → (machine : Machine_data) → CanBeNamed names machine → CanBeNamed new machine
 more_enough_for names new g machine h =
     let e : length new.roles ≡ length names.roles = ap length g.roles in
     let l = g.labels in (
-      h.0,
+      (λ roles labels. h.0 (omega (arith, e, roles)) (omega (arith, l, labels))),
       record {
         role = (let a = h.1.role in omega (arith, a, e));
         peers = λ n mark peer arms s. let a = h.1.peers n mark peer arms s in omega (arith, a, e);
@@ -61,12 +63,15 @@ more_enough_for names new g machine h =
     )
 
 machine_named : (bytes : List ℕ) (at : ℕ) (old new : Names_data) (machine : Machine_data) (until : ℕ) → machine_parts.Spells bytes at old new machine until → CanBeNamed new machine
-machine_named bytes at old new machine until s = (record { bytes = bytes; at = at; old = old; new = new; until = until; spells = s }, machine_names.spelt_enough bytes at old new machine until s)
+machine_named bytes at old new machine until s =
+    let e : length new.roles ≡ length old.roles = ap length (of_machines.roles bytes at old new machine until s) in
+    let l = of_machines.labels bytes at old new machine until s in
+    ((λ roles labels. machine_shapes.spelt_shaped bytes at old new machine until (omega (arith, e, roles)) (omega (arith, l, labels)) s), machine_names.spelt_enough bytes at old new machine until s)
 
-shown : (names : Names_data) (machines : List (Option Machine_data)) → AllHave (CanBeNamed names) machines → AreShown names machines
-shown names [] all = tt
-shown names (None ∷ ms) all = (tt, shown names ms (λ k m e. all (suc k) m e))
-shown names (Some m ∷ ms) all = (all 0 m refl, shown names ms (λ k x e. all (suc k) x e))
+shown : (names : Names_data) (machines : List (Option Machine_data)) → length names.roles ≤ MOST_ROLES → length names.labels ≤ MOST_LABELS → AllHave (CanBeNamed names) machines → AreShown names machines
+shown names [] roles labels all = tt
+shown names (None ∷ ms) roles labels all = (tt, shown names ms roles labels (λ k m e. all (suc k) m e))
+shown names (Some m ∷ ms) roles labels all = let h = all 0 m refl in ((h.0 roles labels, h.1), shown names ms roles labels (λ k x e. all (suc k) x e))
 
 more_named : (names new : Names_data) → Grows names new → (machines : List (Option Machine_data)) → AllHave (CanBeNamed names) machines → AllHave (CanBeNamed new) machines
 more_named names new g machines all k m e = more_enough_for names new g m (all k m e)
@@ -125,12 +130,16 @@ showable bytes d h =
     let enough = enough_more front.names d.names d.protocol whole (spelt_enough bytes 0 front.names d.protocol front.until front.protocol_is) in
     let named = kept machine_parts of_machines CanBeNamed more_enough_for machine_named bytes front.until front.names (no_parts front.names.roles) (good middle) middle front.machines_are refl (λ n m e. absurd (none_there front.names.roles n m e)) in
     let names = ap (λ (z : Names_data). z.roles) front.protocol_is.names_are in
+    let few : length d.names.roles ≤ MOST_ROLES = subst (λ (z : List (List ℕ)). length z ≤ MOST_ROLES) (sym (whole.roles ∙ names)) front.protocol_is.fits.few_roles in
+    let few_before : length h.before.labels ≤ MOST_LABELS =
+    keeps_few machine_parts of_machines bytes front.until front.names (no_parts front.names.roles) (good middle) middle (protocol_few bytes 0 front.names d.protocol front.until front.protocol_is) front.machines_are refl in
+    let few_labels : length d.names.labels ≤ MOST_LABELS = keeps_few derivation_parts of_derivations bytes h.next h.before (no_parts h.before.roles) (good back) back few_before h.parts.derivations_are refl in
     record {
       roles = enough.roles;
-      few = subst (λ (z : List (List ℕ)). length z ≤ MOST_ROLES) (sym (whole.roles ∙ names)) front.protocol_is.fits.few_roles;
+      few = few;
       shaped = spelt_shaped bytes 0 front.names d.protocol front.until front.protocol_is;
       enough = enough;
-      machines = shown d.names d.machines (more_named h.before d.names second d.machines named);
+      machines = shown d.names d.machines few few_labels (more_named h.before d.names second d.machines named);
       derivations = kept derivation_parts of_derivations (λ names x. IsPrintable names x) more_printable derivation_printable bytes h.next h.before (no_parts h.before.roles) (good back) back h.parts.derivations_are refl (λ n x e. absurd (none_there h.before.roles n x e));
     }
 

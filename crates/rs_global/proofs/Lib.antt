@@ -6,9 +6,6 @@ pub mod CanonSame
 pub mod CanonNest
 pub mod CanonNumbers
 pub mod CanonWhole
-pub mod ShapeSteps
-pub mod ShapeGoes
-pub mod ShapeGrown
 pub mod ShapeWhole
 pub mod PrintedTrees
 pub mod NodeNames

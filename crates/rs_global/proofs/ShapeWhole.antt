@@ -1,224 +1,198 @@
--- The walk goes to its end exactly where some text reads to the protocol.
-use Rattle.std.proofs.Common.{◌≡◌, ℕ, zero, suc, ◌+◌, ◌-◌, ◌≤◌, ◌↔◌, List, [], ◌∷◌, ◌++◌, length, drop, Bool, true, false, not, ◌==◌, ◌&&◌, ◌||◌, if◌then◌else◌, nat_le, Option, Some, None, inl, inr, refl, sym, ap, ◌∙◌, subst, arith, slice_get, append-nil, length-append}
-use Rattle.std.proofs.lemmas.List.{drop_all}
-use Rattle.std.proofs.lemmas.Bool.{eq-eqb, eqb-true, le-leb, leb-true}
+-- A protocol is text-shaped exactly where a body spells its nodes.
+use Rattle.std.proofs.Common.{◌≡◌, ℕ, suc, ◌+◌, ◌<◌, ◌≤◌, ◌↔◌, List, [], ◌∷◌, ◌++◌, length, map, Bool, true, false, ◌&&◌, nat_le, refl, sym, ap, ◌∙◌, subst, arith}
+use Rattle.std.proofs.lemmas.Bool.{le-leb, leb-true}
+use Rattle.std.proofs.lemmas.List.{map-append}
 use Rattle.std.specs.Bool.{IsTrue}
-use Rattle.std.specs.List.{list_any, list_all, All}
+use Rattle.std.specs.List.{All}
 use Rattle.rs_model.specs.Data.{Protocol_data, Names_data}
+use Rattle.rs_model.specs.declared.graph.Arm.{Arm}
 use Rattle.rs_model.specs.declared.graph.Node.{Node}
 use Rattle.rs_model.specs.declared.graph.Node.TheVariants.{Finished, Talk}
-use Rattle.rs_text.proofs.Gaps.{true_or_false}
+use Rattle.rs_model.specs.declared.limits.TheConstants.{MOST_ROLES}
+use Rattle.rs_text.proofs.Basics.{both, two_true}
 use Rattle.rs_text.proofs.Naming.{decides_sound}
-use Rattle.rs_text.specs.Names.{grown}
+use Rattle.rs_text.specs.Names.{Bound, grown}
 use Rattle.rs_text.specs.Sound.{differ, IsSound}
 use Rattle.rs_text.specs.Words.{is_role_word}
-use Rattle.rs_global.specs.declared.shapes.Walk.{Walk}
+use Rattle.rs_bodies.specs.declared.dialects.Dialect.TheVariants.{Talks}
+use Rattle.rs_bodies.specs.declared.dialects.Head.{Head}
+use Rattle.rs_bodies.specs.declared.dialects.Head.TheVariants as head
+use Rattle.rs_bodies.specs.declared.places.Place.{Place}
+use Rattle.rs_bodies.specs.declared.places.Place.TheVariants as place
+use Rattle.rs_bodies.specs.Bodied.{numbered, SpellsPlaces, HasBody}
+use Rattle.rs_bodies.specs.Dialects.{sends_to}
+use Rattle.rs_bodies.specs.Fits.{body_fits}
+use Rattle.rs_bodies.specs.Graph.{labels_of, acts_in, has_end, Numbering, first_of, arm_of, arms_of}
+use Rattle.rs_bodies.specs.Places.{choice, place_of_node, places_of_protocol, end_of}
+use Rattle.rs_bodies.specs.Points.{points_of, points_of_arms}
+use Rattle.rs_bodies.specs.Scenes.{first_scene}
+use Rattle.rs_bodies.specs.Shapes.{is_walked}
+use Rattle.rs_bodies.specs.Trees.{Body, ends, again, binds, acts, offers, Branches, one, more}
+use Rattle.rs_bodies.specs.Writable as bodies
+use Rattle.rs_bodies.proofs.ShapeWhole.{spelt_is_walked, spelt_has_body, walked_has_body}
 use Rattle.rs_global.specs.Canonical.{IsTextShaped}
-use Rattle.rs_global.specs.Graph.{nodes_of, numbering, graph_of, names_of, finish_of}
+use Rattle.rs_global.specs.Graph.{talk_of, nodes_of, nodes_of_arms, numbering, graph_of, names_of, finish_of}
+use Rattle.rs_global.specs.Shapes.{is_shaped}
 use Rattle.rs_global.specs.Spells.{Fits, SpellsProtocol}
-use Rattle.rs_global.specs.Shapes.{talk_leads, leads_from, is_end_at, ends_last, last_of, met, visited, same_bool, is_whole, begin, is_shaped}
 use Rattle.rs_global.specs.Texts.{protocol_text}
 use Rattle.rs_global.specs.Trees.{ProtocolTree, roles_of}
-use Rattle.rs_global.specs.Writable.{AreWords}
-use Rattle.rs_global.proofs.CanonForms.{back_is}
-use Rattle.rs_global.proofs.CanonNest.{tree_recs, scene}
-use Rattle.rs_global.proofs.CanonOne.{is_talk, all_talks}
-use Rattle.rs_global.proofs.Existence.{nodes_length, tree_with, roles_with}
-use Rattle.rs_text.proofs.PlainNames.{plain_names, plain_count, plain_differ, plain_all, plain_role}
+use Rattle.rs_global.specs.Writable.{AreWordsIn, AreWordsInArms, AreWords}
 use Rattle.rs_global.proofs.PrintedTrees.{lone_tree_spelt}
-use Rattle.rs_global.proofs.ShapeGoes.{goes}
-use Rattle.rs_global.proofs.ShapeGrown.{Small, Grown, numbers, met_grown, visited_grown}
-use Rattle.rs_text.proofs.Basics.{some_is, both, seam}
-use Rattle.rs_bodies.specs.declared.dialects.Dialect.TheVariants.{Talks}
-use Rattle.rs_bodies.specs.Graph.{labels_of, acts_in, has_end, Numbering, first_of}
-use Rattle.rs_bodies.specs.Scenes.{first_scene}
-use Rattle.rs_bodies.specs.Fits.{body_fits}
-use Rattle.rs_bodies.proofs.Fitting.{fits_named, Recs, fits_heads}
 
--- ---- the end of a graph
+-- ---- the places of the nodes that a body spells
 
-no_end : (xs : List Node) (i : ℕ) → list_all is_talk xs ≡ true → is_end_at (slice_get xs i) ≡ false
-no_end [] i h = refl
-no_end (Finished ∷ xs) i h = absurd (cc h)
-no_end (Talk s r arms ∷ xs) zero h = refl
-no_end (Talk s r arms ∷ xs) (suc i) h = no_end xs i h
+abbrev points : List Node → List Place
+points nodes = map place_of_node nodes
 
-ends_as : (xs : List Node) (c : Bool) → list_all is_talk xs ≡ true → ends_last (xs ++ finish_of c) ≡ c
-ends_as xs true h =
-    let size : length (xs ++ Finished ∷ []) ≡ length xs + 1 = length-append xs (Finished ∷ []) in
-    let last : length (xs ++ Finished ∷ []) - 1 ≡ length xs = omega arith in
-    ap (λ z. is_end_at (slice_get (xs ++ Finished ∷ []) z)) last ∙ ap is_end_at (seam Node xs Finished [])
-ends_as xs false h = ap ends_last (append-nil xs) ∙ no_end xs (length xs - 1) h
+mutual
+  places_are : (n : Numbering) (b : Body Talks) (bound : Bound) (k : ℕ) → points (nodes_of n b bound k) ≡ map place.Point (points_of Talks n b bound k)
+  places_are n ends bound k = refl
+  places_are n (again x) bound k = refl
+  places_are n (binds x b) bound k = places_are n b ((x, k) ∷ bound) k
+  places_are n (acts s (sends_to r) l sort b) bound k = ap (λ z. place_of_node (talk_of n s r (arm_of n l sort (first_of Talks b bound (suc k) n.last) ∷ [])) ∷ z) (places_are n b bound (suc k))
+  places_are n (offers s (sends_to r) arms) bound k = ap (λ z. place_of_node (talk_of n s r (arms_of Talks n arms bound (suc k))) ∷ z) (arm_places_are n arms bound (suc k))
 
-last_if : (c : Bool) (n k : ℕ) → (c ≡ true → n - 1 ≡ k) → (c ≡ false → n ≡ k) → (if c then n - 1 else n) ≡ k
-last_if true n k f g = f refl
-last_if false n k f g = g refl
+  arm_places_are : (n : Numbering) (arms : Branches Talks) (bound : Bound) (k : ℕ) → points (nodes_of_arms n arms bound k) ≡ map place.Point (points_of_arms Talks n arms bound k)
+  arm_places_are n (one l sort b) bound k = places_are n b bound k
+  arm_places_are n (more l sort b arms) bound k =
+      map-append place_of_node (nodes_of n b bound k) (nodes_of_arms n arms bound (k + acts_in Talks b))
+      ∙ ap (λ z. z ++ points (nodes_of_arms n arms bound (k + acts_in Talks b))) (places_are n b bound k)
+      ∙ ap (λ z. map place.Point (points_of Talks n b bound k) ++ z) (arm_places_are n arms bound (k + acts_in Talks b))
+      ∙ sym (map-append place.Point (points_of Talks n b bound k) (points_of_arms Talks n arms bound (k + acts_in Talks b)))
 
-finish_length : (c : Bool) → c ≡ true → length (finish_of c) ≡ 1
-finish_length true e = refl
-finish_length false e = absurd (cc e)
+end_is : (c : Bool) → points (finish_of c) ≡ end_of c
+end_is true = refl
+end_is false = refl
 
-no_finish : (c : Bool) → c ≡ false → length (finish_of c) ≡ 0
-no_finish true e = absurd (cc e)
-no_finish false e = refl
+whole_are : (n : Numbering) (b : Body Talks) (c : Bool) → points (nodes_of n b [] 0 ++ finish_of c) ≡ map place.Point (points_of Talks n b [] 0) ++ end_of c
+whole_are n b c =
+    map-append place_of_node (nodes_of n b [] 0) (finish_of c) ∙ ap (λ z. z ++ points (finish_of c)) (places_are n b [] 0) ∙ ap (λ z. map place.Point (points_of Talks n b [] 0) ++ z) (end_is c)
 
-last_as : (xs : List Node) (c : Bool) → list_all is_talk xs ≡ true → last_of (xs ++ finish_of c) ≡ length xs
-last_as xs c h =
-    let all : length (xs ++ finish_of c) ≡ length xs + length (finish_of c) = length-append xs (finish_of c) in
-    let test : ends_last (xs ++ finish_of c) ≡ c = ends_as xs c h in
-    last_if (ends_last (xs ++ finish_of c)) (length (xs ++ finish_of c)) (length xs)
-    (λ e. let one : length (finish_of c) ≡ 1 = finish_length c (sym test ∙ e) in omega arith)
-    (λ e. let none : length (finish_of c) ≡ 0 = no_finish c (sym test ∙ e) in omega arith)
+-- ---- .. tell the nodes
 
--- ---- a text-shaped protocol is walked to its end
+abbrev talk_back : Head → List Arm → Node
+talk_back (head.Talk s r) arms = Talk s r arms
+talk_back (head.Act p m) arms = Finished
 
-shaped_by : (p : Protocol_data) (o : Option Walk) → 2 ≤ p.roles → p.roles ≤ 16 → last_of p.nodes ≤ 1024 → met (visited (suc (last_of p.nodes)) p 0) (last_of p.nodes) 0 p.root begin ≡ o → is_whole p o ≡ true → is_shaped p ≡ true
-shaped_by p o two few small e w = rw (le-leb 2 p.roles two, le-leb p.roles 16 few, le-leb (last_of p.nodes) 1024 small) (ap (is_whole p) e ∙ w)
+abbrev node_back : Place → Node
+node_back place.End = Finished
+node_back (place.Point p) = talk_back p.head p.arms
 
-same_true : (a b : Bool) → a ≡ b → same_bool a b ≡ true
-same_true true b e = sym e
-same_true false b e = ap not (sym e)
+back_again : (nodes : List Node) → map node_back (points nodes) ≡ nodes
+back_again [] = refl
+back_again (Finished ∷ nodes) = ap (λ z. Finished ∷ z) (back_again nodes)
+back_again (Talk s r arms ∷ nodes) = ap (λ z. Talk s r arms ∷ z) (back_again nodes)
 
-true_same : (a b : Bool) → same_bool a b ≡ true → a ≡ b
-true_same true b e = sym e
-true_same false true e = absurd (cc e)
-true_same false false e = refl
+same_nodes : (xs ys : List Node) → points xs ≡ points ys → xs ≡ ys
+same_nodes xs ys h = sym (back_again xs) ∙ ap (map node_back) h ∙ back_again ys
 
-whole_by : (p : Protocol_data) (count labels : ℕ) (ended : Bool) → count ≡ last_of p.nodes → ended ≡ ends_last p.nodes → is_whole p (Some (record { count = count; labels = labels; ended = ended })) ≡ true
-whole_by p count labels ended e f = rw (eq-eqb count (last_of p.nodes) e) (same_true ended (ends_last p.nodes) f)
+-- ---- from a text to a body
 
-finish_leads : (c : Bool) (v : ℕ) → list_any (talk_leads v) (finish_of c) ≡ false
-finish_leads true v = refl
-finish_leads false v = refl
+tree_spells : (t : ProtocolTree) → Fits t → SpellsPlaces Talks (record { roles = roles_of t; labels = [] }) t.body (places_of_protocol (graph_of t)) (graph_of t).root
+tree_spells t fits = record { fits = fits.body; places_are = whole_are (numbering t) t.body (has_end Talks t.body); start_is = refl }
 
-graph_shaped : (t : ProtocolTree) → Fits t → is_shaped (graph_of t) ≡ true
-graph_shaped t fits =
-    let p : Protocol_data = graph_of t in
-    let m : Numbering = numbering t in
-    let xs : List Node = nodes_of m t.body [] 0 in
-    let c : Bool = has_end Talks t.body in
-    let all : list_all is_talk xs ≡ true = all_talks m t.body [] 0 in
-    let size : length xs ≡ acts_in Talks t.body = nodes_length m t.body [] 0 in
-    let last : last_of p.nodes ≡ acts_in Talks t.body = last_as xs c all ∙ size in
-    let few : 0 + acts_in Talks t.body ≤ 1024 = fits_heads Talks t.body (first_scene (roles_of t) []) fits.body (omega arith) in
-    let sixteen : length (roles_of t) ≤ 16 = fits.few_roles in
+tree_shaped : (t : ProtocolTree) → Fits t → is_shaped (graph_of t) ≡ true
+tree_shaped t fits =
     let two : length (roles_of t) ≡ suc (suc (length t.further)) = refl in
-    let recs : Recs Talks (λ v. leads_from p.nodes v v) t.body false 0 = tree_recs m p t.body c refl refl (fits_named Talks t.body (first_scene (roles_of t) []) fits.body) (λ v. leads_from p.nodes v v) (λ v h. back_is p v h) in
-    let run : met (visited (suc (last_of p.nodes)) p 0) (acts_in Talks t.body) 0 p.root begin ≡ Some (record { count = 0 + acts_in Talks t.body; labels = length (grown [] (labels_of Talks t.body)); ended = false || c }) =
-    goes m p (record { roles = refl; last = last }) t.body (suc (last_of p.nodes)) [] false 0 0 0 0 false [] [] [] (finish_of c) refl refl (omega arith) (omega arith) (omega arith) (omega arith) (omega arith) (λ e. absurd (cc e)) fits.body (omega arith) recs
-    (fits_named Talks t.body (first_scene (roles_of t) []) fits.body) (λ x n e. absurd (cc e)) (λ x n e lt. lt) refl (λ v lo hi. finish_leads c v) in
-    shaped_by p (Some (record { count = 0 + acts_in Talks t.body; labels = length (grown [] (labels_of Talks t.body)); ended = false || c })) (omega arith) (omega arith) (omega arith)
-    (ap (λ z. met (visited (suc (last_of p.nodes)) p 0) z 0 p.root begin) last ∙ run)
-    (whole_by p (0 + acts_in Talks t.body) (length (grown [] (labels_of Talks t.body))) (false || c) (omega arith) (sym (ends_as xs c all)))
+    let few : length (roles_of t) ≤ MOST_ROLES = fits.few_roles in
+    two_true (nat_le 2 (length (roles_of t)) && nat_le (length (roles_of t)) MOST_ROLES) (is_walked Talks (record { roles = length (roles_of t); places = places_of_protocol (graph_of t) }) (graph_of t).root 0)
+    (two_true (nat_le 2 (length (roles_of t))) (nat_le (length (roles_of t)) MOST_ROLES) (le-leb 2 (length (roles_of t)) (omega arith)) (le-leb (length (roles_of t)) MOST_ROLES few))
+    (spelt_is_walked Talks (record { roles = roles_of t; labels = [] }) t.body (length (roles_of t)) (graph_of t).root 0 (places_of_protocol (graph_of t)) (omega arith) (omega arith) (omega arith) (tree_spells t fits))
 
 pub shaped_is_walked : (p : Protocol_data) → IsTextShaped p → is_shaped p ≡ true
-shaped_is_walked p s = ap is_shaped s.spells.graph_is ∙ graph_shaped s.spells.tree s.spells.fits
+shaped_is_walked p s = ap is_shaped s.spells.graph_is ∙ tree_shaped s.spells.tree s.spells.fits
 
--- ---- what is walked to its end has a text
+-- ---- from a body to a text
 
-ends_at : (o : Option Node) → is_end_at o ≡ true → o ≡ Some Finished
-ends_at None h = absurd (cc h)
-ends_at (Some Finished) h = refl
-ends_at (Some (Talk s r arms)) h = absurd (cc h)
+mutual
+  worded : (b : Body Talks) → bodies.AreWordsIn Talks b → AreWordsIn b
+  worded ends h = h
+  worded (again x) h = h
+  worded (binds x b) h = (h.0, worded b h.1)
+  worded (acts s (sends_to r) l sort b) h = (h.0, h.1, h.2, worded b h.3)
+  worded (offers s (sends_to r) arms) h = (h.0, h.1, worded_arms arms h.2)
 
-drop_end : (nodes : List Node) → slice_get nodes (length nodes - 1) ≡ Some Finished → drop (length nodes - 1) nodes ≡ Finished ∷ []
-drop_end [] e = absurd (cc e)
-drop_end (x ∷ []) e = ap (λ z. z ∷ []) (some_is x Finished e)
-drop_end (x ∷ y ∷ nodes) e =
-    let one : length (x ∷ y ∷ nodes) - 1 ≡ suc (length (y ∷ nodes) - 1) = omega arith in
-    ap (λ z. drop z (x ∷ y ∷ nodes)) one ∙ drop_end (y ∷ nodes) (ap (λ z. slice_get (x ∷ y ∷ nodes) z) (sym one) ∙ e)
+  worded_arms : (arms : Branches Talks) → bodies.AreWordsInArms Talks arms → AreWordsInArms arms
+  worded_arms (one l sort b) h = (h.0, worded b h.1)
+  worded_arms (more l sort b arms) h = (h.0, worded b h.1, worded_arms arms h.2)
 
-drop_last : (nodes : List Node) → drop (last_of nodes) nodes ≡ finish_of (ends_last nodes)
-drop_last nodes = elim (true_or_false (ends_last nodes)) [
-  | inl e ↦ ap (λ z. drop (if z then length nodes - 1 else length nodes) nodes) e ∙ drop_end nodes (ends_at (slice_get nodes (length nodes - 1)) e) ∙ ap finish_of (sym e)
-  | inr e ↦ ap (λ z. drop (if z then length nodes - 1 else length nodes) nodes) e ∙ drop_all (length nodes) nodes (omega arith) ∙ ap finish_of (sym e)
-]
+record Lined (roles : List (List ℕ)) : Type 0 where
+  first : List ℕ
+  second : List ℕ
+  further : List (List ℕ)
+  are : first ∷ second ∷ further ≡ roles
 
-record Walked (p : Protocol_data) : Type 0 where
-  two : 2 ≤ p.roles
-  few : p.roles ≤ 16
-  small : last_of p.nodes ≤ 1024
-  end : Walk
-  run : met (visited (suc (last_of p.nodes)) p 0) (last_of p.nodes) 0 p.root begin ≡ Some end
-  count : end.count ≡ last_of p.nodes
-  ended : end.ended ≡ ends_last p.nodes
+lined : (roles : List (List ℕ)) → 2 ≤ length roles → Lined roles
+lined [] h = absurd (omega arith)
+lined (x ∷ []) h = absurd (omega arith)
+lined (x ∷ y ∷ xs) h = record { first = x; second = y; further = xs; are = refl }
 
-some_end : (p : Protocol_data) (o : Option Walk) → is_whole p o ≡ true → (u : Walk) × (o ≡ Some u) × (u.count ≡ last_of p.nodes) × (u.ended ≡ ends_last p.nodes)
-some_end p None h = absurd (cc h)
-some_end p (Some u) h =
-    let q = both (u.count == last_of p.nodes) (same_bool u.ended (ends_last p.nodes)) h in
-    (u, refl, eqb-true u.count (last_of p.nodes) q.0, true_same u.ended (ends_last p.nodes) q.1)
-
-is_walked : (p : Protocol_data) → is_shaped p ≡ true → Walked p
-is_walked p h =
-    let o : Option Walk = met (visited (suc (last_of p.nodes)) p 0) (last_of p.nodes) 0 p.root begin in
-    let q3 = both (nat_le 2 p.roles && nat_le p.roles 16 && nat_le (last_of p.nodes) 1024) (is_whole p o) h in
-    let q2 = both (nat_le 2 p.roles && nat_le p.roles 16) (nat_le (last_of p.nodes) 1024) q3.0 in
-    let q1 = both (nat_le 2 p.roles) (nat_le p.roles 16) q2.0 in
-    let e = some_end p o q3.1 in
-    record { two = leb-true 2 p.roles q1.0; few = leb-true p.roles 16 q1.1; small = leb-true (last_of p.nodes) 1024 q2.1; end = e.0; run = e.1; count = e.2; ended = e.3 }
+no_labels : (labels : List (List ℕ)) → length labels ≡ 0 → labels ≡ []
+no_labels [] h = refl
+no_labels (x ∷ xs) h = absurd (omega arith)
 
 abbrev graph : ℕ → List Node → ℕ → Protocol_data
 graph roles nodes root = record { roles = roles; nodes = nodes; root = root }
 
-abbrev numbered : List (List ℕ) → List (List ℕ) → ℕ → Numbering
-numbered roles labels last = record { names = record { roles = roles; labels = labels }; last = last }
+abbrev names_by : List (List ℕ) → List (List ℕ) → Names_data
+names_by roles labels = record { roles = roles; labels = labels }
 
-abbrev names_by : ℕ → Names_data
-names_by n = record { roles = plain_names 82 n; labels = [] }
-
-roles_sound : (n : ℕ) → n ≤ 16 → IsSound (names_by n)
-roles_sound n few = (decides_sound (names_by n)).0 (rw (plain_differ 82 n (omega arith), plain_all is_role_word 82 n (λ i lt. plain_role i (omega arith))) refl)
-
-record Text (p : Protocol_data) : Type 0 where
-  tree : ProtocolTree
-  fits : Fits tree
-  words : AreWords tree
-  graph_is : graph_of tree ≡ p
-
-has_text : (p : Protocol_data) → Walked p → Text p
-has_text p w =
-    let small : Small p = record { roles = w.few; last = w.small } in
-    let g : Grown p [] 0 begin w.end p.root = met_grown p [] 0 (visited (suc (last_of p.nodes)) p 0) 0 p.root begin w.end small (visited_grown (suc (last_of p.nodes)) p [] 0 small) (omega arith) (omega arith) (omega arith) (λ v lt e. absurd (omega arith)) (λ lt. absurd (omega arith)) w.run in
-    let names : List (List ℕ) = plain_names 82 p.roles in
-    let t : ProtocolTree = tree_with names g.body in
-    let size : length names ≡ p.roles = plain_count 82 p.roles in
-    let two : 2 ≤ p.roles = w.two in
-    let few : p.roles ≤ 16 = w.few in
-    let roles : roles_of t ≡ names = roles_with names g.body (omega arith) in
-    let count : w.end.count ≡ last_of p.nodes = w.count in
-    let counts : 0 + acts_in Talks g.body ≡ w.end.count = g.counts in
-    let talks_are : acts_in Talks g.body ≡ last_of p.nodes = omega arith in
-    let same : numbering t ≡ numbers p w.end.labels = ap (λ z. numbered z (grown [] (labels_of Talks g.body)) (acts_in Talks g.body)) roles ∙ ap (λ z. numbered names z (acts_in Talks g.body)) g.labels ∙ ap (λ z. numbered names (plain_names 108 w.end.labels) z) talks_are in
-    let end : has_end Talks g.body ≡ ends_last p.nodes = sym g.ended ∙ w.ended in
-    let nodes : nodes_of (numbering t) g.body [] 0 ++ finish_of (has_end Talks g.body) ≡ p.nodes =
-    ap (λ z. nodes_of z g.body [] 0 ++ finish_of (has_end Talks g.body)) same
-    ∙ ap (λ z. nodes_of (numbers p w.end.labels) g.body [] 0 ++ z) (ap finish_of end ∙ sym (drop_last p.nodes) ∙ ap (λ z. drop z p.nodes) (sym count))
-    ∙ sym (g.parts w.end.labels (omega arith) g.room) in
-    let sixteen : length (roles_of t) ≡ p.roles = ap length roles ∙ size in
+body_text : (p : Protocol_data) → 2 ≤ p.roles → p.roles ≤ MOST_ROLES → HasBody Talks p.roles 0 (places_of_protocol p) p.root → IsTextShaped p
+body_text p two few h =
+    let count : length h.old.roles ≡ p.roles = h.roles_are in
+    let line : Lined h.old.roles = lined h.old.roles (omega arith) in
+    let t : ProtocolTree = record { first = line.first; second = line.second; further = line.further; body = h.body } in
+    let roles : roles_of t ≡ h.old.roles = line.are in
+    let labels : h.old.labels ≡ [] = no_labels h.old.labels h.labels_are in
+    let size : length (roles_of t) ≡ p.roles = ap length roles ∙ count in
+    let named : numbered Talks h.old h.body ≡ numbering t =
+    ap (λ z. numbered Talks (names_by h.old.roles z) h.body) labels ∙ ap (λ z. numbered Talks (names_by z []) h.body) (sym roles) in
+    let nodes : nodes_of (numbering t) h.body [] 0 ++ finish_of (has_end Talks h.body) ≡ p.nodes =
+    same_nodes (nodes_of (numbering t) h.body [] 0 ++ finish_of (has_end Talks h.body)) p.nodes
+    (whole_are (numbering t) h.body (has_end Talks h.body) ∙ ap (λ z. map place.Point (points_of Talks z h.body [] 0) ++ end_of (has_end Talks h.body)) (sym named) ∙ sym h.spells.places_are) in
+    let graph_is : graph_of t ≡ p =
+    ap (λ z. graph z (nodes_of (numbering t) h.body [] 0 ++ finish_of (has_end Talks h.body)) (first_of Talks h.body [] 0 (acts_in Talks h.body))) size
+    ∙ ap (λ z. graph p.roles z (first_of Talks h.body [] 0 (acts_in Talks h.body))) nodes ∙ ap (λ z. graph p.roles p.nodes z) (sym h.spells.start_is) in
+    let fits : Fits t = record {
+      roles_differ = ap differ roles ∙ (both _ _ (both _ _ ((decides_sound h.old).1 h.sound)).0).0;
+      few_roles = omega arith;
+      body = ap (λ z. body_fits Talks h.body (first_scene z [])) roles ∙ ap (λ z. body_fits Talks h.body (first_scene h.old.roles z)) (sym labels) ∙ h.spells.fits;
+    } in
+    let words : AreWords t = record { roles = subst (λ (z : List (List ℕ)). All (λ x. is_role_word x ≡ true) z) (sym roles) h.sound.roles_are_words; body = worded h.body h.words } in
     record {
-      tree = t;
-      fits = record {
-        roles_differ = ap differ roles ∙ plain_differ 82 p.roles (omega arith);
-        few_roles = omega arith;
-        body = ap (λ z. body_fits Talks g.body (scene z [] 0 0 [])) roles ∙ g.fits;
-      };
-      words = record { roles = subst (λ (z : List (List ℕ)). All (λ x. is_role_word x ≡ true) z) (sym roles) (roles_sound p.roles few).roles_are_words; body = g.words };
-      graph_is = ap (λ z. graph z (nodes_of (numbering t) g.body [] 0 ++ finish_of (has_end Talks g.body)) (first_of Talks g.body [] 0 (acts_in Talks g.body))) sixteen
-          ∙ ap (λ z. graph p.roles z (first_of Talks g.body [] 0 (acts_in Talks g.body))) nodes
-          ∙ ap (λ z. graph p.roles p.nodes z) (ap (λ z. first_of Talks g.body [] 0 z) talks_are ∙ g.first);
+      bytes = protocol_text t;
+      at = 0;
+      names = names_of t;
+      until = length (protocol_text t);
+      spells = subst (λ (z : Protocol_data). SpellsProtocol (protocol_text t) 0 (names_of t) z (length (protocol_text t))) graph_is (lone_tree_spelt t words fits);
     }
 
 pub walked_is_shaped : (p : Protocol_data) → is_shaped p ≡ true → IsTextShaped p
 walked_is_shaped p h =
-    let t : Text p = has_text p (is_walked p h) in
-    record {
-      bytes = protocol_text t.tree;
-      at = 0;
-      names = names_of t.tree;
-      until = length (protocol_text t.tree);
-      spells = subst (λ (z : Protocol_data). SpellsProtocol (protocol_text t.tree) 0 (names_of t.tree) z (length (protocol_text t.tree))) t.graph_is (lone_tree_spelt t.tree t.words t.fits);
-    }
+    let q = both (nat_le 2 p.roles && nat_le p.roles MOST_ROLES) (is_walked Talks (record { roles = p.roles; places = places_of_protocol p }) p.root 0) h in
+    let r = both (nat_le 2 p.roles) (nat_le p.roles MOST_ROLES) q.0 in
+    let few : p.roles ≤ MOST_ROLES = leb-true p.roles MOST_ROLES r.1 in
+    body_text p (leb-true 2 p.roles r.0) few (walked_has_body Talks p.roles p.root 0 (places_of_protocol p) few (omega arith) q.1)
 
-pub shaped_exactly : (p : Protocol_data) → IsTrue (is_shaped p) ↔ IsTextShaped p
-shaped_exactly p = (walked_is_shaped p, shaped_is_walked p)
+-- ---- the test of the roles, and of the body
+
+fit_roles : (p : Protocol_data) → (nat_le 2 p.roles && nat_le p.roles MOST_ROLES) ≡ true → HasBody Talks p.roles 0 (places_of_protocol p) p.root ↔ IsTextShaped p
+fit_roles p h =
+    let r = both (nat_le 2 p.roles) (nat_le p.roles MOST_ROLES) h in
+    let few : p.roles ≤ MOST_ROLES = leb-true p.roles MOST_ROLES r.1 in (
+      body_text p (leb-true 2 p.roles r.0) few,
+      (λ s. walked_has_body Talks p.roles p.root 0 (places_of_protocol p) few (omega arith) (both (nat_le 2 p.roles && nat_le p.roles MOST_ROLES) (is_walked Talks (record { roles = p.roles; places = places_of_protocol p }) p.root 0) (shaped_is_walked p s)).1),
+    )
+
+pub shaped_exactly : (p : Protocol_data) (roles many : ℕ) (fit b : Bool) → roles ≡ p.roles → many ≡ roles → fit ≡ (nat_le 2 roles && nat_le roles MOST_ROLES) → fit ≡ true → IsTrue b ↔ HasBody Talks many 0 (places_of_protocol p) p.root → IsTrue b ↔ IsTextShaped p
+shaped_exactly p roles many fit b same as_many e h k =
+    let x : HasBody Talks p.roles 0 (places_of_protocol p) p.root ↔ IsTextShaped p = fit_roles p (subst (λ (z : ℕ). (nat_le 2 z && nat_le z MOST_ROLES) ≡ true) same (sym e ∙ h)) in (
+      (λ t. x.0 (subst (λ (z : ℕ). HasBody Talks z 0 (places_of_protocol p) p.root) (as_many ∙ same) (k.0 t))),
+      (λ t. k.1 (subst (λ (z : ℕ). HasBody Talks z 0 (places_of_protocol p) p.root) (sym (as_many ∙ same)) (x.1 t))),
+    )
+
+pub not_shaped : (p : Protocol_data) (roles : ℕ) (fit : Bool) → roles ≡ p.roles → fit ≡ (nat_le 2 roles && nat_le roles MOST_ROLES) → fit ≡ false → IsTextShaped p → ⊥
+not_shaped p roles fit same e h s =
+    let q : (nat_le 2 roles && nat_le roles MOST_ROLES) ≡ true =
+    subst (λ (z : ℕ). (nat_le 2 z && nat_le z MOST_ROLES) ≡ true) (sym same) (both (nat_le 2 p.roles && nat_le p.roles MOST_ROLES) (is_walked Talks (record { roles = p.roles; places = places_of_protocol p }) p.root 0) (shaped_is_walked p s)).0 in
+    cc (h, e, q)

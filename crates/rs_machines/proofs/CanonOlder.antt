@@ -11,7 +11,7 @@ use Rattle.rs_text.proofs.Naming.{place_stands}
 use Rattle.rs_text.specs.Names.{Bound, bound_to, grown, is_among, place_of}
 use Rattle.rs_text.specs.Sound.{IsSound}
 use Rattle.rs_bodies.specs.declared.dialects.Mark.{Mark}
-use Rattle.rs_machines.specs.Canonical.{IsMachineTextShaped, IsCanonical, IsCanonicalMachineText}
+use Rattle.rs_machines.specs.Canonical.{IsCanonical, IsCanonicalMachineText}
 use Rattle.rs_machines.specs.Enough.{AreEnoughFor}
 use Rattle.rs_machines.specs.Machines.{states_of, numbering, machine_of, names_of, done_of}
 use Rattle.rs_machines.specs.Spells.{Fits, SpellsMachine}
@@ -21,10 +21,10 @@ use Rattle.rs_machines.specs.Trees.{MachineTree}
 use Rattle.rs_machines.proofs.CanonForms.{goes_back, back_is, Writing, role_as, label_as, sort_as, canon, canon_arms, Low, low_rec, low_up, HasNames, HasNamesArms}
 use Rattle.rs_machines.proofs.CanonNest.{scene, deeper_within, wrapped_fits, RolesKnown, offers_fit, name_fits, tree_recs}
 use Rattle.rs_machines.proofs.CanonNumbers.{role_known}
-use Rattle.rs_machines.proofs.CanonOne.{canonical_tree_is_one}
+use Rattle.rs_machines.proofs.CanonOne.{spelt_tree_is_one}
 use Rattle.rs_machines.proofs.CanonSame.{Inv, InvAll, inv_rec, inv_act, inv_all, opened_for, canon_acts, canon_labels}
-use Rattle.rs_machines.proofs.CanonWhole.{readable, is_fine}
-use Rattle.rs_machines.proofs.EnoughNames.{with_name, placed, spelt_enough, spelt_shaped}
+use Rattle.rs_machines.proofs.CanonWhole.{spelt_readable, is_fine}
+use Rattle.rs_machines.proofs.EnoughNames.{with_name, placed, spelt_enough}
 use Rattle.rs_machines.proofs.Existence.{tree_has_names, writing_of, canonical_tree, canonical_of}
 use Rattle.rs_machines.proofs.PrintedTrees.{lone_tree_spelt}
 use Rattle.rs_text.proofs.Naming.{grown_stays}
@@ -179,15 +179,14 @@ tree_older old t fits enough =
 pub printed_text_is_read_with_the_names_before : (bytes : List ℕ) (at : ℕ) (old new : Names_data) (machine : Machine_data) (until : ℕ) (text : List ℕ) → SpellsMachine bytes at old new machine until → IsSound new → IsCanonicalMachineText new machine text → SpellsMachine text 0 old new machine (length text)
 printed_text_is_read_with_the_names_before bytes at old new machine until text s sound c =
     let enough : AreEnoughFor new machine = spelt_enough bytes at old new machine until s in
-    let shaped : IsMachineTextShaped machine = spelt_shaped bytes at old new machine until s in
     let n : new ≡ names_of old s.tree = s.names_are in
     let g : machine ≡ machine_of old s.tree = s.machine_is in
     let enough' : AreEnoughFor (names_of old s.tree) (machine_of old s.tree) = subst (λ (z : Names_data). AreEnoughFor z (machine_of old s.tree)) n (subst (λ (z : Machine_data). AreEnoughFor new z) g enough) in
     let there : IsCanonical new machine (canonical_tree old s.tree new) = subst (λ (z : Machine_data). IsCanonical new z (canonical_tree old s.tree new)) (sym g) (canonical_of old s.tree new s.fits (subst (λ (z : Machine_data). AreEnoughFor new z) g enough)) in
-    let same : canonical_tree old s.tree new ≡ c.tree = canonical_tree_is_one new machine (canonical_tree old s.tree new) c.tree shaped there c.canonical in
+    let same : canonical_tree old s.tree new ≡ c.tree = spelt_tree_is_one bytes at old new new machine until (canonical_tree old s.tree new) c.tree s there c.canonical in
     let o : Older old new machine c.tree = subst (λ (z : MachineTree). Older old new machine z) same
     (subst (λ (z : Names_data). Older old z machine (canonical_tree old s.tree z)) (sym n) (subst (λ (z : Machine_data). Older old (names_of old s.tree) z (canonical_tree old s.tree (names_of old s.tree))) (sym g) (tree_older old s.tree s.fits enough'))) in
-    let r = readable new machine c.tree shaped sound enough c.canonical in
+    let r = spelt_readable bytes at old new new machine until c.tree s sound enough c.canonical in
     let spelt : machine_of old c.tree ≡ machine = ap (λ z. machine_by z c.tree) (o.names_are ∙ sym r.names_are) ∙ r.spells in
     subst (λ (z : List ℕ). SpellsMachine z 0 old new machine (length z)) (sym c.is)
     (subst (λ (z : Names_data). SpellsMachine (machine_text c.tree) 0 old z machine (length (machine_text c.tree))) o.names_are

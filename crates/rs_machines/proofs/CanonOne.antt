@@ -6,11 +6,12 @@ use Rattle.rs_model.specs.declared.machines.State.TheVariants.{Done}
 use Rattle.rs_model.specs.declared.graph.Role.{Role}
 use Rattle.rs_model.specs.declared.values.Sort.{Sort}
 use Rattle.rs_machines.specs.Texts.{machine_text}
+use Rattle.rs_machines.specs.Spells.{SpellsMachine}
 use Rattle.rs_machines.specs.Trees.{MachineTree}
 use Rattle.rs_machines.specs.Machines.{state_of}
 use Rattle.rs_bodies.specs.declared.dialects.Mark.{Mark}
 use Rattle.rs_machines.proofs.Acts.{no_act, act_parts}
-use Rattle.rs_machines.proofs.EndsLast.{EndsLast, shaped_ends_last}
+use Rattle.rs_machines.proofs.EndsLast.{EndsLast, spelt_ends_last}
 use Rattle.rs_machines.specs.Canonical.{IsMachineTextShaped, IsActOf, IsArmOf, IsOneArm, AreArms, Draws, DrawsAct, DrawsArms, IsCanonical, IsCanonicalMachineText}
 use Rattle.rs_text.proofs.Basics.{some_is}
 use Rattle.rs_bodies.specs.declared.dialects.Dialect.TheVariants.{Acts}
@@ -148,9 +149,12 @@ mutual
 tree_is : (x y : MachineTree) → x.role ≡ y.role → x.body ≡ y.body → x ≡ y
 tree_is x y e f = ap (λ z. record { role = z; body = x.body }) e ∙ ap (λ z. record { role = y.role; body = z }) f
 
+pub spelt_tree_is_one : (bytes : List ℕ) (at : ℕ) (old new names : Names_data) (machine : Machine_data) (until : ℕ) (x y : MachineTree) → SpellsMachine bytes at old new machine until → IsCanonical names machine x → IsCanonical names machine y → x ≡ y
+spelt_tree_is_one bytes at old new names machine until x y s h k =
+    tree_is x y (some_is x.role y.role (sym h.role ∙ k.role)) (same_body x.body y.body names machine 0 machine.start (spelt_ends_last bytes at old new machine until s) (λ n e. omega arith) h.body k.body)
+
 pub canonical_tree_is_one : (names : Names_data) (machine : Machine_data) (x y : MachineTree) → IsMachineTextShaped machine → IsCanonical names machine x → IsCanonical names machine y → x ≡ y
-canonical_tree_is_one names machine x y shaped h k =
-    tree_is x y (some_is x.role y.role (sym h.role ∙ k.role)) (same_body x.body y.body names machine 0 machine.start (shaped_ends_last machine shaped) (λ n e. omega arith) h.body k.body)
+canonical_tree_is_one names machine x y shaped h k = spelt_tree_is_one shaped.bytes shaped.at shaped.old shaped.new names machine shaped.until x y shaped.spells h k
 
 pub canonical_text_is_one : (names : Names_data) (machine : Machine_data) (text other : List ℕ) → IsMachineTextShaped machine → IsCanonicalMachineText names machine text → IsCanonicalMachineText names machine other → text ≡ other
 canonical_text_is_one names machine text other shaped h k = h.is ∙ ap machine_text (canonical_tree_is_one names machine h.tree k.tree shaped h.canonical k.canonical) ∙ sym k.is

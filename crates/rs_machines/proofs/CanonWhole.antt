@@ -15,7 +15,7 @@ use Rattle.rs_machines.specs.Writable.{AreWords, AreWordsIn, AreWordsInArms}
 use Rattle.rs_text.specs.Lexemes.{next_lexeme}
 use Rattle.rs_machines.specs.Canonical.{IsMachineTextShaped, IsCanonical, IsCanonicalMachineText}
 use Rattle.rs_machines.proofs.CanonForms.{goes_back, back_is, Writing, role_as, label_as, sort_as, wrapped, canon, canon_arms, Low, low_rec, low_up, HasRole, HasLabel, HasNames, HasNamesArms}
-use Rattle.rs_machines.proofs.CanonOne.{canonical_tree_is_one}
+use Rattle.rs_machines.proofs.CanonOne.{spelt_tree_is_one}
 use Rattle.rs_machines.proofs.CanonSame.{fine, Same, same, SameNumbers, canon_acts, canon_end}
 use Rattle.rs_machines.proofs.CanonNest.{tree_recs, canon_fits, canon_grown}
 use Rattle.rs_machines.proofs.CanonNumbers.{role_place, label_place, role_known, label_known, Sound, sound_parts}
@@ -143,15 +143,16 @@ of_tree old t names fits sound enough =
     let r : Ready old t names = record { fits = fits; enough = enough; sound = sound_parts names sound } in
     record { fits = written_fits old t names r; words = written_words old t names r; spells = written_machine old t names r; names_are = written_names old t names enough }
 
-pub readable : (names : Names_data) (machine : Machine_data) (tree : MachineTree) → IsMachineTextShaped machine → IsSound names → AreEnoughFor names machine → IsCanonical names machine tree → IsReadable names machine tree
-readable names machine tree shaped sound enough canonical =
-    let s = shaped.spells in
-    let old = shaped.old in
+pub spelt_readable : (bytes : List ℕ) (at : ℕ) (old new names : Names_data) (machine : Machine_data) (until : ℕ) (tree : MachineTree) → SpellsMachine bytes at old new machine until → IsSound names → AreEnoughFor names machine → IsCanonical names machine tree → IsReadable names machine tree
+spelt_readable bytes at old new names machine until tree s sound enough canonical =
     let g : machine ≡ machine_of old s.tree = s.machine_is in
     let enough' : AreEnoughFor names (machine_of old s.tree) = subst (λ (z : Machine_data). AreEnoughFor names z) g enough in
     let there : IsCanonical names machine (canonical_tree old s.tree names) = subst (λ (z : Machine_data). IsCanonical names z (canonical_tree old s.tree names)) (sym g) (canonical_of old s.tree names s.fits enough') in
-    let same_tree : canonical_tree old s.tree names ≡ tree = canonical_tree_is_one names machine (canonical_tree old s.tree names) tree shaped there canonical in
+    let same_tree : canonical_tree old s.tree names ≡ tree = spelt_tree_is_one bytes at old new names machine until (canonical_tree old s.tree names) tree s there canonical in
     subst (λ (z : MachineTree). IsReadable names machine z) same_tree (subst (λ (z : Machine_data). IsReadable names z (canonical_tree old s.tree names)) (sym g) (of_tree old s.tree names s.fits sound enough'))
+
+pub readable : (names : Names_data) (machine : Machine_data) (tree : MachineTree) → IsMachineTextShaped machine → IsSound names → AreEnoughFor names machine → IsCanonical names machine tree → IsReadable names machine tree
+readable names machine tree shaped sound enough canonical = spelt_readable shaped.bytes shaped.at shaped.old shaped.new names machine shaped.until tree shaped.spells sound enough canonical
 
 pub canonical_tree_fits : (names : Names_data) (machine : Machine_data) (tree : MachineTree) → IsMachineTextShaped machine → IsSound names → AreEnoughFor names machine → IsCanonical names machine tree → Fits names tree
 canonical_tree_fits names machine tree a b c d = (readable names machine tree a b c d).fits

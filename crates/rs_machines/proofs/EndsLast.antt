@@ -11,6 +11,7 @@ use Rattle.rs_text.specs.Names.{Bound}
 use Rattle.rs_machines.specs.Trees.{MachineTree}
 use Rattle.rs_machines.specs.Machines.{state_of, act_of, states_of, states_of_arms, numbering, machine_of, done_of}
 use Rattle.rs_machines.specs.Canonical.{IsMachineTextShaped}
+use Rattle.rs_machines.specs.Spells.{SpellsMachine}
 use Rattle.rs_bodies.specs.declared.dialects.Mark.{Mark}
 use Rattle.rs_machines.proofs.Acts.{is_act, acts_are, no_act}
 use Rattle.rs_text.proofs.Basics.{some_is, first_true, second_true, two_true}
@@ -59,5 +60,8 @@ tree_ends_last old t n k s r arms e f =
     let b = act_before (states_of (numbering old t) t.body [] 0) (has_end Acts t.body) k s r arms f in
     omega arith
 
+pub spelt_ends_last : (bytes : List ℕ) (at : ℕ) (old new : Names_data) (p : Machine_data) (until : ℕ) → SpellsMachine bytes at old new p until → EndsLast p
+spelt_ends_last bytes at old new p until s = subst EndsLast (sym s.machine_is) (tree_ends_last old s.tree)
+
 pub shaped_ends_last : (p : Machine_data) → IsMachineTextShaped p → EndsLast p
-shaped_ends_last p shaped = subst EndsLast (sym shaped.spells.machine_is) (tree_ends_last shaped.old shaped.spells.tree)
+shaped_ends_last p shaped = spelt_ends_last shaped.bytes shaped.at shaped.old shaped.new p shaped.until shaped.spells

@@ -13,7 +13,6 @@ use Rattle.rs_text.specs.Names.{Bound, grown, is_among, place_of}
 use Rattle.rs_text.proofs.Gaps.{true_or_false}
 use Rattle.rs_text.proofs.Naming.{grown_stays, place_of_new, placed_by, absent_by}
 use Rattle.rs_text.proofs.Numbers.{place_below}
-use Rattle.rs_machines.specs.Canonical.{IsMachineTextShaped}
 use Rattle.rs_machines.specs.Enough.{AreEnoughFor}
 use Rattle.rs_machines.specs.Machines.{state_of, act_of, numbering, states_of, states_of_arms, done_of, names_of, machine_of}
 use Rattle.rs_machines.specs.Spells.{Fits, SpellsMachine}
@@ -114,6 +113,3 @@ tree_enough old t fits =
 pub spelt_enough : (bytes : List ℕ) (at : ℕ) (old new : Names_data) (machine : Machine_data) (until : ℕ) → SpellsMachine bytes at old new machine until → AreEnoughFor new machine
 spelt_enough bytes at old new machine until s =
     subst (λ (n : Names_data). AreEnoughFor n machine) (sym s.names_are) (subst (λ (p : Machine_data). AreEnoughFor (names_of old s.tree) p) (sym s.machine_is) (tree_enough old s.tree s.fits))
-
-pub spelt_shaped : (bytes : List ℕ) (at : ℕ) (old new : Names_data) (machine : Machine_data) (until : ℕ) → SpellsMachine bytes at old new machine until → IsMachineTextShaped machine
-spelt_shaped bytes at old new machine until s = record { bytes = bytes; at = at; old = old; new = new; until = until; spells = s }

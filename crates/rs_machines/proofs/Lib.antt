@@ -16,9 +16,6 @@ pub mod CanonNumbers
 pub mod CanonWhole
 pub mod Printed
 pub mod BackFlags
-pub mod ShapeSteps
-pub mod ShapeGoes
-pub mod ShapeGrown
 pub mod ShapeWhole
 pub mod CanonOlder
 pub mod Spelt

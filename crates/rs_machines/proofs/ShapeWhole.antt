@@ -1,235 +1,194 @@
--- The walk goes to its end exactly where some text reads to the machine.
-use Rattle.std.proofs.Common.{◌≡◌, ℕ, zero, suc, ◌+◌, ◌-◌, ◌<◌, ◌≤◌, ◌↔◌, List, [], ◌∷◌, ◌++◌, length, drop, Bool, true, false, not, ◌==◌, ◌||◌, if◌then◌else◌, nat_le, Option, Some, None, inl, inr, refl, sym, ap, ◌∙◌, subst, arith, slice_get, append-nil, length-append}
-use Rattle.std.proofs.lemmas.List.{drop_all}
-use Rattle.std.proofs.lemmas.Bool.{eq-eqb, eqb-true, le-leb, leb-true, ltb-true}
+-- A machine is text-shaped exactly where a body spells its states.
+use Rattle.std.proofs.Common.{◌≡◌, ℕ, suc, ◌+◌, ◌<◌, ◌≤◌, ◌↔◌, List, [], ◌∷◌, ◌++◌, length, map, Bool, true, false, ◌&&◌, nat_lt, Option, Some, None, slice_get, get_or, refl, sym, ap, ◌∙◌, subst, arith}
+use Rattle.std.proofs.lemmas.Bool.{lt-ltb, ltb-true}
+use Rattle.std.proofs.lemmas.List.{map-append}
+use Rattle.std.proofs.lemmas.Option.{slice_get-get_or}
 use Rattle.std.specs.Bool.{IsTrue}
-use Rattle.std.specs.List.{list_any, list_all}
+use Rattle.std.specs.List.{list_all}
 use Rattle.rs_model.specs.Data.{Machine_data, Names_data}
 use Rattle.rs_model.specs.declared.graph.Arm.{Arm}
 use Rattle.rs_model.specs.declared.graph.Role.{Role}
+use Rattle.rs_model.specs.declared.limits.TheConstants.{MOST_LABELS, MOST_ROLES}
 use Rattle.rs_model.specs.declared.machines.State.{State}
 use Rattle.rs_model.specs.declared.machines.State.TheVariants.{Done, Puts, Takes}
-use Rattle.rs_text.proofs.Gaps.{true_or_false}
-use Rattle.rs_text.proofs.Naming.{among}
+use Rattle.rs_text.proofs.Basics.{both, two_true, one_of}
+use Rattle.rs_text.proofs.Naming.{decides_sound, among, place_at}
+use Rattle.rs_text.specs.Names.{Bound, grown, is_among, number_or, place_of}
+use Rattle.rs_text.specs.Sound.{differ, are_sound, IsSound}
+use Rattle.rs_text.specs.Words.{is_word, is_role_word}
+use Rattle.rs_bodies.specs.declared.dialects.Dialect.TheVariants.{Acts}
 use Rattle.rs_bodies.specs.declared.dialects.Mark.{Mark}
 use Rattle.rs_bodies.specs.declared.dialects.Mark.TheVariants as mark
-use Rattle.rs_machines.specs.declared.shapes.Walk.{Walk}
+use Rattle.rs_bodies.specs.declared.dialects.Head.TheVariants as head
+use Rattle.rs_bodies.specs.declared.places.Place.{Place}
+use Rattle.rs_bodies.specs.declared.places.Place.TheVariants as place
+use Rattle.rs_bodies.specs.Bodied.{numbered, SpellsPlaces, HasBody}
+use Rattle.rs_bodies.specs.Dialects.{with_mark}
+use Rattle.rs_bodies.specs.Graph.{labels_of, acts_in, has_end, Numbering, role_of, first_of, arm_of, arms_of}
+use Rattle.rs_bodies.specs.Places.{choice, place_of_state, places_of_machine, end_of}
+use Rattle.rs_bodies.specs.Points.{points_of, points_of_arms}
+use Rattle.rs_bodies.specs.Shapes.{is_walked}
+use Rattle.rs_bodies.specs.Trees.{Body, ends, again, binds, acts, offers, Branches, one, more}
+use Rattle.rs_bodies.specs.Writable as bodies
+use Rattle.rs_bodies.proofs.ShapeWhole.{spelt_is_walked, walked_has_body}
 use Rattle.rs_machines.specs.Canonical.{IsMachineTextShaped}
-use Rattle.rs_machines.specs.Machines.{state_of, states_of, numbering, machine_of, names_of, done_of}
+use Rattle.rs_machines.specs.Machines.{state_of, act_of, states_of, states_of_arms, numbering, machine_of, names_of, done_of}
+use Rattle.rs_machines.specs.Parts.{state_at}
+use Rattle.rs_machines.specs.Shapes.{is_shaped}
 use Rattle.rs_machines.specs.Spells.{Fits, SpellsMachine}
-use Rattle.rs_machines.specs.Shapes.{is_small_role, is_small_arm, is_small_state, are_small, act_leads, leads_from, is_end_at, ends_last, last_of, met, visited, same_bool, is_whole, begin, walks}
 use Rattle.rs_machines.specs.Texts.{machine_text}
 use Rattle.rs_machines.specs.Trees.{MachineTree}
-use Rattle.rs_machines.specs.Writable.{AreWords}
-use Rattle.rs_machines.proofs.Acts.{is_act}
-use Rattle.rs_machines.proofs.CanonForms.{back_is}
-use Rattle.rs_machines.proofs.CanonNest.{tree_recs}
-use Rattle.rs_machines.proofs.EndsLast.{all_acts}
-use Rattle.rs_machines.proofs.Existence.{states_length}
-use Rattle.rs_text.proofs.PlainNames.{plain_name, plain_names, plain_place, plain_role}
+use Rattle.rs_machines.specs.Writable.{AreWordsIn, AreWordsInArms, AreWords}
 use Rattle.rs_machines.proofs.PrintedTrees.{lone_tree_spelt}
-use Rattle.rs_machines.proofs.ShapeGoes.{goes}
-use Rattle.rs_machines.proofs.ShapeGrown.{Plain, Grown, numbers, met_grown, visited_grown, role_numbered}
-use Rattle.rs_text.proofs.Basics.{some_is, both, seam}
-use Rattle.rs_bodies.specs.declared.dialects.Dialect.TheVariants.{Acts}
-use Rattle.rs_bodies.specs.Graph.{acts_in, has_end, Numbering, first_of}
-use Rattle.rs_bodies.specs.Scenes.{first_scene}
-use Rattle.rs_bodies.proofs.Fitting.{fits_named, Recs, fits_heads}
+use Rattle.rs_machines.proofs.SpeltShapes.{known_by}
 
--- ---- the end of a machine
+-- ---- the places of the states that a body spells
 
-no_end : (xs : List State) (i : ℕ) → list_all is_act xs ≡ true → is_end_at (slice_get xs i) ≡ false
-no_end [] i h = refl
-no_end (Done ∷ xs) i h = absurd (cc h)
-no_end (Puts p arms ∷ xs) zero h = refl
-no_end (Takes p arms ∷ xs) zero h = refl
-no_end (Puts p arms ∷ xs) (suc i) h = no_end xs i h
-no_end (Takes p arms ∷ xs) (suc i) h = no_end xs i h
+abbrev points : List State → List Place
+points states = map place_of_state states
 
-ends_as : (xs : List State) (c : Bool) → list_all is_act xs ≡ true → ends_last (xs ++ done_of c) ≡ c
-ends_as xs true h =
-    let size : length (xs ++ Done ∷ []) ≡ length xs + 1 = length-append xs (Done ∷ []) in
-    let last : length (xs ++ Done ∷ []) - 1 ≡ length xs = omega arith in
-    ap (λ z. is_end_at (slice_get (xs ++ Done ∷ []) z)) last ∙ ap is_end_at (seam State xs Done [])
-ends_as xs false h = ap ends_last (append-nil xs) ∙ no_end xs (length xs - 1) h
+act_place : (m : Mark) (p : Role) (arms : List Arm) → place_of_state (state_of m p arms) ≡ choice (head.Act p m) arms
+act_place mark.Puts p arms = refl
+act_place mark.Takes p arms = refl
 
-last_if : (c : Bool) (n k : ℕ) → (c ≡ true → n - 1 ≡ k) → (c ≡ false → n ≡ k) → (if c then n - 1 else n) ≡ k
-last_if true n k f g = f refl
-last_if false n k f g = g refl
+mutual
+  places_are : (n : Numbering) (b : Body Acts) (bound : Bound) (k : ℕ) → points (states_of n b bound k) ≡ map place.Point (points_of Acts n b bound k)
+  places_are n ends bound k = refl
+  places_are n (again x) bound k = refl
+  places_are n (binds x b) bound k = places_are n b ((x, k) ∷ bound) k
+  places_are n (acts s (with_mark m) l sort b) bound k =
+      ap (λ z. z ∷ points (states_of n b bound (suc k))) (act_place m (role_of n s) (arm_of n l sort (first_of Acts b bound (suc k) n.last) ∷ []))
+      ∙ ap (λ z. choice (head.Act (role_of n s) m) (arm_of n l sort (first_of Acts b bound (suc k) n.last) ∷ []) ∷ z) (places_are n b bound (suc k))
+  places_are n (offers s (with_mark m) arms) bound k =
+      ap (λ z. z ∷ points (states_of_arms n arms bound (suc k))) (act_place m (role_of n s) (arms_of Acts n arms bound (suc k)))
+      ∙ ap (λ z. choice (head.Act (role_of n s) m) (arms_of Acts n arms bound (suc k)) ∷ z) (arm_places_are n arms bound (suc k))
 
-done_length : (c : Bool) → c ≡ true → length (done_of c) ≡ 1
-done_length true e = refl
-done_length false e = absurd (cc e)
+  arm_places_are : (n : Numbering) (arms : Branches Acts) (bound : Bound) (k : ℕ) → points (states_of_arms n arms bound k) ≡ map place.Point (points_of_arms Acts n arms bound k)
+  arm_places_are n (one l sort b) bound k = places_are n b bound k
+  arm_places_are n (more l sort b arms) bound k =
+      map-append place_of_state (states_of n b bound k) (states_of_arms n arms bound (k + acts_in Acts b))
+      ∙ ap (λ z. z ++ points (states_of_arms n arms bound (k + acts_in Acts b))) (places_are n b bound k)
+      ∙ ap (λ z. map place.Point (points_of Acts n b bound k) ++ z) (arm_places_are n arms bound (k + acts_in Acts b))
+      ∙ sym (map-append place.Point (points_of Acts n b bound k) (points_of_arms Acts n arms bound (k + acts_in Acts b)))
 
-no_done : (c : Bool) → c ≡ false → length (done_of c) ≡ 0
-no_done true e = absurd (cc e)
-no_done false e = refl
+end_is : (c : Bool) → points (done_of c) ≡ end_of c
+end_is true = refl
+end_is false = refl
 
-last_as : (xs : List State) (c : Bool) → list_all is_act xs ≡ true → last_of (xs ++ done_of c) ≡ length xs
-last_as xs c h =
-    let all : length (xs ++ done_of c) ≡ length xs + length (done_of c) = length-append xs (done_of c) in
-    let test : ends_last (xs ++ done_of c) ≡ c = ends_as xs c h in
-    last_if (ends_last (xs ++ done_of c)) (length (xs ++ done_of c)) (length xs)
-    (λ e. let one : length (done_of c) ≡ 1 = done_length c (sym test ∙ e) in omega arith)
-    (λ e. let none : length (done_of c) ≡ 0 = no_done c (sym test ∙ e) in omega arith)
+whole_are : (n : Numbering) (b : Body Acts) (c : Bool) → points (states_of n b [] 0 ++ done_of c) ≡ map place.Point (points_of Acts n b [] 0) ++ end_of c
+whole_are n b c =
+    map-append place_of_state (states_of n b [] 0) (done_of c) ∙ ap (λ z. z ++ points (done_of c)) (places_are n b [] 0) ∙ ap (λ z. map place.Point (points_of Acts n b [] 0) ++ z) (end_is c)
 
--- ---- a text-shaped machine is walked to its end
+-- ---- .. tell the states
 
-walks_by : (p : Machine_data) (o : Option Walk) → last_of p.states ≤ 256 → met (visited (suc (last_of p.states)) p 0) (last_of p.states) 0 p.start begin ≡ o → is_whole p o ≡ true → walks p ≡ true
-walks_by p o small e w = rw (le-leb (last_of p.states) 256 small) (ap (is_whole p) e ∙ w)
+abbrev state_back : Place → State
+state_back place.End = Done
+state_back (place.Point p) = state_at p
 
-same_true : (a b : Bool) → a ≡ b → same_bool a b ≡ true
-same_true true b e = sym e
-same_true false b e = ap not (sym e)
+back_again : (states : List State) → map state_back (points states) ≡ states
+back_again [] = refl
+back_again (Done ∷ states) = ap (λ z. Done ∷ z) (back_again states)
+back_again (Puts p arms ∷ states) = ap (λ z. Puts p arms ∷ z) (back_again states)
+back_again (Takes p arms ∷ states) = ap (λ z. Takes p arms ∷ z) (back_again states)
 
-true_same : (a b : Bool) → same_bool a b ≡ true → a ≡ b
-true_same true b e = sym e
-true_same false true e = absurd (cc e)
-true_same false false e = refl
+same_states : (xs ys : List State) → points xs ≡ points ys → xs ≡ ys
+same_states xs ys h = sym (back_again xs) ∙ ap (map state_back) h ∙ back_again ys
 
-whole_by : (p : Machine_data) (count : ℕ) (ended : Bool) → count ≡ last_of p.states → ended ≡ ends_last p.states → is_whole p (Some (record { count = count; ended = ended })) ≡ true
-whole_by p count ended e f = rw (eq-eqb count (last_of p.states) e) (same_true ended (ends_last p.states) f)
+-- ---- from a text to a body
 
-done_leads : (c : Bool) (v : ℕ) → list_any (act_leads v) (done_of c) ≡ false
-done_leads true v = refl
-done_leads false v = refl
+tree_spells : (old : Names_data) (t : MachineTree) → Fits old t → SpellsPlaces Acts old t.body (places_of_machine (machine_of old t)) (machine_of old t).start
+tree_spells old t fits = record { fits = fits.body; places_are = whole_are (numbering old t) t.body (has_end Acts t.body); start_is = refl }
 
-tree_walks : (old : Names_data) (t : MachineTree) → Fits old t → walks (machine_of old t) ≡ true
-tree_walks old t fits =
+tree_shaped : (old : Names_data) (t : MachineTree) → length old.roles ≤ MOST_ROLES → length old.labels ≤ MOST_LABELS → Fits old t → is_shaped (machine_of old t) ≡ true
+tree_shaped old t roles labels fits =
     let p : Machine_data = machine_of old t in
-    let m : Numbering = numbering old t in
-    let xs : List State = states_of m t.body [] 0 in
-    let c : Bool = has_end Acts t.body in
-    let all : list_all is_act xs ≡ true = all_acts m t.body [] 0 in
-    let size : length xs ≡ acts_in Acts t.body = states_length m t.body [] 0 in
-    let last : last_of p.states ≡ acts_in Acts t.body = last_as xs c all ∙ size in
-    let few : 0 + acts_in Acts t.body ≤ 256 = fits_heads Acts t.body (first_scene old.roles old.labels) fits.body (omega arith) in
-    let recs : Recs Acts (λ v. leads_from p.states v v) t.body false 0 = tree_recs m p t.body c refl refl (fits_named Acts t.body (first_scene old.roles old.labels) fits.body) (λ v. leads_from p.states v v) (λ v h. back_is p v h) in
-    let run : met (visited (suc (last_of p.states)) p 0) (acts_in Acts t.body) 0 p.start begin ≡ Some (record { count = 0 + acts_in Acts t.body; ended = false || c }) =
-    goes m p last t.body (suc (last_of p.states)) [] false 0 0 0 0 false old.roles old.labels [] (done_of c) refl refl (omega arith) (omega arith) (omega arith) (omega arith) (omega arith) (λ e. absurd (cc e)) fits.body recs
-    (fits_named Acts t.body (first_scene old.roles old.labels) fits.body) (λ x n e. absurd (cc e)) (λ x n e lt. lt) (λ v lo hi. done_leads c v) in
-    walks_by p (Some (record { count = 0 + acts_in Acts t.body; ended = false || c })) (omega arith)
-    (ap (λ z. met (visited (suc (last_of p.states)) p 0) z 0 p.start begin) last ∙ run)
-    (whole_by p (0 + acts_in Acts t.body) (false || c) (omega arith) (sym (ends_as xs c all)))
+    let known : p.role.0 < length old.roles = known_by (place_of t.role old.roles) t.role old.roles refl fits.role in
+    two_true (nat_lt p.role.0 MOST_ROLES) (is_walked Acts (record { roles = MOST_ROLES; places = places_of_machine p }) p.start MOST_LABELS) (lt-ltb p.role.0 MOST_ROLES (omega arith))
+    (spelt_is_walked Acts old t.body MOST_ROLES p.start MOST_LABELS (places_of_machine p) roles labels (omega arith) (tree_spells old t fits))
 
-pub shaped_is_walked : (p : Machine_data) → IsMachineTextShaped p → walks p ≡ true
-shaped_is_walked p s = ap walks s.spells.machine_is ∙ tree_walks s.old s.spells.tree s.spells.fits
+pub shaped_is_walked : (p : Machine_data) → IsMachineTextShaped p → is_shaped p ≡ true
+shaped_is_walked p s = ap is_shaped s.spells.machine_is ∙ tree_shaped s.old s.spells.tree s.few_roles s.few_labels s.spells.fits
 
--- ---- what is walked to its end has a text
+-- ---- from a body to a text
 
-ends_at : (o : Option State) → is_end_at o ≡ true → o ≡ Some Done
-ends_at None h = absurd (cc h)
-ends_at (Some Done) h = refl
-ends_at (Some (Puts p arms)) h = absurd (cc h)
-ends_at (Some (Takes p arms)) h = absurd (cc h)
+mutual
+  worded : (b : Body Acts) → bodies.AreWordsIn Acts b → AreWordsIn b
+  worded ends h = h
+  worded (again x) h = h
+  worded (binds x b) h = (h.0, worded b h.1)
+  worded (acts s (with_mark m) l sort b) h = (h.0, h.2, worded b h.3)
+  worded (offers s (with_mark m) arms) h = (h.0, worded_arms arms h.2)
 
-drop_end : (states : List State) → slice_get states (length states - 1) ≡ Some Done → drop (length states - 1) states ≡ Done ∷ []
-drop_end [] e = absurd (cc e)
-drop_end (x ∷ []) e = ap (λ z. z ∷ []) (some_is x Done e)
-drop_end (x ∷ y ∷ states) e =
-    let one : length (x ∷ y ∷ states) - 1 ≡ suc (length (y ∷ states) - 1) = omega arith in
-    ap (λ z. drop z (x ∷ y ∷ states)) one ∙ drop_end (y ∷ states) (ap (λ z. slice_get (x ∷ y ∷ states) z) (sym one) ∙ e)
-
-drop_last : (states : List State) → drop (last_of states) states ≡ done_of (ends_last states)
-drop_last states = elim (true_or_false (ends_last states)) [
-  | inl e ↦ ap (λ z. drop (if z then length states - 1 else length states) states) e ∙ drop_end states (ends_at (slice_get states (length states - 1)) e) ∙ ap done_of (sym e)
-  | inr e ↦ ap (λ z. drop (if z then length states - 1 else length states) states) e ∙ drop_all (length states) states (omega arith) ∙ ap done_of (sym e)
-]
-
-record Walked (p : Machine_data) : Type 0 where
-  small : last_of p.states ≤ 256
-  end : Walk
-  run : met (visited (suc (last_of p.states)) p 0) (last_of p.states) 0 p.start begin ≡ Some end
-  count : end.count ≡ last_of p.states
-  ended : end.ended ≡ ends_last p.states
-
-some_end : (p : Machine_data) (o : Option Walk) → is_whole p o ≡ true → (u : Walk) × (o ≡ Some u) × (u.count ≡ last_of p.states) × (u.ended ≡ ends_last p.states)
-some_end p None h = absurd (cc h)
-some_end p (Some u) h =
-    let q = both (u.count == last_of p.states) (same_bool u.ended (ends_last p.states)) h in
-    (u, refl, eqb-true u.count (last_of p.states) q.0, true_same u.ended (ends_last p.states) q.1)
-
-is_walked : (p : Machine_data) → walks p ≡ true → Walked p
-is_walked p h =
-    let o : Option Walk = met (visited (suc (last_of p.states)) p 0) (last_of p.states) 0 p.start begin in
-    let q = both (nat_le (last_of p.states) 256) (is_whole p o) h in
-    let e = some_end p o q.1 in
-    record { small = leb-true (last_of p.states) 256 q.0; end = e.0; run = e.1; count = e.2; ended = e.3 }
-
-abbrev names_by : ℕ → ℕ → Names_data
-names_by r l = record { roles = plain_names 82 r; labels = plain_names 108 l }
-
-small_at : (xs : List State) (n : ℕ) (x : State) → list_all is_small_state xs ≡ true → slice_get xs n ≡ Some x → is_small_state x ≡ true
-small_at [] n x h e = absurd (cc e)
-small_at (y ∷ xs) zero x h e = subst (λ (z : State). is_small_state z ≡ true) (some_is y x e) (both (is_small_state y) (list_all is_small_state xs) h).0
-small_at (y ∷ xs) (suc n) x h e = small_at xs n x (both (is_small_state y) (list_all is_small_state xs) h).1 e
-
-small_act : (y : Mark) (p : Role) (arms : List Arm) → is_small_state (state_of y p arms) ≡ true → (is_small_role p ≡ true) × (list_all is_small_arm arms ≡ true)
-small_act mark.Puts p arms h = both (is_small_role p) (list_all is_small_arm arms) h
-small_act mark.Takes p arms h = both (is_small_role p) (list_all is_small_arm arms) h
-
--- so many names are enough
-plain_by : (p : Machine_data) (r l : ℕ) → 256 ≤ r → 65536 ≤ l → r < 4294967296 → l < 4294967296 → last_of p.states ≤ 256 → list_all is_small_state p.states ≡ true → Plain p (names_by r l)
-plain_by p r l a b c d last small = record {
-  last = last;
-  role_at = λ i lt. plain_place 82 r i (omega arith) (omega arith);
-  label_at = λ i lt. plain_place 108 l i (omega arith) (omega arith);
-  peers = λ n y peer arms e. ltb-true peer.0 256 (small_act y peer arms (small_at p.states n (state_of y peer arms) small e)).0;
-  labels = λ n y peer arms e. (small_act y peer arms (small_at p.states n (state_of y peer arms) small e)).1;
-}
+  worded_arms : (arms : Branches Acts) → bodies.AreWordsInArms Acts arms → AreWordsInArms arms
+  worded_arms (one l sort b) h = (h.0, worded b h.1)
+  worded_arms (more l sort b arms) h = (h.0, worded b h.1, worded_arms arms h.2)
 
 abbrev machine : Role → List State → ℕ → Machine_data
 machine role states start = record { role = role; states = states; start = start }
 
-abbrev numbered : List (List ℕ) → List (List ℕ) → ℕ → Numbering
-numbered roles labels last = record { names = record { roles = roles; labels = labels }; last = last }
+abbrev role_number : ℕ → Role
+role_number n = record { 0 = n }
 
-record Text (p : Machine_data) (names : Names_data) : Type 0 where
-  tree : MachineTree
-  fits : Fits names tree
-  words : AreWords tree
-  spells : machine_of names tree ≡ p
+-- a role by its name
+record Named (old : Names_data) (r : Role) : Type 0 where
+  name : List ℕ
+  there : is_among name old.roles ≡ true
+  place : place_of name old.roles ≡ Some r.0
+  word : is_role_word name ≡ true
 
-has_text : (p : Machine_data) (names : Names_data) → Plain p names → p.role.0 < 256 → Walked p → Text p names
-has_text p names plain few w =
-    let g : Grown p names [] 0 begin w.end p.start = met_grown p names [] 0 (visited (suc (last_of p.states)) p 0) 0 p.start begin w.end plain (visited_grown (suc (last_of p.states)) p names [] 0 plain) (omega arith) (omega arith) (λ v lt e. absurd (omega arith)) (λ lt. absurd (omega arith)) w.run in
-    let t : MachineTree = record { role = plain_name 82 p.role.0; body = g.body } in
-    let count : w.end.count ≡ last_of p.states = w.count in
-    let counts : 0 + acts_in Acts g.body ≡ w.end.count = g.counts in
-    let acts_are : acts_in Acts g.body ≡ last_of p.states = omega arith in
-    let same : numbering names t ≡ numbers p names = ap (λ z. numbered names.roles z (acts_in Acts g.body)) g.labels ∙ ap (λ z. numbered names.roles names.labels z) acts_are in
-    let end : has_end Acts g.body ≡ ends_last p.states = sym g.ended ∙ w.ended in
-    let states : states_of (numbering names t) g.body [] 0 ++ done_of (has_end Acts g.body) ≡ p.states =
-    ap (λ z. states_of z g.body [] 0 ++ done_of (has_end Acts g.body)) same
-    ∙ ap (λ z. states_of (numbers p names) g.body [] 0 ++ z) (ap done_of end ∙ sym (drop_last p.states) ∙ ap (λ z. drop z p.states) (sym count))
-    ∙ sym g.parts in
+named : (old : Names_data) (r : Role) → IsSound old → r.0 < length old.roles → Named old r
+named old r sound lt =
+    let name : List ℕ = get_or old.roles r.0 [] in
+    let stands : slice_get old.roles r.0 ≡ Some name = slice_get-get_or old.roles r.0 [] lt in
+    let tests = both (differ old.roles) (list_all is_role_word old.roles) (both (differ old.roles && list_all is_role_word old.roles) (differ old.labels && list_all is_word old.labels) ((decides_sound old).1 sound)).0 in
+    let place : place_of name old.roles ≡ Some r.0 = place_at old.roles r.0 name tests.0 stands in
+    record { name = name; there = among old.roles name 0 r.0 place; place = place; word = one_of is_role_word old.roles r.0 name tests.1 stands }
+
+body_text : (p : Machine_data) → p.role.0 < MOST_ROLES → HasBody Acts MOST_ROLES MOST_LABELS (places_of_machine p) p.start → IsMachineTextShaped p
+body_text p few h =
+    let old : Names_data = h.old in
+    let roles : length old.roles ≡ MOST_ROLES = h.roles_are in
+    let labels : length old.labels ≡ MOST_LABELS = h.labels_are in
+    let r : Named old p.role = named old p.role h.sound (omega arith) in
+    let t : MachineTree = record { role = r.name; body = h.body } in
+    let states : states_of (numbering old t) h.body [] 0 ++ done_of (has_end Acts h.body) ≡ p.states =
+    same_states (states_of (numbering old t) h.body [] 0 ++ done_of (has_end Acts h.body)) p.states (whole_are (numbering old t) h.body (has_end Acts h.body) ∙ sym h.spells.places_are) in
+    let machine_is : machine_of old t ≡ p =
+    ap (λ z. machine (role_number (number_or z)) (states_of (numbering old t) h.body [] 0 ++ done_of (has_end Acts h.body)) (first_of Acts h.body [] 0 (acts_in Acts h.body))) r.place
+    ∙ ap (λ z. machine p.role z (first_of Acts h.body [] 0 (acts_in Acts h.body))) states ∙ ap (λ z. machine p.role p.states z) (sym h.spells.start_is) in
+    let fits : Fits old t = record { role = r.there; body = h.spells.fits } in
+    let words : AreWords t = record { role = r.word; body = worded h.body h.words } in
     record {
-      tree = t;
-      fits = record { role = among names.roles (plain_name 82 p.role.0) 0 p.role.0 (plain.role_at p.role.0 few); body = g.fits };
-      words = record { role = plain_role p.role.0 (omega arith); body = g.words };
-      spells = ap (λ z. machine z (states_of (numbering names t) g.body [] 0 ++ done_of (has_end Acts g.body)) (first_of Acts g.body [] 0 (acts_in Acts g.body))) (role_numbered p names p.role plain few)
-          ∙ ap (λ z. machine p.role z (first_of Acts g.body [] 0 (acts_in Acts g.body))) states
-          ∙ ap (λ z. machine p.role p.states z) (ap (λ z. first_of Acts g.body [] 0 z) acts_are ∙ g.first);
+      bytes = machine_text t;
+      at = 0;
+      old = old;
+      sound = h.sound;
+      few_roles = omega arith;
+      few_labels = omega arith;
+      new = names_of old t;
+      until = length (machine_text t);
+      spells = subst (λ (z : Machine_data). SpellsMachine (machine_text t) 0 old (names_of old t) z (length (machine_text t))) machine_is (lone_tree_spelt old t words fits);
     }
 
-shaped_with : (p : Machine_data) (names : Names_data) → Text p names → IsMachineTextShaped p
-shaped_with p names t = record {
-  bytes = machine_text t.tree;
-  at = 0;
-  old = names;
-  new = names_of names t.tree;
-  until = length (machine_text t.tree);
-  spells = subst (λ (z : Machine_data). SpellsMachine (machine_text t.tree) 0 names (names_of names t.tree) z (length (machine_text t.tree))) t.spells (lone_tree_spelt names t.tree t.words t.fits);
-}
+pub walked_is_shaped : (p : Machine_data) → is_shaped p ≡ true → IsMachineTextShaped p
+walked_is_shaped p h =
+    let q = both (nat_lt p.role.0 MOST_ROLES) (is_walked Acts (record { roles = MOST_ROLES; places = places_of_machine p }) p.start MOST_LABELS) h in
+    body_text p (ltb-true p.role.0 MOST_ROLES q.0) (walked_has_body Acts MOST_ROLES p.start MOST_LABELS (places_of_machine p) (omega arith) (omega arith) q.1)
 
-walked_by : (p : Machine_data) (r l : ℕ) → 256 ≤ r → 65536 ≤ l → r < 4294967296 → l < 4294967296 → are_small p ≡ true → walks p ≡ true → IsMachineTextShaped p
-walked_by p r l a b c d small h =
-    let s = both (is_small_role p.role) (list_all is_small_state p.states) small in
-    let w : Walked p = is_walked p h in
-    shaped_with p (names_by r l) (has_text p (names_by r l) (plain_by p r l a b c d w.small s.1) (ltb-true p.role.0 256 s.0) w)
+-- what a text spells with so few names is text-shaped, since a text spells it with sound ones too
+pub spelt_shaped : (bytes : List ℕ) (at : ℕ) (old new : Names_data) (machine : Machine_data) (until : ℕ) → length old.roles ≤ MOST_ROLES → length old.labels ≤ MOST_LABELS → SpellsMachine bytes at old new machine until → IsMachineTextShaped machine
+spelt_shaped bytes at old new machine until roles labels s = walked_is_shaped machine (ap is_shaped s.machine_is ∙ tree_shaped old s.tree roles labels s.fits)
 
-pub walked_is_shaped : (p : Machine_data) → are_small p ≡ true → walks p ≡ true → IsMachineTextShaped p
-walked_is_shaped p small h = walked_by p 256 65536 (omega arith) (omega arith) (omega arith) (omega arith) small h
+-- ---- the test of the role, and of the body
 
-pub shaped_exactly : (p : Machine_data) → are_small p ≡ true → IsTrue (walks p) ↔ IsMachineTextShaped p
-shaped_exactly p small = (walked_is_shaped p small, shaped_is_walked p)
+pub shaped_exactly : (p : Machine_data) (role : Role) (fit b : Bool) → role ≡ p.role → fit ≡ nat_lt role.0 MOST_ROLES → fit ≡ true → IsTrue b ↔ HasBody Acts MOST_ROLES MOST_LABELS (places_of_machine p) p.start → IsTrue b ↔ IsMachineTextShaped p
+shaped_exactly p role fit b same e h k = (
+  (λ t. body_text p (ltb-true p.role.0 MOST_ROLES (subst (λ (z : Role). nat_lt z.0 MOST_ROLES ≡ true) same (sym e ∙ h))) (k.0 t)),
+  (λ s. k.1 (walked_has_body Acts MOST_ROLES p.start MOST_LABELS (places_of_machine p) (omega arith) (omega arith) (both (nat_lt p.role.0 MOST_ROLES) (is_walked Acts (record { roles = MOST_ROLES; places = places_of_machine p }) p.start MOST_LABELS) (shaped_is_walked p s)).1)),
+)
+
+pub not_shaped : (p : Machine_data) (role : Role) (fit : Bool) → role ≡ p.role → fit ≡ nat_lt role.0 MOST_ROLES → fit ≡ false → IsMachineTextShaped p → ⊥
+not_shaped p role fit same e h s =
+    let q : nat_lt role.0 MOST_ROLES ≡ true =
+    subst (λ (z : Role). nat_lt z.0 MOST_ROLES ≡ true) (sym same) (both (nat_lt p.role.0 MOST_ROLES) (is_walked Acts (record { roles = MOST_ROLES; places = places_of_machine p }) p.start MOST_LABELS) (shaped_is_walked p s)).0 in
+    cc (h, e, q)

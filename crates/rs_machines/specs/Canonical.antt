@@ -1,10 +1,11 @@
 -- Believed: the canonical text of a machine, and which machines have one.
-use Rattle.std.specs.Prelude.{◌≡◌, ℕ, ◌<◌, ◌≤◌, ◌+◌, List, [], ◌∷◌, ◌++◌, codes, Option, Some, slice_get}
+use Rattle.std.specs.Prelude.{◌≡◌, ℕ, ◌<◌, ◌≤◌, ◌+◌, List, [], ◌∷◌, ◌++◌, codes, length, Option, Some, slice_get}
 use Rattle.std.specs.Fmt.{decimal}
 use Rattle.rs_model.specs.Data.{Machine_data, Names_data}
 use Rattle.rs_model.specs.declared.graph.Arm.{Arm}
 use Rattle.rs_model.specs.declared.machines.State.TheVariants.{Done}
 use Rattle.rs_model.specs.declared.graph.Role.{Role}
+use Rattle.rs_model.specs.declared.limits.TheConstants.{MOST_LABELS, MOST_ROLES}
 use Rattle.rs_model.specs.declared.values.Sort.{Sort}
 use Rattle.rs_bodies.specs.declared.dialects.Mark.{Mark}
 use Rattle.rs_machines.specs.Machines.{state_of}
@@ -12,15 +13,19 @@ use Rattle.rs_machines.specs.Trees.{MachineTree}
 use Rattle.rs_machines.specs.Texts.{machine_text}
 use Rattle.rs_machines.specs.Spells.{SpellsMachine}
 use Rattle.rs_text.specs.Arms.{shown_sort}
+use Rattle.rs_text.specs.Sound.{IsSound}
 use Rattle.rs_bodies.specs.declared.dialects.Dialect.TheVariants.{Acts}
 use Rattle.rs_bodies.specs.Trees.{Body, ends, again, binds, acts, offers, Branches, one, more}
 use Rattle.rs_bodies.specs.Dialects.{with_mark}
 
--- some machine part reads to the machine
+-- some machine part reads to the machine, with names that a reader has: they are sound, and within their limits
 pub record IsMachineTextShaped (machine : Machine_data) : Type 0 where
   pub bytes : List ℕ
   pub at : ℕ
   pub old : Names_data
+  pub sound : IsSound old
+  pub few_roles : length old.roles ≤ MOST_ROLES
+  pub few_labels : length old.labels ≤ MOST_LABELS
   pub new : Names_data
   pub until : ℕ
   pub spells : SpellsMachine bytes at old new machine until

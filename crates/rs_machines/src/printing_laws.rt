@@ -1,6 +1,7 @@
 // What printed machines say. The functions do nothing: each states a law.
 ghost use Rattle.std.specs.Prelude.{◌≡◌, ◌≤◌, ◌+◌, ◌++◌, ℕ, List, drop, length, true};
 ghost use Rattle.rs_model.specs.Data.{Machine_data, Names_data};
+ghost use Rattle.rs_model.specs.declared.limits.TheConstants.{MOST_ACTS, MOST_LABELS, MOST_ROLES};
 ghost use Rattle.rs_text.specs.Lexemes.{next_lexeme};
 ghost use Rattle.rs_text.specs.Words.{is_role_word};
 ghost use Rattle.rs_text.specs.Writing.{IsWritten};
@@ -32,12 +33,12 @@ pub fn lone_text_of_a_tree_spells_it()
 
 /// The name of a state can be a recursion name.
 pub fn state_name_is_a_word()
-    ensures { (n : ℕ) → n ≤ 256 → is_role_word (name_of_state n) ≡ true }
+    ensures { (n : ℕ) → n ≤ MOST_ACTS → is_role_word (name_of_state n) ≡ true }
 {}
 
-/// A machine that a text spells is text-shaped ..
+/// A machine that a text spells with 16 roles and 256 labels at most is text-shaped ..
 pub fn spelt_machine_is_text_shaped()
-    ensures { (bytes : List ℕ) (at : ℕ) (old new : Names_data) (machine : Machine_data) (until : ℕ) → SpellsMachine bytes at old new machine until → IsMachineTextShaped machine }
+    ensures { (bytes : List ℕ) (at : ℕ) (old new : Names_data) (machine : Machine_data) (until : ℕ) → length old.roles ≤ MOST_ROLES → length old.labels ≤ MOST_LABELS → SpellsMachine bytes at old new machine until → IsMachineTextShaped machine }
 {}
 
 /// .. and its new names are enough to print it.

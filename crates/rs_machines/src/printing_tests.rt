@@ -6,7 +6,7 @@ use std::alloc::Global;
 use std::test::Fail;
 
 /// The canonical text of what a text spells, or nothing.
-#[tactic(auto, using(crate::proofs::EnoughNames::spelt_enough, crate::proofs::EnoughNames::spelt_shaped))]
+#[tactic(auto, using(crate::proofs::EnoughNames::spelt_enough, crate::proofs::ShapeWhole::spelt_shaped))]
 fn printed(alloc: Global, bytes: &[u8]) -> Result<Text, NoMemory> {
     let mut names = three_roles(alloc)?;
     if rs_text::sound(&names) && names.roles.len() <= 16 && names.labels.len() <= 256 {
@@ -166,6 +166,45 @@ fn tells_limits(rt: HostRuntime) -> Result<(), Fail> {
     for (count, braces, want) in rows {
         let machine = row(rt.alloc(), count, braces)?;
         assert_eq!(rt; machine_text_shaped(&machine), want, "{count}");
+    }
+    Ok(())
+}
+
+/// A machine that sends one message.
+fn sender(alloc: Global, role: u8, peer: u8, label: u16) -> Result<Machine, NoMemory> {
+    let mut arms = Arms::new(alloc);
+    arms.push(Arm {
+        label: Label(label),
+        sort: Sort::Unit,
+        next: 1,
+    })?;
+    let mut states = Vec::new(alloc);
+    states.push(State::Puts {
+        peer: Role(peer),
+        arms,
+    })?;
+    states.push(State::Done)?;
+    Ok(Machine {
+        role: Role(role),
+        states,
+        start: 0,
+    })
+}
+
+#[test]
+fn tells_numbers_without_names(rt: HostRuntime) -> Result<(), Fail> {
+    let senders = [
+        (0, 1, 0, true),
+        (15, 14, 255, true),
+        (14, 15, 255, true),
+        (16, 1, 0, false),
+        (200, 1, 0, false),
+        (0, 16, 0, false),
+        (0, 1, 256, false),
+    ];
+    for (role, peer, label, want) in senders {
+        let machine = sender(rt.alloc(), role, peer, label)?;
+        assert_eq!(rt; machine_text_shaped(&machine), want, "{role} {peer} {label}");
     }
     Ok(())
 }

@@ -1,0 +1,6 @@
+use Rattle.std.proofs.Common.{◌≡◌, ◌+◌, suc, arith}
+use Rattle.rs_bodies.proofs.Reaches.{walk_is}
+use Rattle.rs_bodies.proofs.shapes.walks.Goals as goal
+
+pub returns : goal.returns
+returns g c = walk_is (g.G.Numbered.places c.args.graph.now) c.args.trail.now (c.args.trail.now.last + 1) c.start.result (g.G.Numbered.root c.args.graph.now) c.args.labels c.is_whole.result c.met-walk.result (omega arith) c.requires.last c.start.ensures c.is_whole.ensures c.met-walk.ensures
