@@ -1,6 +1,7 @@
 ghost use Rattle.std.specs.Prelude.{◌≡◌, [], ◌++◌, OnOk, OnErr};
 ghost use Rattle.std.specs.Fmt.{decimal};
 
+use itoa::Buffer;
 use rs_model::NoMemory;
 use std::alloc::Global;
 use std::marker::Model;
@@ -9,7 +10,6 @@ use std::marker::Model;
 #[derive(Drop, Debug)]
 pub struct Text {
     bytes: Vec<u8>,
-    alloc: Global,
 }
 
 impl Model for Text {
@@ -27,7 +27,6 @@ impl Text {
     {
         Text {
             bytes: Vec::new(alloc),
-            alloc,
         }
     }
 
@@ -45,8 +44,8 @@ impl Text {
         ensures ok { OnOk result (self.new ≡ self.old ++ decimal n) }
         ensures err { OnErr result (self.new ≡ self.old) }
     {
-        let digits = n.to_string(self.alloc)?;
-        self.push(digits.as_bytes())
+        let mut digits = Buffer::new();
+        self.push(digits.format(n).as_bytes())
     }
 
     pub fn as_slice(&self) -> &[u8]

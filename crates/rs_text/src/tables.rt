@@ -9,8 +9,12 @@ use std::marker::Model;
 
 const BUCKETS: usize = 256;
 
+// Fewer names are found as fast without an index.
+const FEW: usize = 8;
+
 /// Names in order, with an index by which one is found: of each bucket the head of a chain of places, and of each place
-/// the next of its chain. Each is one more than the place; 0 ends a chain. Without memory for the buckets there are none.
+/// the next of its chain. Each is one more than the place; 0 ends a chain. For few names, and without memory for the
+/// buckets, there are none.
 #[derive(Drop)]
 pub struct NameTable {
     names: Vec<Name>,
@@ -34,17 +38,25 @@ impl NameTable {
     pub fn new(alloc: Global, names: Vec<Name>) -> NameTable
         ensures { result ≡ names.items }
     {
-        match index_of(alloc, names.as_slice()) {
-            Ok(Index { heads, links }) => NameTable {
-                names,
-                heads,
-                links,
-            },
-            Err(_) => NameTable {
-                names,
-                heads: Vec::new(alloc),
-                links: Vec::new(alloc),
-            },
+        let mut table = NameTable {
+            names,
+            heads: Vec::new(alloc),
+            links: Vec::new(alloc),
+        };
+        if table.len() >= FEW {
+            table.file(alloc);
+        }
+        table
+    }
+
+    // Makes the index, where there is memory for it.
+    fn file(&mut self, alloc: Global)
+        ensures { self.new ≡ self.old }
+    {
+        if let Ok(index) = index_of(alloc, self.names.as_slice()) {
+            let Index { heads, links } = index;
+            self.heads = heads;
+            self.links = links;
         }
     }
 
@@ -92,6 +104,9 @@ impl NameTable {
         self.links.reserve(1)?;
         self.names.push(name)?;
         if self.heads.is_empty() {
+            if self.len() == FEW {
+                self.file(alloc);
+            }
             return Ok(place);
         }
         let bucket = bucket_of(word);

@@ -1,8 +1,8 @@
 ghost use Rattle.std.specs.Prelude.{◌≤◌, length};
 
 use crate::{
-    Binding, FaultKind, Kind, Lexer, Stop, Text, TextFault, TextKind, Wanted, add, bound_number,
-    expected, fault, find, number, place, sound, unbind,
+    Binding, FaultKind, Kind, Lexer, NameTable, Stop, Text, TextFault, TextKind, Wanted, add,
+    bound_number, expected, fault, find, number, place, sound, unbind,
 };
 use rs_model::{Name, Names, NoMemory};
 use std::alloc::Global;
@@ -205,6 +205,26 @@ fn finds_and_adds_names(rt: HostRuntime) -> Result<(), Fail> {
     assert_eq!(rt; add(rt.alloc(), &mut names, b"xy")?, 1);
     assert_eq!(rt; find(&names, b"xy"), Some(1));
     assert_eq!(rt; find(&names, b"y"), None);
+    Ok(())
+}
+
+#[test]
+fn finds_each_of_many_names(rt: HostRuntime) -> Result<(), Fail> {
+    let mut table = NameTable::new(rt.alloc(), Vec::new(rt.alloc()));
+    for number in 0..300 {
+        let name = format!(in rt.alloc(); "a_long_name_{number}")?;
+        assert_eq!(rt; table.find(name.as_bytes()), None);
+        assert_eq!(rt; table.add(rt.alloc(), name.as_bytes())?, number);
+    }
+    assert_eq!(rt; table.add(rt.alloc(), b"a_long_name_7")?, 300);
+    assert_eq!(rt; table.len(), 301);
+    let table = NameTable::new(rt.alloc(), table.into_names());
+    assert_eq!(rt; table.as_slice().len(), 301);
+    for number in 0..300 {
+        let name = format!(in rt.alloc(); "a_long_name_{number}")?;
+        assert_eq!(rt; table.find(name.as_bytes()), Some(number));
+    }
+    assert_eq!(rt; table.find(b"a_long_name"), None);
     Ok(())
 }
 

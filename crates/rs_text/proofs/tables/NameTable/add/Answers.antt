@@ -1,6 +1,6 @@
-use Rattle.std.proofs.Common.{rules, arith, ◌≡◌, ◌<◌, ◌+◌, ℕ, List, [], ◌∷◌, ◌++◌, length, get_or, ap, sym, refl, ◌∙◌}
+use Rattle.std.proofs.Common.{rules, arith, ◌≡◌, ◌<◌, ◌+◌, [], ◌∷◌, ◌++◌, length, get_or, refl, ◌∙◌}
 use Rattle.std.proofs.lemmas.List.{get_or_default}
-use Rattle.rs_text.specs.Tables.{AreFiled, bucket_of}
+use Rattle.rs_text.specs.Tables.{AreFiled}
 use Rattle.rs_text.proofs.Tabling.{filed-on}
 use Rattle.rs_text.proofs.tables.NameTable.add.Goals as goal
 
