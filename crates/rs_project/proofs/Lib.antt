@@ -6,6 +6,7 @@ pub mod Walks
 pub mod Surveys
 pub mod Cycles
 pub mod Peels
+pub mod Lone
 pub mod Merged
 pub mod Meetings
 pub mod Agreeing

@@ -162,6 +162,17 @@ pub record IsSurvey (protocol : Protocol_data) (role : Role) (survey : Survey_da
   pub idle : (n : ℕ) → (IsOn survey.awaited n → ⊥) → IsIdle protocol role n
   pub passing : (n : ℕ) → IsOn survey.passing n ↔ PassesBy protocol role n
 
+-- the talk involves the role, and is the one that it meets first from node n; nor does it meet the end
+pub record MeetsOnly (protocol : Protocol_data) (role : Role) (n talk : ℕ) : Type 0 where
+  pub met : MeetsFirst protocol role n talk
+  pub only : (other : ℕ) → MeetsFirst protocol role n other → talk ≡ other
+  pub never : MeetsTheEnd protocol role n → ⊥
+
+-- the role meets from node n what it meets from the other one
+pub record StandsFor (protocol : Protocol_data) (role : Role) (n other : ℕ) : Type 0 where
+  pub meets : (talk : ℕ) → MeetsFirst protocol role n talk ↔ MeetsFirst protocol role other talk
+  pub ends : MeetsTheEnd protocol role n → MeetsTheEnd protocol role other
+
 -- one of the starts meets the talk first
 pub record StartMeets (protocol : Protocol_data) (role : Role) (starts : List ℕ) (talk : ℕ) : Type 0 where
   pub start : ℕ

@@ -5,6 +5,7 @@ ghost use Rattle.rs_project.specs.Refusals.{IsFront};
 ghost use Rattle.rs_wellformed.specs.WellFormed.{IsWellFormed};
 
 use crate::spreading::Marks;
+use crate::straight::{lone_front, only_talk};
 use crate::surveying::Survey;
 use rs_model::{NoMemory, Protocol};
 use std::alloc::Global;
@@ -38,6 +39,11 @@ pub fn front_of(
     requires starts { All (λ s. s < length protocol.now.nodes) starts.now }
     ensures { IfOk result (λ f. IsFront f (StartMeets protocol.now survey.now.role starts.now) (StartEnds protocol.now survey.now.role starts.now)) }
 {
+    if let [start] = starts {
+        if let Some(talk) = only_talk(protocol, survey, *start) {
+            return lone_front(alloc, talk);
+        }
+    }
     marks.spread(protocol, &survey.passing, starts)?;
     let numbers = marks.as_slice();
     let talks = flagged(alloc, numbers, &survey.involved)?;

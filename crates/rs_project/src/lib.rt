@@ -13,6 +13,7 @@ mod peeling;
 mod projecting;
 mod rounds;
 mod spreading;
+mod straight;
 mod surveying;
 #[cfg(test)]
 mod tests;

@@ -11,6 +11,7 @@ use std::alloc::Global;
 pub fn sweep(protocol: &Protocol, left: &mut Vec<bool>) -> bool
     requires well_formed { IsWellFormed protocol.now }
     requires size { length left.old.items ≡ length protocol.now.nodes }
+    ensures size { length left.new.items ≡ length protocol.now.nodes }
     ensures unreached { (role : Role) → HasUnreached protocol.now role left.old.items → HasUnreached protocol.now role left.new.items }
     ensures none { result ≡ false → (n : ℕ) → IsOn left.new.items n → ⊥ }
 {

@@ -35,13 +35,17 @@ pub fn first_unreached(
     Ok(None)
 }
 
-// Whether some nodes that pass by the role are left by one sweep.
+// Whether some nodes that pass by the role are left by two sweeps: the second one sees what the first did to the nodes to
+// which arms lead back.
 fn may_go_round(alloc: Global, protocol: &Protocol, survey: &Survey) -> Result<bool, NoMemory>
     requires well_formed { IsWellFormed protocol.now }
     requires survey { IsSurvey protocol.now survey.now.role survey.now }
     ensures { IfOk result (λ b. b ≡ false → NoneUnreached protocol.now survey.now.role) }
 {
     let mut left = Vec::from_slice(alloc, &survey.passing)?;
+    if !sweep(protocol, &mut left) {
+        return Ok(false);
+    }
     Ok(sweep(protocol, &mut left))
 }
 

@@ -1,6 +1,7 @@
 use Rattle.std.proofs.Common.{◌≡◌, ◌<◌, false, not, ℕ, Bool, List, All, length, get_or, ap, subst, sym, ◌∙◌}
 use Rattle.std.specs.List.{filter, list_any}
 use Rattle.rs_project.specs.Marks.{IsSpread, Survey_data}
+use Rattle.rs_project.proofs.Lone.{lone-result, one-start}
 use Rattle.rs_project.proofs.Walks.{front-listed, listed-within}
 use Rattle.rs_project.proofs.fronts.front_of.Goals as goal
 
@@ -33,3 +34,6 @@ returns c =
     ∙ ap (λ (z : List Bool). list_any (λ n. not (get_or z n false)) numbers) awaited in
     front-listed c.args.protocol.now c.args.survey.now.role c.args.survey.now c.args.starts.now c.spread.new.self.flags numbers c.in_ok-talks.talks.items c.in_order.result.items
     c.has_unflagged-ends.result c.requires.survey (subst P passing c.in_ok-spread.ensures) c.as_slice-numbers.ensures.listed those c.in_order.ensures.rising c.in_order.ensures.same ends
+
+pub returns-in-Some : goal.returns-in-Some
+returns-in-Some c = lone-result c.args.protocol.now c.args.survey.now.role c.args.starts.now _ c.in-Some.talk c.lone_front.result (one-start c.args.starts.now 0 c.in-len1.len_at_least c.in-len1.len_below) c.in-Some.ensures c.lone_front.ensures

@@ -1,0 +1,9 @@
+use Rattle.std.proofs.Common.{◌<◌, length}
+use Rattle.rs_project.specs.Marks.{StandsFor}
+use Rattle.rs_project.proofs.straight.only_talk.Given as goal
+
+abbrev pub invariant-loop : goal.invariant-loop
+invariant-loop l = record {
+  within : l.node < length l.protocol.nodes;
+  stands : StandsFor l.protocol l.survey.role l.start l.node;
+}
