@@ -9,3 +9,4 @@ pub mod AcceptedSessions
 pub mod OneReason
 pub mod SomeSession
 pub mod SpeltFaults
+pub mod RunSessions

@@ -41,16 +41,15 @@ fn answer_to_document(alloc: Global, task: Task, document: Document) -> Result<A
             limit,
             seed,
             ..
-        } => run(
-            alloc,
-            &document,
-            RunOptions {
+        } => {
+            let options = RunOptions {
                 bound,
                 ring,
                 limit,
                 seed,
-            },
-        ),
+            };
+            Ok(run(alloc, &document, options)?.answer)
+        }
         _ => unreachable!(),
     }
 }

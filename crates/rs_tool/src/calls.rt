@@ -46,7 +46,7 @@ fn answer_to_data(
     if bytes.len() > MOST_BYTES {
         return too_large(alloc, &[Words(b"text")]);
     }
-    demo(alloc, kind, ring, bytes)
+    Ok(demo(alloc, kind, ring, bytes)?.answer)
 }
 
 /// The answer of the task, which reads the input, to these bytes.
