@@ -10,7 +10,6 @@ use Rattle.rs_search.specs.Itself.{AreNamed}
 use Rattle.rs_model.specs.declared.graph.Arm.{Arm}
 use Rattle.rs_derive.specs.Rules.{Fits}
 use Rattle.std.proofs.lemmas.Option.{same_Some}
-use Rattle.rs_graph.specs.Lists.{Names}
 use Rattle.rs_search.specs.Turns.{Turn_data, nexts_within}
 use Rattle.rs_search.proofs.Chains.{chained_none}
 use Rattle.rs_graph.proofs.Growth.{growing_begin, growing_on, growing_large, reads_at, map_next, any_next}

@@ -1,6 +1,6 @@
-use Rattle.std.proofs.Common.{◌≡◌, ◌≤◌, Some, length, map, slice_get, take}
+use Rattle.std.proofs.Common.{◌≡◌, ◌≤◌, length, map, take}
 use Rattle.rs_derive.specs.Due.{both_at}
-use Rattle.rs_derive.specs.Moves.{Spot, arm_of}
+use Rattle.rs_derive.specs.Moves.{arm_of}
 use Rattle.rs_derive.proofs.Few.{AreLabels}
 use Rattle.rs_graph.specs.Lists.{concat}
 use Rattle.rs_search.specs.Buckets.{bucket_of}

@@ -1,4 +1,4 @@
-use Rattle.std.proofs.Common.{◌≡◌, List, [], ◌++◌, Option, Some, None, subst, sym, map, IfOk, IfSome, OnErr}
+use Rattle.std.proofs.Common.{List, subst, sym, map, IfOk, OnErr}
 use Rattle.std.proofs.lemmas.Result.{IfOk-weaker, on_err_weaker}
 use Rattle.rs_derive.specs.Moves.{Spot, owing_receive, owing_send}
 use Rattle.rs_derive.specs.Rules.{Fits, nexts_by}
@@ -7,7 +7,6 @@ use Rattle.rs_derive.specs.declared.rules.Rule.TheVariants.{Guesses, Follows}
 use Rattle.rs_graph.specs.Discovery.{Grown}
 use Rattle.rs_graph.specs.Lists.{concat}
 use Rattle.rs_search.specs.Itself.{AreNamed, AreNamedAt, GrowsBy}
-use Rattle.rs_search.specs.Turns.{owing_by, spots_by}
 use Rattle.rs_search.proofs.Alike.{named_none}
 use Rattle.rs_search.proofs.Turning.{followed_is, guessed_is}
 use Rattle.rs_search.proofs.found.name_by.Goals as goal

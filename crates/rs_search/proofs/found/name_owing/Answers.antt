@@ -1,12 +1,7 @@
-use Rattle.std.proofs.Common.{rules, arith, ◌≡◌, ◌∙◌, ◌++◌, ℕ, List, [], ◌∷◌, length, map, take, take_all, slice_get, Some, subst, sym, refl, ap}
-use Rattle.std.proofs.lemmas.Option.{same_Some}
+use Rattle.std.proofs.Common.{rules, arith, ◌≡◌, ◌∙◌, ℕ, List, map, take, take_all, slice_get, Some, subst, sym, refl}
 use Rattle.rs_model.specs.declared.graph.Arm.{Arm}
 use Rattle.rs_derive.proofs.Few.{few, one_more}
-use Rattle.rs_derive.specs.Due.{both_at}
-use Rattle.rs_derive.specs.Moves.{Spot, arm_of, spot}
-use Rattle.rs_prefix.specs.Earliest.{without}
-use Rattle.rs_graph.specs.Discovery.{Grown}
-use Rattle.rs_graph.specs.Lists.{concat}
+use Rattle.rs_derive.specs.Moves.{Spot}
 use Rattle.rs_graph.proofs.Growth.{at_short, at_within, reads_at}
 use Rattle.rs_search.specs.Buckets.{bucket_of}
 use Rattle.rs_search.specs.Index.{AreChained}
@@ -14,7 +9,7 @@ use Rattle.rs_search.specs.Itself.{AreNamed, GrowsBy}
 use Rattle.rs_search.specs.Turns.{owing_by}
 use Rattle.rs_search.proofs.Alike.{named_none}
 use Rattle.rs_search.proofs.Turning.{label_at}
-use Rattle.rs_search.proofs.Naming.{both_is, both_short, grown_arm, grown_both, grown_one, grown_taken, named_arm, named_both, on_err, one_short, row_short, rows_of_arms_short, stays_at}
+use Rattle.rs_search.proofs.Naming.{grown_arm, grown_taken, named_arm, on_err, row_short, stays_at}
 use Rattle.rs_search.proofs.found.name_owing.Goals as goal
 
 pub loop-arm-init : goal.loop-arm-init

@@ -1,5 +1,4 @@
-use Rattle.std.proofs.Common.{◌≡◌, ◌≤◌, Some, length, map, slice_get, take}
-use Rattle.rs_derive.specs.Moves.{Spot}
+use Rattle.std.proofs.Common.{◌≡◌, ◌≤◌, length, map, take}
 use Rattle.rs_derive.proofs.Few.{AreLabels}
 use Rattle.rs_search.specs.Buckets.{bucket_of}
 use Rattle.rs_search.specs.Index.{AreChained}
