@@ -9,6 +9,7 @@ pub mod Deciding
 pub mod Determined
 pub mod Discovering
 pub mod Forced
+pub mod Naming
 pub mod Noding
 pub mod Places
 pub mod Removing

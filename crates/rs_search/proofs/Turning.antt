@@ -1,5 +1,5 @@
 -- The turn that the code makes is the one that is due.
-use Rattle.std.proofs.Common.{◌≡◌, inl, inr, ℕ, ◌<◌, ◌≤◌, ◌+◌, Bool, true, false, List, [], ◌∷◌, ◌++◌, length, map, refl, sym, ap, ◌∙◌, subst, arith, suc, zero, Some, Option, slice_get, get_or, take, drop, ◌^◌, append_assoc, length-append, if◌then◌else◌, eqb, nat_lt, nat_le, ◌&&◌}
+use Rattle.std.proofs.Common.{◌≡◌, inl, inr, ℕ, ◌<◌, ◌≤◌, ◌+◌, Bool, true, false, List, [], ◌∷◌, ◌++◌, length, map, refl, sym, ap, ◌∙◌, subst, arith, suc, zero, None, Some, Option, slice_get, get_or, take, drop, ◌^◌, append_assoc, length-append, if◌then◌else◌, eqb, nat_lt, nat_le, ◌&&◌}
 use Rattle.std.proofs.lemmas.Bool.{cases_lt, lt-ltb, le-ltb, le-leb, lt-leb}
 use Rattle.rs_model.specs.declared.graph.Arm.{Arm}
 use Rattle.rs_model.specs.declared.graph.Role.{Role}
@@ -13,7 +13,8 @@ use Rattle.rs_derive.specs.declared.rules.Rule.TheVariants.{Stops, Pays, SendsBo
 use Rattle.rs_graph.specs.Lists.{Among, concat}
 use Rattle.rs_graph.proofs.Buckets.{got}
 use Rattle.rs_graph.proofs.Growth.{drop_here, take_on}
-use Rattle.rs_search.specs.Turns.{Turn_data, cut_at, cuts, may_choose, no_turn, owes_more, turn_of}
+use Rattle.rs_search.specs.Turns.{Turn_data, cut_at, cuts, may_choose, no_turn, owes_more, told_by, turn_of}
+use Rattle.rs_search.specs.declared.turns.Turn.{Turn}
 use Rattle.rs_search.proofs.Choices.{append_nil, among-nil, both-level, follow-level, guess-level, without_length}
 
 length_map : {X Y : Type 0} (f : X → Y) (xs : List X) → length (map f xs) ≡ length xs
@@ -119,3 +120,6 @@ pub both_on : (theirs : List Arm) (pending : List Act) (xs : List Arm) (i : ℕ)
 both_on theirs pending xs i d o spots new whole h eo en e =
     both_step (λ a. both_at pending a (arm_of theirs a.label)) xs i (get_or xs i d) spots new whole (arm_at xs i d h)
     (en ∙ ap (λ (z : Option Arm). spots ++ both_at pending (get_or xs i d) z) eo) e
+
+pub told_none : (p : Spot) (arms theirs : List Arm) (t : Turn) (cut : Bool) → (t.cut ≡ cut) × (t.any ≡ true) × (t.keeps ≡ false) × (t.rule ≡ None) → told_by p arms theirs t ≡ no_turn cut
+told_none p arms theirs t cut h = rw (h.0, h.1, h.2, h.3) refl

@@ -54,3 +54,11 @@ pub record AreNamed (old spots new : List Spot) (row : List ℕ) : Type 0 where
   pub names : Names new row spots
   pub numbered : Numbered (length old) row (length new)
   pub longer : length old ≤ length new
+
+-- .. those to which the one at the place leads
+abbrev pub AreNamedAt : (Spot → List Spot) → List Spot → ℕ → List Spot → List ℕ → Type 0
+AreNamedAt spots old k new row = (p : Spot) → slice_get old k ≡ Some p → AreNamed old (spots p) new row
+
+-- .. and no others were added
+abbrev pub GrowsBy : (Spot → List Spot) → List Spot → ℕ → List Spot → Type 0
+GrowsBy spots old k new = (p : Spot) → slice_get old k ≡ Some p → Grown old (spots p) new

@@ -1,22 +1,27 @@
 //! The candidates: the spots that are reached within the bound, numbered in order of first sight.
-ghost use Rattle.std.specs.Prelude.{◌≡◌, ◌≢◌, ◌<◌, ◌≤◌, ◌+◌, ◌^◌, [], ◌∷◌, ◌++◌, List, ℕ, OnOk, OnErr, IfOk, IfErr, MatchOption, MatchResult, length, map, slice_get, slice_index_or, Some, true, replicate, false, ◌||◌};
+ghost use Rattle.std.specs.Prelude.{◌≡◌, ◌≢◌, ◌<◌, ◌≤◌, ◌+◌, ◌^◌, [], ◌∷◌, ◌++◌, List, ℕ, OnOk, OnErr, IfOk, IfErr, IfSome, MatchOption, MatchResult, length, map, slice_get, slice_index_or, Some, true, replicate, false, ◌||◌};
 ghost use Rattle.std.specs.List.{list_any};
 ghost use Rattle.rs_derive.specs.Derivations.{IsProper};
-ghost use Rattle.rs_derive.specs.Moves.{Spot};
+ghost use Rattle.rs_derive.specs.Due.{both_at};
+ghost use Rattle.rs_derive.specs.Moves.{Spot, arm_of, spot};
+ghost use Rattle.rs_derive.specs.Rules.{Fits, nexts_by};
+ghost use Rattle.rs_derive.specs.Within.{IsOnce};
+ghost use Rattle.rs_prefix.specs.Earliest.{without};
 ghost use Rattle.rs_search.specs.Buckets.{act_code, acts_code, bucket_of};
 ghost use Rattle.rs_search.specs.Candidates.{begin};
 ghost use Rattle.rs_search.specs.Index.{AreChained, Chained};
-ghost use Rattle.rs_search.specs.Itself.{AreNamed};
+ghost use Rattle.rs_search.specs.Itself.{AreNamed, AreNamedAt, GrowsBy};
 ghost use Rattle.rs_graph.specs.Discovery.{Adds, Grown, IsDiscovery, MoreThan};
-ghost use Rattle.rs_graph.specs.Lists.{Among};
-ghost use Rattle.rs_search.specs.Turns.{nexts_within, turn_within};
+ghost use Rattle.rs_graph.specs.Lists.{Among, concat};
+ghost use Rattle.rs_search.specs.Turns.{nexts_within, owing_by, spots_by};
 ghost use Rattle.rs_search.specs.Turns.{is_any, is_choosing, is_cut, is_keeping};
 ghost use Rattle.rs_search.specs.declared.found.Fault.TheVariants.{TooLarge, Memory};
 
-use crate::turns::{Point, Turn, turn_within};
+use crate::turns::{Point, arms_in, both, has_choice, owing_by, paid, turn_within};
+use rs_derive::{Rule, arm_of};
 use rs_graph::Row;
-use rs_model::{Act, Machine, NoMemory};
-use rs_prefix::Pending;
+use rs_model::{Act, Arm, Machine, NoMemory, Role};
+use rs_prefix::{Kind, Pending};
 use std::alloc::{AllocError, AllocFailed, Global};
 
 #[derive(Drop, Debug)]
@@ -175,12 +180,40 @@ fn number_of(
     }
 }
 
-// The numbers of spots, of which the new ones are added.
-fn name_all(
+// Adds the number of a spot to the row; the spot is added where it is new.
+fn name(
+    found: &mut Vec<Point>,
+    index: &mut Index,
+    row: &mut Row,
+    p: Point,
+    limit: usize,
+) -> Result<(), Fault>
+    requires limit { limit + 1 < 2 ^ 32 }
+    requires few { length found.old.items ≤ limit }
+    requires some { 0 < length index.old.heads.items }
+    requires heads { length index.old.heads.items < 2 ^ 32 }
+    requires chained { AreChained (bucket_of (length index.old.heads.items)) found.old.items index.old.heads.items index.old.links.items }
+    ensures adds { Adds found.old.items p found.new.items }
+    ensures longer { length found.old.items ≤ length found.new.items }
+    ensures named { OnOk result ((old ys : List Spot) → AreNamed old ys found.old.items row.old → AreNamed old (ys ++ p ∷ []) found.new.items row.new) }
+    ensures large { IfErr result (λ e. e ≡ TooLarge → limit < length found.new.items) }
+    ensures few { OnOk result (length found.new.items ≤ limit) }
+    ensures chained { OnOk result (AreChained (bucket_of (length index.old.heads.items)) found.new.items index.new.heads.items index.new.links.items) }
+    ensures size { OnOk result (length index.new.heads.items ≡ length index.old.heads.items) }
+{
+    let n = number_of(found, index, p, limit)?;
+    row.push(n)?;
+    Ok(())
+}
+
+// The number of the spot behind the act that is owed at the place.
+fn name_paid(
     alloc: Global,
     found: &mut Vec<Point>,
     index: &mut Index,
-    spots: Vec<Point>,
+    k: usize,
+    place: usize,
+    arm: Arm,
     limit: usize,
 ) -> Result<Row, Fault>
     requires limit { limit + 1 < 2 ^ 32 }
@@ -188,19 +221,203 @@ fn name_all(
     requires some { 0 < length index.old.heads.items }
     requires heads { length index.old.heads.items < 2 ^ 32 }
     requires chained { AreChained (bucket_of (length index.old.heads.items)) found.old.items index.old.heads.items index.old.links.items }
-    ensures grown { Grown found.old.items spots.items found.new.items }
-    ensures named { IfOk result (λ row. AreNamed found.old.items spots.items found.new.items row) }
-    ensures few { OnOk result (length found.new.items ≤ limit) }
+    requires there { k < length found.old.items }
+    requires owed { (p : Spot) → slice_get found.old.items k ≡ Some p → place < length p.pending }
+    ensures named { IfOk result (λ row. AreNamedAt (λ p. spot arm.next (without p.pending place) p.above ∷ []) found.old.items k found.new.items row) }
+    ensures short { IfOk result (λ row. length row ≤ 2 ^ 16) }
     ensures large { IfErr result (λ e. e ≡ TooLarge → limit < length found.new.items) }
+    ensures grown { OnErr result (GrowsBy (λ p. spot arm.next (without p.pending place) p.above ∷ []) found.old.items k found.new.items) }
+    ensures few { OnOk result (length found.new.items ≤ limit) }
     ensures chained { OnOk result (AreChained (bucket_of (length index.old.heads.items)) found.new.items index.new.heads.items index.new.links.items) }
     ensures size { OnOk result (length index.new.heads.items ≡ length index.old.heads.items) }
 {
-    let mut numbers = Row::new(alloc);
-    for spot in spots {
-        let n = number_of(found, index, spot, limit)?;
-        numbers.push(n)?;
+    let mut row = Row::new(alloc);
+    let spot = paid(alloc, &found[k], place, arm)?;
+    name(found, index, &mut row, spot, limit)?;
+    Ok(row)
+}
+
+// The numbers of the spots behind arms by which the projection has sent or received.
+fn name_owing(
+    alloc: Global,
+    found: &mut Vec<Point>,
+    index: &mut Index,
+    k: usize,
+    kind: Kind,
+    peer: Role,
+    theirs: &[Arm],
+    limit: usize,
+) -> Result<Row, Fault>
+    requires limit { limit + 1 < 2 ^ 32 }
+    requires few { length found.old.items ≤ limit }
+    requires some { 0 < length index.old.heads.items }
+    requires heads { length index.old.heads.items < 2 ^ 32 }
+    requires chained { AreChained (bucket_of (length index.old.heads.items)) found.old.items index.old.heads.items index.old.links.items }
+    requires there { k < length found.old.items }
+    requires once { IsOnce theirs.now }
+    ensures named { IfOk result (λ row. AreNamedAt (λ p. map (λ b. owing_by kind p peer b) theirs.now) found.old.items k found.new.items row) }
+    ensures short { IfOk result (λ row. length row ≤ 2 ^ 16) }
+    ensures large { IfErr result (λ e. e ≡ TooLarge → limit < length found.new.items) }
+    ensures grown { OnErr result (GrowsBy (λ p. map (λ b. owing_by kind p peer b) theirs.now) found.old.items k found.new.items) }
+    ensures few { OnOk result (length found.new.items ≤ limit) }
+    ensures chained { OnOk result (AreChained (bucket_of (length index.old.heads.items)) found.new.items index.new.heads.items index.new.links.items) }
+    ensures size { OnOk result (length index.new.heads.items ≡ length index.old.heads.items) }
+{
+    let mut row = Row::new(alloc);
+    for arm in theirs {
+        let spot = owing_by(alloc, &found[k], kind, peer, *arm)?;
+        name(found, index, &mut row, spot, limit)?;
     }
-    Ok(numbers)
+    Ok(row)
+}
+
+// Adds the number of the spot behind an arm that both send to the row, where the projection has the arm.
+fn name_if(
+    alloc: Global,
+    found: &mut Vec<Point>,
+    index: &mut Index,
+    row: &mut Row,
+    k: usize,
+    arm: Arm,
+    their: Option<Arm>,
+    limit: usize,
+) -> Result<(), Fault>
+    requires limit { limit + 1 < 2 ^ 32 }
+    requires few { length found.old.items ≤ limit }
+    requires some { 0 < length index.old.heads.items }
+    requires heads { length index.old.heads.items < 2 ^ 32 }
+    requires chained { AreChained (bucket_of (length index.old.heads.items)) found.old.items index.old.heads.items index.old.links.items }
+    requires there { k < length found.old.items }
+    ensures longer { length found.old.items ≤ length found.new.items }
+    ensures named { OnOk result ((p : Spot) → slice_get found.old.items k ≡ Some p → (old ys : List Spot) → AreNamed old ys found.old.items row.old → AreNamed old (ys ++ both_at p.pending arm their) found.new.items row.new) }
+    ensures large { IfErr result (λ e. e ≡ TooLarge → limit < length found.new.items) }
+    ensures grown { OnErr result (GrowsBy (λ p. both_at p.pending arm their) found.old.items k found.new.items) }
+    ensures few { OnOk result (length found.new.items ≤ limit) }
+    ensures chained { OnOk result (AreChained (bucket_of (length index.old.heads.items)) found.new.items index.new.heads.items index.new.links.items) }
+    ensures size { OnOk result (length index.new.heads.items ≡ length index.old.heads.items) }
+{
+    match their {
+        Some(their) => {
+            let spot = both(alloc, &found[k], arm, their)?;
+            name(found, index, row, spot, limit)?;
+            Ok(())
+        }
+        None => Ok(()),
+    }
+}
+
+// The numbers of the spots behind arms that both send.
+fn name_both(
+    alloc: Global,
+    found: &mut Vec<Point>,
+    index: &mut Index,
+    k: usize,
+    arms: &[Arm],
+    theirs: &[Arm],
+    limit: usize,
+) -> Result<Row, Fault>
+    requires limit { limit + 1 < 2 ^ 32 }
+    requires few { length found.old.items ≤ limit }
+    requires some { 0 < length index.old.heads.items }
+    requires heads { length index.old.heads.items < 2 ^ 32 }
+    requires chained { AreChained (bucket_of (length index.old.heads.items)) found.old.items index.old.heads.items index.old.links.items }
+    requires there { k < length found.old.items }
+    requires once { IsOnce arms.now }
+    ensures named { IfOk result (λ row. AreNamedAt (λ p. concat (map (λ a. both_at p.pending a (arm_of theirs.now a.label)) arms.now)) found.old.items k found.new.items row) }
+    ensures short { IfOk result (λ row. length row ≤ 2 ^ 16) }
+    ensures large { IfErr result (λ e. e ≡ TooLarge → limit < length found.new.items) }
+    ensures grown { OnErr result (GrowsBy (λ p. concat (map (λ a. both_at p.pending a (arm_of theirs.now a.label)) arms.now)) found.old.items k found.new.items) }
+    ensures few { OnOk result (length found.new.items ≤ limit) }
+    ensures chained { OnOk result (AreChained (bucket_of (length index.old.heads.items)) found.new.items index.new.heads.items index.new.links.items) }
+    ensures size { OnOk result (length index.new.heads.items ≡ length index.old.heads.items) }
+{
+    let mut row = Row::new(alloc);
+    for arm in arms {
+        let their = arm_of(theirs, arm.label);
+        name_if(alloc, found, index, &mut row, k, *arm, their, limit)?;
+    }
+    Ok(row)
+}
+
+// The numbers of the spots to which the rule leads.
+fn name_by(
+    alloc: Global,
+    found: &mut Vec<Point>,
+    index: &mut Index,
+    k: usize,
+    rule: Rule,
+    arms: &[Arm],
+    theirs: &[Arm],
+    limit: usize,
+) -> Result<Row, Fault>
+    requires limit { limit + 1 < 2 ^ 32 }
+    requires few { length found.old.items ≤ limit }
+    requires some { 0 < length index.old.heads.items }
+    requires heads { length index.old.heads.items < 2 ^ 32 }
+    requires chained { AreChained (bucket_of (length index.old.heads.items)) found.old.items index.old.heads.items index.old.links.items }
+    requires there { k < length found.old.items }
+    requires ours { IsOnce arms.now }
+    requires theirs { IsOnce theirs.now }
+    requires fits { (p : Spot) → slice_get found.old.items k ≡ Some p → Fits p.pending arms.now theirs.now rule }
+    ensures named { IfOk result (λ row. AreNamedAt (λ p. concat (nexts_by p arms.now theirs.now rule)) found.old.items k found.new.items row) }
+    ensures short { IfOk result (λ row. length row ≤ 2 ^ 16) }
+    ensures large { IfErr result (λ e. e ≡ TooLarge → limit < length found.new.items) }
+    ensures grown { OnErr result (GrowsBy (λ p. concat (nexts_by p arms.now theirs.now rule)) found.old.items k found.new.items) }
+    ensures few { OnOk result (length found.new.items ≤ limit) }
+    ensures chained { OnOk result (AreChained (bucket_of (length index.old.heads.items)) found.new.items index.new.heads.items index.new.links.items) }
+    ensures size { OnOk result (length index.new.heads.items ≡ length index.old.heads.items) }
+{
+    match rule {
+        Rule::Stops => {
+            let none = Row::new(alloc);
+            Ok(none)
+        }
+        Rule::Pays { place, arm } => name_paid(alloc, found, index, k, place, arm, limit),
+        Rule::SendsBoth => name_both(alloc, found, index, k, arms, theirs, limit),
+        Rule::Guesses { peer } => {
+            name_owing(alloc, found, index, k, Kind::Send, peer, theirs, limit)
+        }
+        Rule::Follows { peer } => {
+            name_owing(alloc, found, index, k, Kind::Receive, peer, theirs, limit)
+        }
+    }
+}
+
+// The numbers of the spots to which the rule leads, if one applies.
+fn name_all(
+    alloc: Global,
+    found: &mut Vec<Point>,
+    index: &mut Index,
+    k: usize,
+    rule: Option<Rule>,
+    arms: &[Arm],
+    theirs: &[Arm],
+    limit: usize,
+) -> Result<Row, Fault>
+    requires limit { limit + 1 < 2 ^ 32 }
+    requires few { length found.old.items ≤ limit }
+    requires some { 0 < length index.old.heads.items }
+    requires heads { length index.old.heads.items < 2 ^ 32 }
+    requires chained { AreChained (bucket_of (length index.old.heads.items)) found.old.items index.old.heads.items index.old.links.items }
+    requires there { k < length found.old.items }
+    requires ours { IsOnce arms.now }
+    requires theirs { IsOnce theirs.now }
+    requires fits { (p : Spot) → slice_get found.old.items k ≡ Some p → IfSome rule (λ r. Fits p.pending arms.now theirs.now r) }
+    ensures named { IfOk result (λ row. AreNamedAt (λ p. spots_by p arms.now theirs.now rule) found.old.items k found.new.items row) }
+    ensures short { IfOk result (λ row. length row ≤ 2 ^ 16) }
+    ensures large { IfErr result (λ e. e ≡ TooLarge → limit < length found.new.items) }
+    ensures grown { OnErr result (GrowsBy (λ p. spots_by p arms.now theirs.now rule) found.old.items k found.new.items) }
+    ensures few { OnOk result (length found.new.items ≤ limit) }
+    ensures chained { OnOk result (AreChained (bucket_of (length index.old.heads.items)) found.new.items index.new.heads.items index.new.links.items) }
+    ensures size { OnOk result (length index.new.heads.items ≡ length index.old.heads.items) }
+{
+    match rule {
+        None => {
+            let none = Row::new(alloc);
+            Ok(none)
+        }
+        Some(one) => name_by(alloc, found, index, k, one, arms, theirs, limit),
+    }
 }
 
 fn start_of(alloc: Global, sub: &Machine, above: &Machine) -> Point
@@ -280,16 +497,20 @@ pub fn find_all(
     let mut cut = false;
     let mut choosing = false;
     while rows.len() < points.len() {
-        let turn = turn_within(alloc, sub, above, bound, &points[rows.len()])?;
+        let k = rows.len();
+        let point = &points[k];
+        let turn = turn_within(sub, above, bound, point);
+        let arms = arms_in(sub, point.state);
+        let theirs = arms_in(above, point.above);
         anys.push(turn.any)?;
         keeps.push(turn.keeps)?;
         cut = either(cut, turn.cut);
-        choosing = either(choosing, turn.has_choice());
-        let Turn { spots, .. } = turn;
-        let row = match name_all(alloc, &mut points, &mut index, spots, limit) {
+        let rule = turn.rule;
+        let row = match name_all(alloc, &mut points, &mut index, k, rule, arms, theirs, limit) {
             Ok(row) => row,
             Err(fault) => return Err(fault),
         };
+        choosing = either(choosing, has_choice(turn.any, row.as_slice().len()));
         rows.push(row)?;
     }
     Ok(Candidates {

@@ -1,17 +1,16 @@
 //! What a spot can do within the bound: choose one of some spots, or go on to all of them.
-ghost use Rattle.std.specs.Prelude.{◌≡◌, ◌≢◌, ◌<◌, ◌≤◌, ◌+◌, ◌^◌, [], ◌∷◌, ◌++◌, List, ℕ, OnOk, OnErr, IfOk, length, map, Some, None, true};
-ghost use Rattle.rs_derive.specs.Due.{all_serve, both_at, due, due_at};
-ghost use Rattle.rs_derive.specs.Moves.{arm_of, owing_receive, owing_send, spot};
-ghost use Rattle.rs_derive.specs.Rules.{Fits, arms_at, due_by, due_of, nexts_by, pushes};
+ghost use Rattle.std.specs.Prelude.{◌≡◌, ◌≢◌, ◌<◌, ◌≤◌, ◌^◌, [], ◌∷◌, ◌++◌, ◌==◌, ◌&&◌, IfOk, IfSome, length, not, Some, None, true, false};
+ghost use Rattle.rs_derive.specs.Due.{due_at};
+ghost use Rattle.rs_derive.specs.Moves.{spot};
+ghost use Rattle.rs_derive.specs.Rules.{Fits, arms_at, due_by};
 ghost use Rattle.rs_prefix.specs.Earliest.{without};
 ghost use Rattle.rs_derive.specs.Derivations.{IsProper};
-ghost use Rattle.rs_derive.specs.Within.{IsOnce, IsOnceAt};
-ghost use Rattle.rs_graph.specs.Lists.{concat};
-ghost use Rattle.rs_search.specs.Turns.{cut_at, cuts, may_choose, no_turn, owes_more, turn_of, turn_within};
+ghost use Rattle.rs_derive.specs.Within.{IsOnce};
+ghost use Rattle.rs_search.specs.Turns.{arms_in, cut_at, cuts, may_choose, owing_by, told_by, turn_of, turn_within};
 
-use rs_derive::{Rule, arm_of, arms_at, rule_at, same_acts};
+use rs_derive::{Rule, arms_at, rule_at, same_acts};
 use rs_model::{Act, Arm, Machine, NoMemory, Role, State};
-use rs_prefix::Pending;
+use rs_prefix::{Kind, Pending};
 use std::alloc::Global;
 use std::marker::Model;
 
@@ -64,99 +63,65 @@ impl Point {
     }
 }
 
-/// What a spot can do. Each of the spots is a move of its own where `any`; else all together are the one move. `keeps`
-/// tells whether its edges keep the oldest act that is owed, and `cut` whether the bound takes its moves away.
-#[derive(Drop, Debug)]
+/// What a spot can do. Each of the spots to which the rule leads is a move of its own where `any`; else all together are the
+/// one move. `keeps` tells whether its edges keep the oldest act that is owed, and `cut` whether the bound takes its moves away.
+#[derive(Clone, Copy, Debug)]
 pub struct Turn {
     pub cut: bool,
     pub any: bool,
     pub keeps: bool,
-    pub spots: Vec<Point>,
+    pub rule: Option<Rule>,
 }
 
-impl Model for Turn {
-    ghost use Rattle.rs_search.specs.Turns.{Turn_data};
-
-    ghost Value = { Turn_data };
-
-    ghost view = { λ t. record { cut = t.cut; any = t.any; keeps = t.keeps; spots = t.spots.items } };
-}
-
-impl Turn {
-    ghost use Rattle.rs_search.specs.Turns.{has_choice};
-
-    /// Whether it chooses among several spots, or has none to choose.
-    pub fn has_choice(&self) -> bool
-        ensures { result ≡ has_choice self.now }
-    {
-        self.any && self.spots.len() != 1
-    }
-}
-
-/// What the spot can do within the bound. Its spots are no more than there are labels.
-pub fn turn_within(
-    alloc: Global,
-    sub: &Machine,
-    above: &Machine,
-    bound: u8,
-    p: &Point,
-) -> Result<Turn, NoMemory>
-    requires ours { IsProper sub.now }
-    requires theirs { IsProper above.now }
+/// What the spot can do within the bound.
+pub fn turn_within(sub: &Machine, above: &Machine, bound: u8, p: &Point) -> Turn
     requires state { p.now.state < length sub.now.states }
     requires there { p.now.above < length above.now.states }
     requires short { length p.now.pending ≤ bound }
-    ensures turn { IfOk result (λ t. t ≡ turn_within sub.now above.now bound p.now) }
-    ensures few { IfOk result (λ t. length t.spots ≤ 2 ^ 16) }
+    ensures turn { told_by p.now (arms_in sub.now p.now.state) (arms_in above.now p.now.above) result ≡ turn_within sub.now above.now bound p.now }
+    ensures fits { IfSome result.rule (λ rule. Fits p.now.pending (arms_in sub.now p.now.state) (arms_in above.now p.now.above) rule) }
 {
     let state = &sub.states[p.state as usize];
     let there = &above.states[p.above as usize];
-    turn_at(alloc, bound, p, state, there)
+    turn_at(bound, p, state, there)
 }
 
-fn turn_at(
-    alloc: Global,
-    bound: u8,
-    p: &Point,
-    state: &State,
-    there: &State,
-) -> Result<Turn, NoMemory>
-    requires ours { IsOnceAt state.now }
-    requires theirs { IsOnceAt there.now }
+fn turn_at(bound: u8, p: &Point, state: &State, there: &State) -> Turn
     requires short { length p.now.pending ≤ bound }
-    ensures turn { IfOk result (λ t. t ≡ cut_at bound (turn_of (due_at p.now (Some state.now) (Some there.now)))) }
-    ensures few { IfOk result (λ t. length t.spots ≤ 2 ^ 16) }
+    ensures turn { told_by p.now (arms_at state.now) (arms_at there.now) result ≡ cut_at bound (turn_of (due_at p.now (Some state.now) (Some there.now))) }
+    ensures fits { IfSome result.rule (λ rule. Fits p.now.pending (arms_at state.now) (arms_at there.now) rule) }
 {
     match rule_at(&p.pending, state, there) {
-        None => Ok(no_turn(alloc, false)),
-        Some(rule) => rule_within(alloc, bound, p, rule, arms_at(state), arms_at(there)),
+        None => no_turn(false),
+        Some(rule) => rule_within(bound, p, rule, arms_at(state), arms_at(there)),
     }
 }
 
-fn rule_within(
-    alloc: Global,
-    bound: u8,
-    p: &Point,
-    rule: Rule,
-    arms: &[Arm],
-    theirs: &[Arm],
-) -> Result<Turn, NoMemory>
+fn rule_within(bound: u8, p: &Point, rule: Rule, arms: &[Arm], theirs: &[Arm]) -> Turn
     requires fits { Fits p.now.pending arms.now theirs.now rule }
     requires short { length p.now.pending ≤ bound }
-    requires ours { IsOnce arms.now }
-    requires theirs { IsOnce theirs.now }
-    ensures turn { IfOk result (λ t. t ≡ cut_at bound (turn_of (Some (due_by p.now arms.now theirs.now rule)))) }
-    ensures few { IfOk result (λ t. length t.spots ≤ 2 ^ 16) }
+    ensures turn { told_by p.now arms.now theirs.now result ≡ cut_at bound (turn_of (Some (due_by p.now arms.now theirs.now rule))) }
+    ensures fits { IfSome result.rule (λ rule. Fits p.now.pending arms.now theirs.now rule) }
 {
     if is_cut(bound, &p.pending, theirs, rule) {
-        return Ok(no_turn(alloc, true));
+        return no_turn(true);
     }
-    Ok(Turn {
+    Turn {
         cut: false,
         any: may_choose(arms, theirs, rule),
         keeps: rule.keeps_head(&p.pending),
-        spots: spots_by(alloc, p, rule, arms, theirs)?,
-    })
+        rule: Some(rule),
+    }
+}
+
+/// The arms of a state of the machine.
+pub fn arms_in(machine: &Machine, state: u32) -> &[Arm]
+    requires proper { IsProper machine.now }
+    requires state { state < length machine.now.states }
+    ensures arms { result.now ≡ arms_in machine.now state }
+    ensures once { IsOnce result.now }
+{
+    arms_at(&machine.states[state as usize])
 }
 
 // Whether the spot owes as much as the bound allows, and would owe more.
@@ -178,137 +143,63 @@ fn may_choose(arms: &[Arm], theirs: &[Arm], rule: Rule) -> bool
     }
 }
 
-fn no_turn(alloc: Global, cut: bool) -> Turn
-    ensures { result ≡ no_turn cut }
+fn no_turn(cut: bool) -> Turn
+    ensures { (result.cut ≡ cut) × (result.any ≡ true) × (result.keeps ≡ false) × (result.rule ≡ None) }
 {
     Turn {
         cut,
         any: true,
         keeps: false,
-        spots: Vec::new(alloc),
+        rule: None,
     }
 }
 
-// All spots to which the rule leads, in order.
-fn spots_by(
-    alloc: Global,
-    p: &Point,
-    rule: Rule,
-    arms: &[Arm],
-    theirs: &[Arm],
-) -> Result<Vec<Point>, NoMemory>
-    requires fits { Fits p.now.pending arms.now theirs.now rule }
-    requires ours { IsOnce arms.now }
-    requires theirs { IsOnce theirs.now }
-    ensures spots { IfOk result (λ v. v.items ≡ concat (nexts_by p.now arms.now theirs.now rule)) }
-    ensures few { IfOk result (λ v. length v.items ≤ 2 ^ 16) }
+/// Whether a turn to so many spots chooses.
+pub fn has_choice(any: bool, spots: usize) -> bool
+    ensures { result ≡ (any && not (spots == 1)) }
 {
-    match rule {
-        Rule::Stops => Ok(Vec::new(alloc)),
-        Rule::Pays { place, arm } => paid(alloc, p, place, arm),
-        Rule::SendsBoth => sent_by_both(alloc, p, arms, theirs),
-        Rule::Guesses { peer } => guessed(alloc, p, peer, theirs),
-        Rule::Follows { peer } => followed(alloc, p, peer, theirs),
-    }
+    any && spots != 1
 }
 
-fn paid(alloc: Global, p: &Point, place: usize, arm: Arm) -> Result<Vec<Point>, NoMemory>
+/// The spot behind the act that is owed at the place.
+pub fn paid(alloc: Global, p: &Point, place: usize, arm: Arm) -> Result<Point, NoMemory>
     requires { place < length p.now.pending }
-    ensures { IfOk result (λ v. v.items ≡ spot arm.next (without p.now.pending place) p.now.above ∷ []) }
+    ensures { IfOk result (λ r. r ≡ spot arm.next (without p.now.pending place) p.now.above) }
 {
-    let mut spots = Vec::new(alloc);
-    spots.push(Point {
+    Ok(Point {
         state: arm.next,
         pending: p.pending.copy_without(alloc, place)?,
         above: p.above,
-    })?;
-    Ok(spots)
+    })
 }
 
-// One spot for each arm of the machine, which the projection has too.
-fn sent_by_both(
-    alloc: Global,
-    p: &Point,
-    arms: &[Arm],
-    theirs: &[Arm],
-) -> Result<Vec<Point>, NoMemory>
-    requires once { IsOnce arms.now }
-    ensures spots { IfOk result (λ v. v.items ≡ concat (map (λ a. both_at p.now.pending a (arm_of theirs.now a.label)) arms.now)) }
-    ensures few { IfOk result (λ v. length v.items ≤ 2 ^ 16) }
+/// The spot behind arms that both send.
+pub fn both(alloc: Global, p: &Point, arm: Arm, their: Arm) -> Result<Point, NoMemory>
+    ensures { IfOk result (λ r. r ≡ spot arm.next p.now.pending their.next) }
 {
-    let mut spots = Vec::new(alloc);
-    for arm in arms {
-        push_both(alloc, &mut spots, p, *arm, arm_of(theirs, arm.label))?;
-    }
-    Ok(spots)
+    Ok(Point {
+        state: arm.next,
+        pending: p.pending.copy(alloc)?,
+        above: their.next,
+    })
 }
 
-fn push_both(
+/// The spot behind an arm by which the projection has sent or received, which is owed from there on.
+pub fn owing_by(
     alloc: Global,
-    spots: &mut Vec<Point>,
     p: &Point,
+    kind: Kind,
+    peer: Role,
     arm: Arm,
-    their: Option<Arm>,
-) -> Result<(), NoMemory>
-    ensures spots { OnOk result (spots.new.items ≡ spots.old.items ++ both_at p.now.pending arm their) }
-    ensures longer { OnOk result (length spots.new.items ≤ length spots.old.items + 1) }
-{
-    if let Some(their) = their {
-        spots.push(Point {
-            state: arm.next,
-            pending: p.pending.copy(alloc)?,
-            above: their.next,
-        })?;
-    }
-    Ok(())
-}
-
-// One spot for each arm of the projection's send, which is owed from there on.
-fn guessed(alloc: Global, p: &Point, peer: Role, theirs: &[Arm]) -> Result<Vec<Point>, NoMemory>
-    requires once { IsOnce theirs.now }
-    ensures spots { IfOk result (λ v. v.items ≡ map (λ b. owing_send p.now peer b) theirs.now) }
-    ensures few { IfOk result (λ v. length v.items ≤ 2 ^ 16) }
-{
-    let mut spots = Vec::new(alloc);
-    for arm in theirs {
-        spots.push(owing_send(alloc, p, peer, *arm)?)?;
-    }
-    Ok(spots)
-}
-
-// One spot for each arm of the projection's receive, which is owed from there on.
-fn followed(alloc: Global, p: &Point, peer: Role, theirs: &[Arm]) -> Result<Vec<Point>, NoMemory>
-    requires once { IsOnce theirs.now }
-    ensures spots { IfOk result (λ v. v.items ≡ map (λ b. owing_receive p.now peer b) theirs.now) }
-    ensures few { IfOk result (λ v. length v.items ≤ 2 ^ 16) }
-{
-    let mut spots = Vec::new(alloc);
-    for arm in theirs {
-        spots.push(owing_receive(alloc, p, peer, *arm)?)?;
-    }
-    Ok(spots)
-}
-
-fn owing_send(alloc: Global, p: &Point, peer: Role, arm: Arm) -> Result<Point, NoMemory>
-    ensures spot { IfOk result (λ r. r ≡ owing_send p.now peer arm) }
+) -> Result<Point, NoMemory>
+    ensures spot { IfOk result (λ r. r ≡ owing_by kind p.now peer arm) }
     ensures label { arm.label.0 < 2 ^ 16 }
 {
-    let act = Act::Puts {
-        peer,
-        label: arm.label,
-        sort: arm.sort,
-    };
-    owing(alloc, p, act, arm.next)
-}
-
-fn owing_receive(alloc: Global, p: &Point, peer: Role, arm: Arm) -> Result<Point, NoMemory>
-    ensures spot { IfOk result (λ r. r ≡ owing_receive p.now peer arm) }
-    ensures label { arm.label.0 < 2 ^ 16 }
-{
-    let act = Act::Takes {
-        peer,
-        label: arm.label,
-        sort: arm.sort,
+    let label = arm.label;
+    let sort = arm.sort;
+    let act = match kind {
+        Kind::Send => Act::Puts { peer, label, sort },
+        Kind::Receive => Act::Takes { peer, label, sort },
     };
     owing(alloc, p, act, arm.next)
 }
