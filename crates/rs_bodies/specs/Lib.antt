@@ -9,10 +9,13 @@ pub mod Misplaced
 pub mod Points
 pub mod Places
 pub mod Shapes
-pub mod Writable
 pub mod Bodied
 pub mod Fits
 pub mod Spells
+pub mod Texts
+pub mod Writable
+pub mod Canonical
+pub mod Printing
 pub mod Faults
 pub mod Drafts
 pub mod Feeding
