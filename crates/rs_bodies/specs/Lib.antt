@@ -9,11 +9,14 @@ pub mod Misplaced
 pub mod Points
 pub mod Places
 pub mod Shapes
-pub mod Writable
 pub mod Bodied
 pub mod Fits
 pub mod Spells
 pub mod Leads
+pub mod Texts
+pub mod Writable
+pub mod Canonical
+pub mod Printing
 pub mod Faults
 pub mod Drafts
 pub mod Feeding

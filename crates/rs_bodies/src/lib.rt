@@ -1,12 +1,14 @@
 //! The bodies of protocols and machines: one grammar in two dialects.
 #![tactic(auto)]
 
+pub mod canonical_laws;
 mod dialects;
 mod drafts;
 pub mod laws;
 mod parts;
 mod places;
 mod points;
+mod printing;
 mod reading;
 mod shapes;
 
@@ -14,4 +16,5 @@ pub use dialects::{Dialect, Head, Mark};
 pub use parts::read_part;
 pub use places::{Numbered, Place, PointRef};
 pub use points::{Point, Spelling};
+pub use printing::print_body;
 pub use shapes::has_body;

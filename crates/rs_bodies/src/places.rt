@@ -1,4 +1,6 @@
 ghost use Rattle.std.specs.Prelude.{◌≡◌, List, ℕ, length, slice_get};
+ghost use Rattle.rs_bodies.specs.declared.dialects.Dialect.{Dialect};
+ghost use Rattle.rs_bodies.specs.declared.dialects.Dialect.TheVariants.{Talks, Acts};
 ghost use Rattle.rs_bodies.specs.declared.dialects.Head.TheVariants as head;
 ghost use Rattle.rs_bodies.specs.declared.places.Place.{Place};
 ghost use Rattle.rs_bodies.specs.declared.places.Place.TheVariants as place;
@@ -32,6 +34,9 @@ pub enum Place<'a> {
 
 /// The graph of a body, its places numbered from 0.
 pub trait Numbered {
+    // The dialect of the body.
+    ghost dialect: { Dialect };
+
     // What stands at each number.
     ghost places: { Self → List Place };
 
@@ -52,6 +57,7 @@ pub trait Numbered {
 }
 
 impl Numbered for Protocol {
+    ghost dialect = { Talks };
     ghost places = { λ p. places_of_protocol p };
     ghost root = { λ p. p.root };
 
@@ -69,6 +75,7 @@ impl Numbered for Protocol {
 }
 
 impl Numbered for Machine {
+    ghost dialect = { Acts };
     ghost places = { λ m. places_of_machine m };
     ghost root = { λ m. m.start };
 

@@ -13,7 +13,6 @@ use Rattle.rs_bodies.specs.Openings.{Opening, of_roles, opening_signs}
 use Rattle.rs_bodies.specs.Trees.{Body, body_signs}
 use Rattle.rs_bodies.specs.Spells.{Tree, tree_signs}
 use Rattle.rs_bodies.specs.declared.dialects.Dialect.TheVariants.{Talks}
-use Rattle.rs_global.specs.Trees.{protocol_signs, ProtocolTree}
 use Rattle.rs_global.specs.Graph.{graph_of, names_of}
 use Rattle.rs_global.specs.Examples.{text, tree}
 use Rattle.rs_global.specs.Spells.{SpellsProtocol}

@@ -1,16 +1,12 @@
 pub mod Examples
-pub mod CanonForms
+pub mod Places
 pub mod Existence
 pub mod CanonOne
-pub mod CanonSame
-pub mod CanonNest
 pub mod CanonNumbers
 pub mod CanonWhole
 pub mod ShapeWhole
 pub mod PrintedTrees
 pub mod NodeNames
 pub mod Printed
-pub mod BackFlags
-pub mod EndsLast
 pub mod EnoughNames
 pub mod Spelt

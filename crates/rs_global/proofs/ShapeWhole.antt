@@ -1,90 +1,34 @@
 -- A protocol is text-shaped exactly where a body spells its nodes.
-use Rattle.std.proofs.Common.{◌≡◌, ℕ, suc, ◌+◌, ◌<◌, ◌≤◌, ◌↔◌, List, [], ◌∷◌, ◌++◌, length, map, Bool, true, false, ◌&&◌, nat_le, refl, sym, ap, ◌∙◌, subst, arith}
+use Rattle.std.proofs.Common.{◌≡◌, ℕ, suc, ◌≤◌, ◌↔◌, List, [], ◌∷◌, ◌++◌, length, map, Bool, true, false, ◌&&◌, nat_le, refl, sym, ap, ◌∙◌, subst, arith}
 use Rattle.std.proofs.lemmas.Bool.{le-leb, leb-true}
-use Rattle.std.proofs.lemmas.List.{map-append}
 use Rattle.std.specs.Bool.{IsTrue}
 use Rattle.std.specs.List.{All}
 use Rattle.rs_model.specs.Data.{Protocol_data, Names_data}
-use Rattle.rs_model.specs.declared.graph.Arm.{Arm}
 use Rattle.rs_model.specs.declared.graph.Node.{Node}
-use Rattle.rs_model.specs.declared.graph.Node.TheVariants.{Finished, Talk}
 use Rattle.rs_model.specs.declared.limits.TheConstants.{MOST_ROLES}
 use Rattle.rs_text.proofs.Basics.{both, two_true}
 use Rattle.rs_text.proofs.Naming.{decides_sound}
-use Rattle.rs_text.specs.Names.{Bound, grown}
-use Rattle.rs_text.specs.Sound.{differ, IsSound}
+use Rattle.rs_text.specs.Sound.{differ}
 use Rattle.rs_text.specs.Words.{is_role_word}
 use Rattle.rs_bodies.specs.declared.dialects.Dialect.TheVariants.{Talks}
-use Rattle.rs_bodies.specs.declared.dialects.Head.{Head}
-use Rattle.rs_bodies.specs.declared.dialects.Head.TheVariants as head
-use Rattle.rs_bodies.specs.declared.places.Place.{Place}
 use Rattle.rs_bodies.specs.declared.places.Place.TheVariants as place
 use Rattle.rs_bodies.specs.Bodied.{numbered, SpellsPlaces, HasBody}
-use Rattle.rs_bodies.specs.Dialects.{sends_to}
 use Rattle.rs_bodies.specs.Fits.{body_fits}
-use Rattle.rs_bodies.specs.Graph.{labels_of, acts_in, has_end, Numbering, first_of, arm_of, arms_of}
-use Rattle.rs_bodies.specs.Places.{choice, place_of_node, places_of_protocol, end_of}
-use Rattle.rs_bodies.specs.Points.{points_of, points_of_arms}
+use Rattle.rs_bodies.specs.Graph.{acts_in, has_end, first_of}
+use Rattle.rs_bodies.specs.Places.{places_of_protocol, end_of}
+use Rattle.rs_bodies.specs.Points.{points_of}
 use Rattle.rs_bodies.specs.Scenes.{first_scene}
 use Rattle.rs_bodies.specs.Shapes.{is_walked}
-use Rattle.rs_bodies.specs.Trees.{Body, ends, again, binds, acts, offers, Branches, one, more}
-use Rattle.rs_bodies.specs.Writable as bodies
-use Rattle.rs_bodies.proofs.ShapeWhole.{spelt_is_walked, spelt_has_body, walked_has_body}
+use Rattle.rs_bodies.proofs.ShapeWhole.{spelt_is_walked, walked_has_body}
 use Rattle.rs_global.specs.Canonical.{IsTextShaped}
-use Rattle.rs_global.specs.Graph.{talk_of, nodes_of, nodes_of_arms, numbering, graph_of, names_of, finish_of}
+use Rattle.rs_global.specs.Graph.{nodes_of, numbering, graph_of, names_of, finish_of}
 use Rattle.rs_global.specs.Shapes.{is_shaped}
 use Rattle.rs_global.specs.Spells.{Fits, SpellsProtocol}
 use Rattle.rs_global.specs.Texts.{protocol_text}
 use Rattle.rs_global.specs.Trees.{ProtocolTree, roles_of}
-use Rattle.rs_global.specs.Writable.{AreWordsIn, AreWordsInArms, AreWords}
+use Rattle.rs_global.specs.Writable.{AreWords}
+use Rattle.rs_global.proofs.Places.{whole_are, same_nodes}
 use Rattle.rs_global.proofs.PrintedTrees.{lone_tree_spelt}
-
--- ---- the places of the nodes that a body spells
-
-abbrev points : List Node → List Place
-points nodes = map place_of_node nodes
-
-mutual
-  places_are : (n : Numbering) (b : Body Talks) (bound : Bound) (k : ℕ) → points (nodes_of n b bound k) ≡ map place.Point (points_of Talks n b bound k)
-  places_are n ends bound k = refl
-  places_are n (again x) bound k = refl
-  places_are n (binds x b) bound k = places_are n b ((x, k) ∷ bound) k
-  places_are n (acts s (sends_to r) l sort b) bound k = ap (λ z. place_of_node (talk_of n s r (arm_of n l sort (first_of Talks b bound (suc k) n.last) ∷ [])) ∷ z) (places_are n b bound (suc k))
-  places_are n (offers s (sends_to r) arms) bound k = ap (λ z. place_of_node (talk_of n s r (arms_of Talks n arms bound (suc k))) ∷ z) (arm_places_are n arms bound (suc k))
-
-  arm_places_are : (n : Numbering) (arms : Branches Talks) (bound : Bound) (k : ℕ) → points (nodes_of_arms n arms bound k) ≡ map place.Point (points_of_arms Talks n arms bound k)
-  arm_places_are n (one l sort b) bound k = places_are n b bound k
-  arm_places_are n (more l sort b arms) bound k =
-      map-append place_of_node (nodes_of n b bound k) (nodes_of_arms n arms bound (k + acts_in Talks b))
-      ∙ ap (λ z. z ++ points (nodes_of_arms n arms bound (k + acts_in Talks b))) (places_are n b bound k)
-      ∙ ap (λ z. map place.Point (points_of Talks n b bound k) ++ z) (arm_places_are n arms bound (k + acts_in Talks b))
-      ∙ sym (map-append place.Point (points_of Talks n b bound k) (points_of_arms Talks n arms bound (k + acts_in Talks b)))
-
-end_is : (c : Bool) → points (finish_of c) ≡ end_of c
-end_is true = refl
-end_is false = refl
-
-whole_are : (n : Numbering) (b : Body Talks) (c : Bool) → points (nodes_of n b [] 0 ++ finish_of c) ≡ map place.Point (points_of Talks n b [] 0) ++ end_of c
-whole_are n b c =
-    map-append place_of_node (nodes_of n b [] 0) (finish_of c) ∙ ap (λ z. z ++ points (finish_of c)) (places_are n b [] 0) ∙ ap (λ z. map place.Point (points_of Talks n b [] 0) ++ z) (end_is c)
-
--- ---- .. tell the nodes
-
-abbrev talk_back : Head → List Arm → Node
-talk_back (head.Talk s r) arms = Talk s r arms
-talk_back (head.Act p m) arms = Finished
-
-abbrev node_back : Place → Node
-node_back place.End = Finished
-node_back (place.Point p) = talk_back p.head p.arms
-
-back_again : (nodes : List Node) → map node_back (points nodes) ≡ nodes
-back_again [] = refl
-back_again (Finished ∷ nodes) = ap (λ z. Finished ∷ z) (back_again nodes)
-back_again (Talk s r arms ∷ nodes) = ap (λ z. Talk s r arms ∷ z) (back_again nodes)
-
-same_nodes : (xs ys : List Node) → points xs ≡ points ys → xs ≡ ys
-same_nodes xs ys h = sym (back_again xs) ∙ ap (map node_back) h ∙ back_again ys
 
 -- ---- from a text to a body
 
@@ -103,18 +47,6 @@ pub shaped_is_walked : (p : Protocol_data) → IsTextShaped p → is_shaped p �
 shaped_is_walked p s = ap is_shaped s.spells.graph_is ∙ tree_shaped s.spells.tree s.spells.fits
 
 -- ---- from a body to a text
-
-mutual
-  worded : (b : Body Talks) → bodies.AreWordsIn Talks b → AreWordsIn b
-  worded ends h = h
-  worded (again x) h = h
-  worded (binds x b) h = (h.0, worded b h.1)
-  worded (acts s (sends_to r) l sort b) h = (h.0, h.1, h.2, worded b h.3)
-  worded (offers s (sends_to r) arms) h = (h.0, h.1, worded_arms arms h.2)
-
-  worded_arms : (arms : Branches Talks) → bodies.AreWordsInArms Talks arms → AreWordsInArms arms
-  worded_arms (one l sort b) h = (h.0, worded b h.1)
-  worded_arms (more l sort b arms) h = (h.0, worded b h.1, worded_arms arms h.2)
 
 record Lined (roles : List (List ℕ)) : Type 0 where
   first : List ℕ
@@ -158,7 +90,7 @@ body_text p two few h =
       few_roles = omega arith;
       body = ap (λ z. body_fits Talks h.body (first_scene z [])) roles ∙ ap (λ z. body_fits Talks h.body (first_scene h.old.roles z)) (sym labels) ∙ h.spells.fits;
     } in
-    let words : AreWords t = record { roles = subst (λ (z : List (List ℕ)). All (λ x. is_role_word x ≡ true) z) (sym roles) h.sound.roles_are_words; body = worded h.body h.words } in
+    let words : AreWords t = record { opening = subst (λ (z : List (List ℕ)). All (λ x. is_role_word x ≡ true) z) (sym roles) h.sound.roles_are_words; body = h.words } in
     record {
       bytes = protocol_text t;
       at = 0;

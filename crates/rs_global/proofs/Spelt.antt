@@ -15,7 +15,7 @@ use Rattle.rs_bodies.specs.Data.{Point_data, Spelling_data}
 use Rattle.rs_bodies.specs.Dialects.{sends_to}
 use Rattle.rs_bodies.specs.Faults.{Begins, IsUnexpected}
 use Rattle.rs_bodies.specs.Feeding as bodies
-use Rattle.rs_bodies.specs.Graph.{acts_in, has_end, first_of, Numbering, role_of, arm_of, arms_of}
+use Rattle.rs_bodies.specs.Graph.{acts_in, has_end, first_of, Numbering, arm_of, arms_of}
 use Rattle.rs_bodies.specs.Points.{points_of, points_of_arms}
 use Rattle.rs_bodies.specs.Openings.{Opening, of_roles, line_signs}
 use Rattle.rs_bodies.specs.Spells as parts
@@ -31,9 +31,9 @@ use Rattle.rs_bodies.proofs.SpeltLaws as laws
 use Rattle.rs_bodies.proofs.SpeltRuns as runs
 use Rattle.rs_global.specs.Answers.{Answer, of_protocol, ReadsAs}
 use Rattle.rs_global.specs.Faults.{FirstFault, no_names}
-use Rattle.rs_global.specs.Graph.{talk_of, nodes_of, nodes_of_arms, numbering, finish_of, graph_of}
+use Rattle.rs_global.specs.Graph.{talk_of, nodes_of, nodes_of_arms, numbering, finish_of, graph_of, names_of}
 use Rattle.rs_global.specs.Parts.{node_at, graph_spelt}
-use Rattle.rs_global.specs.Spells.{Fits, SpellsProtocol}
+use Rattle.rs_global.specs.Spells.{SpellsProtocol}
 use Rattle.rs_global.specs.Trees.{ProtocolTree, protocol_signs, roles_of}
 use Rattle.rs_global.specs.Parts.{part_of}
 
@@ -59,7 +59,7 @@ pub graph_is : (t : ProtocolTree) → graph_spelt (length (roles_of t)) (spellin
 graph_is t = ap (λ z. record { roles = length (roles_of t); nodes = z ++ finish_of (has_end Talks t.body); root = first_of Talks t.body [] 0 (acts_in Talks t.body) }) (nodes_are (numbering t) t.body [] 0)
 
 -- the roles line and the body, together or apart
-signs_are : (t : ProtocolTree) → tree_signs Talks (part_of t) ≡ protocol_signs t
+pub signs_are : (t : ProtocolTree) → tree_signs Talks (part_of t) ≡ protocol_signs t
 signs_are t = append_assoc (line_signs t.first (t.second ∷ t.further)) (plain (codes "protocol") ∷ []) (body_signs Talks t.body)
 
 -- ---- a protocol is spelt where its part is
@@ -92,6 +92,11 @@ to_protocol bytes at names s until k =
       graph_is = ap (λ z. graph_spelt z s) (roles_spelt names t same) ∙ ap (λ z. graph_spelt (length (roles_of t)) z) (k.spelling_is ∙ ap (λ z. spelling_of Talks no_names z) (sym b.1)) ∙ graph_is t;
       goes_on = k.goes_on;
     }
+
+-- .. as its tree says
+pub tree_spells : (bytes : List ℕ) (at : ℕ) (t : ProtocolTree) (until : ℕ) → Spells Talks bytes at no_names (parts.names_of Talks no_names (part_of t)) (spelling_of Talks no_names (part_of t)) until → SpellsProtocol bytes at (names_of t) (graph_of t) until
+tree_spells bytes at t until k =
+    subst (λ (z : Protocol_data). SpellsProtocol bytes at (names_of t) z until) (graph_is t) (to_protocol bytes at (names_of t) (spelling_of Talks no_names (part_of t)) until k)
 
 -- .. and so is any protocol that is its graph, with names that are these
 pub spells : (bytes : List ℕ) (at : ℕ) (old names : Names_data) (s : Spelling_data) (roles : ℕ) (protocol : Protocol_data) (until : ℕ) → old ≡ no_names → Spells Talks bytes at old names s until → roles ≡ length names.roles → protocol ≡ graph_spelt roles s → SpellsProtocol bytes at names protocol until

@@ -6,8 +6,7 @@ use Rattle.rs_text.proofs.Naming.{decides_sound, at_among, place_at}
 use Rattle.rs_text.specs.Names.{is_among, place_of}
 use Rattle.rs_text.specs.Sound.{differ, IsSound}
 use Rattle.rs_text.specs.Words.{is_word, is_role_word}
-use Rattle.rs_machines.proofs.CanonForms.{Writing, role_as, label_as, HasRole, HasLabel}
-use Rattle.rs_machines.proofs.Existence.{role_stands, label_stands}
+use Rattle.rs_bodies.proofs.CanonForms.{Writing, role_as, label_as, HasRole, HasLabel, role_stands, label_stands}
 use Rattle.rs_text.proofs.Basics.{both}
 use Rattle.rs_bodies.specs.Graph.{role_of, label_of}
 

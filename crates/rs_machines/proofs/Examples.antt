@@ -14,7 +14,6 @@ use Rattle.rs_bodies.specs.Openings.{Opening, of_role, opening_signs}
 use Rattle.rs_bodies.specs.Trees.{Body, body_signs}
 use Rattle.rs_bodies.specs.Spells.{Tree, tree_signs}
 use Rattle.rs_bodies.specs.declared.dialects.Dialect.TheVariants.{Acts}
-use Rattle.rs_machines.specs.Trees.{machine_signs, MachineTree}
 use Rattle.rs_machines.specs.Machines.{machine_of, names_of}
 use Rattle.rs_machines.specs.Examples.{text, old, tree}
 use Rattle.rs_machines.specs.Spells.{SpellsMachine}

@@ -1,98 +1,34 @@
 -- A machine is text-shaped exactly where a body spells its states.
-use Rattle.std.proofs.Common.{◌≡◌, ℕ, suc, ◌+◌, ◌<◌, ◌≤◌, ◌↔◌, List, [], ◌∷◌, ◌++◌, length, map, Bool, true, false, ◌&&◌, nat_lt, Option, Some, None, slice_get, get_or, refl, sym, ap, ◌∙◌, subst, arith}
+use Rattle.std.proofs.Common.{◌≡◌, ℕ, ◌<◌, ◌≤◌, ◌↔◌, List, [], ◌++◌, length, Bool, true, false, ◌&&◌, nat_lt, Some, slice_get, get_or, refl, sym, ap, ◌∙◌, subst, arith}
 use Rattle.std.proofs.lemmas.Bool.{lt-ltb, ltb-true}
-use Rattle.std.proofs.lemmas.List.{map-append}
 use Rattle.std.proofs.lemmas.Option.{slice_get-get_or}
 use Rattle.std.specs.Bool.{IsTrue}
 use Rattle.std.specs.List.{list_all}
 use Rattle.rs_model.specs.Data.{Machine_data, Names_data}
-use Rattle.rs_model.specs.declared.graph.Arm.{Arm}
 use Rattle.rs_model.specs.declared.graph.Role.{Role}
 use Rattle.rs_model.specs.declared.limits.TheConstants.{MOST_LABELS, MOST_ROLES}
 use Rattle.rs_model.specs.declared.machines.State.{State}
-use Rattle.rs_model.specs.declared.machines.State.TheVariants.{Done, Puts, Takes}
 use Rattle.rs_text.proofs.Basics.{both, two_true, one_of}
 use Rattle.rs_text.proofs.Naming.{decides_sound, among, place_at}
-use Rattle.rs_text.specs.Names.{Bound, grown, is_among, number_or, place_of}
-use Rattle.rs_text.specs.Sound.{differ, are_sound, IsSound}
+use Rattle.rs_text.specs.Names.{is_among, number_or, place_of}
+use Rattle.rs_text.specs.Sound.{differ, IsSound}
 use Rattle.rs_text.specs.Words.{is_word, is_role_word}
 use Rattle.rs_bodies.specs.declared.dialects.Dialect.TheVariants.{Acts}
-use Rattle.rs_bodies.specs.declared.dialects.Mark.{Mark}
-use Rattle.rs_bodies.specs.declared.dialects.Mark.TheVariants as mark
-use Rattle.rs_bodies.specs.declared.dialects.Head.TheVariants as head
-use Rattle.rs_bodies.specs.declared.places.Place.{Place}
-use Rattle.rs_bodies.specs.declared.places.Place.TheVariants as place
-use Rattle.rs_bodies.specs.Bodied.{numbered, SpellsPlaces, HasBody}
-use Rattle.rs_bodies.specs.Dialects.{with_mark}
-use Rattle.rs_bodies.specs.Graph.{labels_of, acts_in, has_end, Numbering, role_of, first_of, arm_of, arms_of}
-use Rattle.rs_bodies.specs.Places.{choice, place_of_state, places_of_machine, end_of}
-use Rattle.rs_bodies.specs.Points.{points_of, points_of_arms}
+use Rattle.rs_bodies.specs.Bodied.{SpellsPlaces, HasBody}
+use Rattle.rs_bodies.specs.Graph.{acts_in, has_end, first_of}
+use Rattle.rs_bodies.specs.Places.{places_of_machine}
 use Rattle.rs_bodies.specs.Shapes.{is_walked}
-use Rattle.rs_bodies.specs.Trees.{Body, ends, again, binds, acts, offers, Branches, one, more}
-use Rattle.rs_bodies.specs.Writable as bodies
 use Rattle.rs_bodies.proofs.ShapeWhole.{spelt_is_walked, walked_has_body}
 use Rattle.rs_machines.specs.Canonical.{IsMachineTextShaped}
-use Rattle.rs_machines.specs.Machines.{state_of, act_of, states_of, states_of_arms, numbering, machine_of, names_of, done_of}
-use Rattle.rs_machines.specs.Parts.{state_at}
+use Rattle.rs_machines.specs.Machines.{states_of, numbering, machine_of, names_of, done_of}
 use Rattle.rs_machines.specs.Shapes.{is_shaped}
 use Rattle.rs_machines.specs.Spells.{Fits, SpellsMachine}
 use Rattle.rs_machines.specs.Texts.{machine_text}
 use Rattle.rs_machines.specs.Trees.{MachineTree}
-use Rattle.rs_machines.specs.Writable.{AreWordsIn, AreWordsInArms, AreWords}
+use Rattle.rs_machines.specs.Writable.{AreWords}
+use Rattle.rs_machines.proofs.Places.{whole_are, same_states}
 use Rattle.rs_machines.proofs.PrintedTrees.{lone_tree_spelt}
 use Rattle.rs_machines.proofs.SpeltShapes.{known_by}
-
--- ---- the places of the states that a body spells
-
-abbrev points : List State → List Place
-points states = map place_of_state states
-
-act_place : (m : Mark) (p : Role) (arms : List Arm) → place_of_state (state_of m p arms) ≡ choice (head.Act p m) arms
-act_place mark.Puts p arms = refl
-act_place mark.Takes p arms = refl
-
-mutual
-  places_are : (n : Numbering) (b : Body Acts) (bound : Bound) (k : ℕ) → points (states_of n b bound k) ≡ map place.Point (points_of Acts n b bound k)
-  places_are n ends bound k = refl
-  places_are n (again x) bound k = refl
-  places_are n (binds x b) bound k = places_are n b ((x, k) ∷ bound) k
-  places_are n (acts s (with_mark m) l sort b) bound k =
-      ap (λ z. z ∷ points (states_of n b bound (suc k))) (act_place m (role_of n s) (arm_of n l sort (first_of Acts b bound (suc k) n.last) ∷ []))
-      ∙ ap (λ z. choice (head.Act (role_of n s) m) (arm_of n l sort (first_of Acts b bound (suc k) n.last) ∷ []) ∷ z) (places_are n b bound (suc k))
-  places_are n (offers s (with_mark m) arms) bound k =
-      ap (λ z. z ∷ points (states_of_arms n arms bound (suc k))) (act_place m (role_of n s) (arms_of Acts n arms bound (suc k)))
-      ∙ ap (λ z. choice (head.Act (role_of n s) m) (arms_of Acts n arms bound (suc k)) ∷ z) (arm_places_are n arms bound (suc k))
-
-  arm_places_are : (n : Numbering) (arms : Branches Acts) (bound : Bound) (k : ℕ) → points (states_of_arms n arms bound k) ≡ map place.Point (points_of_arms Acts n arms bound k)
-  arm_places_are n (one l sort b) bound k = places_are n b bound k
-  arm_places_are n (more l sort b arms) bound k =
-      map-append place_of_state (states_of n b bound k) (states_of_arms n arms bound (k + acts_in Acts b))
-      ∙ ap (λ z. z ++ points (states_of_arms n arms bound (k + acts_in Acts b))) (places_are n b bound k)
-      ∙ ap (λ z. map place.Point (points_of Acts n b bound k) ++ z) (arm_places_are n arms bound (k + acts_in Acts b))
-      ∙ sym (map-append place.Point (points_of Acts n b bound k) (points_of_arms Acts n arms bound (k + acts_in Acts b)))
-
-end_is : (c : Bool) → points (done_of c) ≡ end_of c
-end_is true = refl
-end_is false = refl
-
-whole_are : (n : Numbering) (b : Body Acts) (c : Bool) → points (states_of n b [] 0 ++ done_of c) ≡ map place.Point (points_of Acts n b [] 0) ++ end_of c
-whole_are n b c =
-    map-append place_of_state (states_of n b [] 0) (done_of c) ∙ ap (λ z. z ++ points (done_of c)) (places_are n b [] 0) ∙ ap (λ z. map place.Point (points_of Acts n b [] 0) ++ z) (end_is c)
-
--- ---- .. tell the states
-
-abbrev state_back : Place → State
-state_back place.End = Done
-state_back (place.Point p) = state_at p
-
-back_again : (states : List State) → map state_back (points states) ≡ states
-back_again [] = refl
-back_again (Done ∷ states) = ap (λ z. Done ∷ z) (back_again states)
-back_again (Puts p arms ∷ states) = ap (λ z. Puts p arms ∷ z) (back_again states)
-back_again (Takes p arms ∷ states) = ap (λ z. Takes p arms ∷ z) (back_again states)
-
-same_states : (xs ys : List State) → points xs ≡ points ys → xs ≡ ys
-same_states xs ys h = sym (back_again xs) ∙ ap (map state_back) h ∙ back_again ys
 
 -- ---- from a text to a body
 
@@ -110,18 +46,6 @@ pub shaped_is_walked : (p : Machine_data) → IsMachineTextShaped p → is_shape
 shaped_is_walked p s = ap is_shaped s.spells.machine_is ∙ tree_shaped s.old s.spells.tree s.few_roles s.few_labels s.spells.fits
 
 -- ---- from a body to a text
-
-mutual
-  worded : (b : Body Acts) → bodies.AreWordsIn Acts b → AreWordsIn b
-  worded ends h = h
-  worded (again x) h = h
-  worded (binds x b) h = (h.0, worded b h.1)
-  worded (acts s (with_mark m) l sort b) h = (h.0, h.2, worded b h.3)
-  worded (offers s (with_mark m) arms) h = (h.0, worded_arms arms h.2)
-
-  worded_arms : (arms : Branches Acts) → bodies.AreWordsInArms Acts arms → AreWordsInArms arms
-  worded_arms (one l sort b) h = (h.0, worded b h.1)
-  worded_arms (more l sort b arms) h = (h.0, worded b h.1, worded_arms arms h.2)
 
 abbrev machine : Role → List State → ℕ → Machine_data
 machine role states start = record { role = role; states = states; start = start }
@@ -157,7 +81,7 @@ body_text p few h =
     ap (λ z. machine (role_number (number_or z)) (states_of (numbering old t) h.body [] 0 ++ done_of (has_end Acts h.body)) (first_of Acts h.body [] 0 (acts_in Acts h.body))) r.place
     ∙ ap (λ z. machine p.role z (first_of Acts h.body [] 0 (acts_in Acts h.body))) states ∙ ap (λ z. machine p.role p.states z) (sym h.spells.start_is) in
     let fits : Fits old t = record { role = r.there; body = h.spells.fits } in
-    let words : AreWords t = record { role = r.word; body = worded h.body h.words } in
+    let words : AreWords t = record { opening = r.word; body = h.words } in
     record {
       bytes = machine_text t;
       at = 0;

@@ -29,7 +29,7 @@ use Rattle.rs_machines.specs.Answers.{Answer, of_machine, ReadsAs}
 use Rattle.rs_machines.specs.Faults.{FirstFault}
 use Rattle.rs_machines.specs.Machines.{act_of, states_of, states_of_arms, numbering, done_of, machine_of}
 use Rattle.rs_machines.specs.Parts.{state_at, machine_spelt}
-use Rattle.rs_machines.specs.Spells.{Fits, SpellsMachine}
+use Rattle.rs_machines.specs.Spells.{SpellsMachine}
 use Rattle.rs_machines.specs.Trees.{MachineTree}
 use Rattle.rs_machines.specs.Parts.{part_of}
 

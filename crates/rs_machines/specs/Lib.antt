@@ -13,4 +13,3 @@ pub mod Canonical
 pub mod Writable
 pub mod Enough
 pub mod Shapes
-pub mod Printing

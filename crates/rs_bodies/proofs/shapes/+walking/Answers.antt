@@ -1,8 +1,7 @@
-use Rattle.std.proofs.Common.{◌≡◌, ◌+◌, List, suc, ap, sym, ◌∙◌, arith}
+use Rattle.std.proofs.Common.{◌+◌, List, ap, sym, ◌∙◌, arith}
 use Rattle.rs_bodies.specs.declared.places.Place.{Place}
 use Rattle.rs_bodies.specs.declared.shapes.Trail.{Trail}
 use Rattle.rs_bodies.specs.declared.shapes.Walk.{Walk}
-use Rattle.rs_bodies.specs.Shapes.{one_more}
 use Rattle.rs_bodies.proofs.Reaches.{nested_is, point_goes, begun_is}
 use Rattle.rs_bodies.proofs.shapes.+walking.Goals as goal
 

@@ -1,4 +1,4 @@
-use Rattle.std.proofs.Common.{◌≡◌, ◌+◌, List, drop, ap, ◌∙◌, arith}
+use Rattle.std.proofs.Common.{◌+◌, List, drop, ap, ◌∙◌, arith}
 use Rattle.rs_bodies.specs.declared.places.Place.{Place}
 use Rattle.rs_bodies.specs.Shapes.{there_reached, all_reached}
 use Rattle.rs_bodies.proofs.Reaches.{reached_step}

@@ -1,4 +1,4 @@
-use Rattle.std.proofs.Common.{◌≡◌, ◌+◌, suc, arith}
+use Rattle.std.proofs.Common.{◌+◌, arith}
 use Rattle.rs_bodies.proofs.Reaches.{walk_is}
 use Rattle.rs_bodies.proofs.shapes.walks.Goals as goal
 

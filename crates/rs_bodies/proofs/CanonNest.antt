@@ -1,0 +1,264 @@
+-- The canonical form nests no deeper than a body that spells it, and has names and limits as it has.
+use Rattle.std.proofs.Common.{◌≡◌, ℕ, zero, suc, ◌+◌, ◌^◌, ◌<◌, ◌≤◌, List, [], ◌∷◌, ◌++◌, length, Bool, true, false, ◌&&◌, ◌||◌, nat_lt, Option, Some, None, refl, sym, ap, ◌∙◌, subst, arith, slice_get}
+use Rattle.std.specs.Str.{bytes_eq}
+use Rattle.std.proofs.lemmas.Bool.{ltb-true, lt-ltb}
+use Rattle.rs_model.specs.declared.graph.Arm.{Arm}
+use Rattle.rs_model.specs.declared.values.Sort.{Sort}
+use Rattle.rs_text.proofs.Basics.{some_is, two_true, both}
+use Rattle.rs_text.proofs.Naming.{grown_append}
+use Rattle.rs_text.specs.Names.{Bound, bound_to, number_or, grown, is_among}
+use Rattle.rs_bodies.specs.declared.dialects.Dialect.{Dialect}
+use Rattle.rs_bodies.specs.declared.dialects.Dialect.TheVariants.{Talks, Acts}
+use Rattle.rs_bodies.specs.declared.places.Place.{Place}
+use Rattle.rs_bodies.specs.declared.places.Place.TheVariants as place
+use Rattle.rs_bodies.specs.Dialects.{Turn, sends_to, with_mark, most}
+use Rattle.rs_bodies.specs.Fits.{is_guarded, has_room_for, head_fits, body_fits, arms_fit}
+use Rattle.rs_bodies.specs.Graph.{labels_of, labels_of_arms, acts_in, acts_in_arms, Numbering, first_of, arm_of, arms_of}
+use Rattle.rs_bodies.specs.Places.{choice, end_of, name_of_place, IsGoneBackTo}
+use Rattle.rs_bodies.specs.Scenes.{Scene, with_label, in_act, in_braces, behind}
+use Rattle.rs_bodies.specs.Trees.{Body, ends, again, binds, acts, offers, Branches, one, more}
+use Rattle.rs_bodies.proofs.BackFlags.{goes_back, back_is}
+use Rattle.rs_bodies.proofs.CanonForms.{Writing, role_as, label_as, turn_as, sort_as, wrapped, offered, canon, canon_arms, Low, low_rec, low_up, HasRole, HasTurn, HasNames, HasNamesArms}
+use Rattle.rs_bodies.proofs.CanonSame.{Inv, InvAll, inv_rec, inv_head, inv_all, opened_for, canon_acts, wrapped_labels, offered_labels}
+use Rattle.rs_bodies.proofs.Fitting.{good_behind, rec_at, recs_at, Recs, RecsArms, at_self, at_later, in_first, in_rest, recs_stand, NamesGood, same_name, lead_good, Named, NamedArms, Leads, Fine, FineArms}
+use Rattle.rs_bodies.proofs.PlacesIn.{places_in, places_in_arms, places_length}
+
+-- ---- an arm that goes back leads to such a head
+
+abbrev BackGood : (ℕ → Bool) → ℕ → List Arm → Type 0
+BackGood good n arms = (index : ℕ) (arm : Arm) → slice_get arms index ≡ Some arm → arm.next ≤ n → good arm.next ≡ true
+
+abbrev PlaceGood : (ℕ → Bool) → ℕ → Place → Type 0
+PlaceGood good n place.End = Unit {0}
+PlaceGood good n (place.Point x) = BackGood good n x.arms
+
+abbrev Backs : (ℕ → Bool) → ℕ → List Place → Type 0
+Backs good n [] = Unit {0}
+Backs good n (x ∷ places) = PlaceGood good n x × Backs good (suc n) places
+
+backs_append : (good : ℕ → Bool) (xs ys : List Place) (n j : ℕ) → n + length xs ≡ j → Backs good n xs → Backs good j ys → Backs good n (xs ++ ys)
+backs_append good [] ys n j e h k = let same : j ≡ n = omega arith in subst (λ (z : ℕ). Backs good z ys) same k
+backs_append good (x ∷ xs) ys n j e h k = (h.0, backs_append good xs ys (suc n) j (omega arith) h.1 k)
+
+backs_at : (good : ℕ → Bool) (places : List Place) (n i : ℕ) (here : Place) → Backs good n places → slice_get places i ≡ Some here → PlaceGood good (n + i) here
+backs_at good [] n i here h e = absurd (cc e)
+backs_at good (x ∷ places) n zero here h e =
+    let same : n ≡ n + 0 = omega arith in
+    subst (λ (z : ℕ). PlaceGood good z here) same (subst (λ (z : Place). PlaceGood good n z) (some_is x here e) h.0)
+backs_at good (x ∷ places) n (suc i) here h e =
+    let same : suc n + i ≡ n + suc i = omega arith in
+    subst (λ (z : ℕ). PlaceGood good z here) same (backs_at good places (suc n) i here h.1 e)
+
+one_good : (good : ℕ → Bool) (n : ℕ) (a : Arm) → (a.next ≤ n → good a.next ≡ true) → BackGood good n (a ∷ [])
+one_good good n a f zero arm e le = let same : a ≡ arm = some_is a arm e in subst (λ (z : Arm). good z.next ≡ true) same (f (subst (λ (z : Arm). z.next ≤ n) (sym same) le))
+one_good good n a f (suc index) arm e le = absurd (cc e)
+
+more_good : (good : ℕ → Bool) (n : ℕ) (a : Arm) (arms : List Arm) → (a.next ≤ n → good a.next ≡ true) → BackGood good n arms → BackGood good n (a ∷ arms)
+more_good good n a arms f g zero arm e le = let same : a ≡ arm = some_is a arm e in subst (λ (z : Arm). good z.next ≡ true) same (f (subst (λ (z : Arm). z.next ≤ n) (sym same) le))
+more_good good n a arms f g (suc index) arm e le = g index arm e le
+
+mutual
+  backs : {dia : Dialect} (m : Numbering) (good : ℕ → Bool) (t : Body dia) (bound : Bound) (here : Bool) (k : ℕ) → k + acts_in dia t ≤ m.last → Named dia t bound k → Low bound k → ((v : ℕ) → k ≤ v → v < k + acts_in dia t → rec_at dia t here k v ≡ true → good v ≡ true)
+      → ((x : List ℕ) (v : ℕ) → bound_to x bound ≡ Some v → v < k → good v ≡ true) → ((x : List ℕ) (v : ℕ) → bound_to x bound ≡ Some v → v ≡ k → here ≡ true) → Backs good k (places_in m t bound k)
+  backs {dia} m good ends bound here k end named low f before at = tt
+  backs {dia} m good (again x) bound here k end named low f before at = tt
+  backs {dia} m good (binds x b) bound here k end named low f before at =
+      backs m good b ((x, k) ∷ bound) true k end named (low_rec bound k x low) f
+      (λ y v e lt. same_name (bytes_eq x y) k v (bound_to y bound) e (λ same. absurd (omega arith)) (λ g. before y v g lt)) (λ y v e same. refl)
+  backs {dia} m good (acts s r l sort b) bound here k end named low f before at =
+      let names : NamesGood good bound k = good_behind good bound here k before at (λ h. f k (omega arith) (omega arith) (at_self k here (rec_at dia b false (suc k) k) ∙ h)) in (
+        (one_good good k (arm_of m l sort (first_of dia b bound (suc k) m.last)) (lead_good dia good b bound k (suc k) m.last named names (omega arith) (omega arith))),
+        backs m good b bound false (suc k) (omega arith) named (low_up bound k (suc k) (omega arith) low) (λ v le lt h. f v (omega arith) (omega arith) (at_later v k here (rec_at dia b false (suc k) v) (omega arith) ∙ h))
+            (λ x v e lt. names x v e (omega arith)) (λ x v e same. let lt : v < k + 1 = low x v e in absurd (omega arith)),
+      )
+  backs {dia} m good (offers s r arms) bound here k end named low f before at =
+      let names : NamesGood good bound k = good_behind good bound here k before at (λ h. f k (omega arith) (omega arith) (at_self k here (recs_at dia arms (suc k) k) ∙ h)) in (
+        (arms_good m good arms bound k (suc k) (omega arith) (omega arith) named names),
+        backs_arms m good arms bound k (suc k) (omega arith) (omega arith) named low (λ v le lt h. f v (omega arith) (omega arith) (at_later v k here (recs_at dia arms (suc k) v) (omega arith) ∙ h)) names,
+      )
+
+  arms_good : {dia : Dialect} (m : Numbering) (good : ℕ → Bool) (arms : Branches dia) (bound : Bound) (n j : ℕ) → n < j → j + acts_in_arms dia arms ≤ m.last → NamedArms dia arms bound j → NamesGood good bound n → BackGood good n (arms_of dia m arms bound j)
+  arms_good {dia} m good (one l sort b) bound n j lt end named names = one_good good n (arm_of m l sort (first_of dia b bound j m.last)) (lead_good dia good b bound n j m.last named names lt (omega arith))
+  arms_good {dia} m good (more l sort b arms) bound n j lt end named names =
+      more_good good n (arm_of m l sort (first_of dia b bound j m.last)) (arms_of dia m arms bound (j + acts_in dia b)) (lead_good dia good b bound n j m.last named.0 names lt (omega arith)) (arms_good m good arms bound n (j + acts_in dia b) (omega arith) (omega arith) named.1 names)
+
+  backs_arms : {dia : Dialect} (m : Numbering) (good : ℕ → Bool) (arms : Branches dia) (bound : Bound) (n j : ℕ) → n < j → j + acts_in_arms dia arms ≤ m.last → NamedArms dia arms bound j → Low bound n → ((v : ℕ) → j ≤ v → v < j + acts_in_arms dia arms → recs_at dia arms j v ≡ true → good v ≡ true) → NamesGood good bound n
+      → Backs good j (places_in_arms m arms bound j)
+  backs_arms {dia} m good (one l sort b) bound n j lt end named low f names =
+      backs m good b bound false j end named (low_up bound n j (omega arith) low) f (λ x v e i. let le : v < n + 1 = low x v e in names x v e (omega arith)) (λ x v e same. let le : v < n + 1 = low x v e in absurd (omega arith))
+  backs_arms {dia} m good (more l sort b arms) bound n j lt end named low f names =
+      backs_append good (places_in m b bound j) (places_in_arms m arms bound (j + acts_in dia b)) j (j + acts_in dia b) (ap (λ z. j + z) (places_length m b bound j))
+      (backs m good b bound false j (omega arith) named.0 (low_up bound n j (omega arith) low) (λ v le i h. f v le (omega arith) (in_first v (j + acts_in dia b) (rec_at dia b false j v) (recs_at dia arms (j + acts_in dia b) v) i ∙ h)) (λ x v e i. let le : v < n + 1 = low x v e in names x v e (omega arith)) (λ x v e same. let le : v < n + 1 = low x v e in absurd (omega arith)))
+      (backs_arms m good arms bound n (j + acts_in dia b) (omega arith) (omega arith) named.1 low (λ v le i h. f v (omega arith) (omega arith) (in_rest v (j + acts_in dia b) (rec_at dia b false j v) (recs_at dia arms (j + acts_in dia b) v) le ∙ h)) names)
+
+end_backs : (good : ℕ → Bool) (n : ℕ) (c : Bool) → Backs good n (end_of c)
+end_backs good n true = (tt, tt)
+end_backs good n false = tt
+
+-- a rec stands in front of each head of the tree that is gone back to in its graph
+pub tree_recs : {dia : Dialect} (m : Numbering) (p : List Place) (t : Body dia) (c : Bool) → p ≡ places_in m t [] 0 ++ end_of c → m.last ≡ acts_in dia t → Named dia t [] 0 → Recs dia (goes_back p) t false 0
+tree_recs {dia} m p t c e last named =
+    let good : ℕ → Bool = rec_at dia t false 0 in
+    let all : Backs good 0 (places_in m t [] 0 ++ end_of c) = backs_append good (places_in m t [] 0) (end_of c) 0 (0 + length (places_in m t [] 0)) refl
+    (backs m good t [] false 0 (omega arith) named (λ x v h. absurd (cc h)) (λ v le lt h. h) (λ x v h lt. absurd (cc h)) (λ x v h same. absurd (cc h))) (end_backs good (0 + length (places_in m t [] 0)) c) in
+    recs_stand dia (goes_back p) t false 0 (λ v h le lt.
+    let b : IsGoneBackTo p v = back_is p v h in
+    let here : BackGood good (0 + b.number) b.arms = backs_at good (places_in m t [] 0 ++ end_of c) 0 b.number (choice b.head b.arms) all (ap (λ z. slice_get z b.number) (sym e) ∙ b.stands) in
+    let to : b.arm.next ≡ v = b.leads in
+    let behind : v ≤ b.number = b.behind in
+    subst (λ (z : ℕ). good z ≡ true) to (here b.index b.arm b.holds (omega arith)))
+
+-- ---- nesting, names and limits of the canonical form
+
+abbrev pub scene : List (List ℕ) → Bound → (depth count : ℕ) → List (List ℕ) → Scene
+scene roles bound depth count labels = record { roles = roles; bound = bound; depth = depth; acts = count; labels = labels }
+
+-- one deeper where that is so
+abbrev pub deeper : Bool → ℕ → ℕ
+deeper true depth = suc depth
+deeper false depth = depth
+
+deeper_within : (c here : Bool) (inner d : ℕ) → (c ≡ true → here ≡ true) → inner ≤ d → (here ≡ true → inner < d) → deeper c inner ≤ d
+deeper_within true here inner d f le lt = let h = lt (f refl) in omega arith
+deeper_within false here inner d f le lt = le
+
+wrapped_fits : {dia : Dialect} (c : Bool) (k : ℕ) (b : Body dia) (roles : List (List ℕ)) (named : Bound) (d : ℕ) (ls : List (List ℕ)) → (c ≡ true → d < 200) → body_fits dia b (scene roles (opened_for c k named) (deeper c d) k ls) ≡ true → body_fits dia (wrapped c k b) (scene roles named d k ls) ≡ true
+wrapped_fits {dia} true k b roles named d ls lt h = two_true (nat_lt d 200) (body_fits dia b (scene roles ((name_of_place k, k) ∷ named) (suc d) k ls)) (lt-ltb d 200 (lt refl)) h
+wrapped_fits {dia} false k b roles named d ls lt h = h
+
+-- the roles that are written are known
+abbrev pub RolesKnown : Writing → List (List ℕ) → Type 0
+RolesKnown w roles = (s : List ℕ) → HasRole w s → is_among (role_as w s) roles ≡ true
+
+-- labels that are read lead to labels that are written, with room for each
+pub record Carries (P : List ℕ → Type 0) (R : List (List ℕ) → List (List ℕ) → Type 0) (w : Writing) : Type 0 where
+  pub room : (l : List ℕ) (ls labels : List (List ℕ)) → P l → R ls labels → (is_among l ls || nat_lt (length ls) 256) ≡ true → (is_among (label_as w l) labels || nat_lt (length labels) 256) ≡ true
+  pub grows : (l : List ℕ) (ls labels : List (List ℕ)) → P l → R ls labels → R (grown ls (l ∷ [])) (grown labels (label_as w l ∷ []))
+
+mutual
+  pub carried : {dia : Dialect} (P : List ℕ → Type 0) (R : List (List ℕ) → List (List ℕ) → Type 0) (w : Writing) (b : Body dia) (bound : Bound) (k : ℕ) (ls labels : List (List ℕ)) → Carries P R w → HasNames w P b → R ls labels → R (grown ls (labels_of dia b)) (grown labels (labels_of dia (canon w b bound k)))
+  carried P R w ends bound k ls labels c has r = r
+  carried P R w (again x) bound k ls labels c has r = r
+  carried P R w (binds x b) bound k ls labels c has r = carried P R w b ((x, k) ∷ bound) k ls labels c has r
+  carried {dia} P R w (acts s t l sort b) bound k ls labels c has r =
+      subst (λ (z : List (List ℕ)). R (grown ls (l ∷ labels_of dia b)) (grown labels z)) (sym (wrapped_labels (goes_back w.places k) k (acts (role_as w s) (turn_as w t) (label_as w l) (sort_as sort) (canon w b bound (suc k)))))
+      (carried P R w b bound (suc k) (grown ls (l ∷ [])) (grown labels (label_as w l ∷ [])) c has.2 (c.grows l ls labels has.1 r))
+  carried {dia} P R w (offers s t arms) bound k ls labels c has r =
+      subst (λ (z : List (List ℕ)). R (grown ls (labels_of_arms dia arms)) (grown labels z)) (sym (wrapped_labels (goes_back w.places k) k (offered (role_as w s) (turn_as w t) (canon_arms w arms bound (suc k))) ∙ offered_labels (role_as w s) (turn_as w t) (canon_arms w arms bound (suc k))))
+      (arms_carried P R w arms bound (suc k) ls labels c has.1 r)
+
+  pub arms_carried : {dia : Dialect} (P : List ℕ → Type 0) (R : List (List ℕ) → List (List ℕ) → Type 0) (w : Writing) (arms : Branches dia) (bound : Bound) (k : ℕ) (ls labels : List (List ℕ)) → Carries P R w → HasNamesArms w P arms → R ls labels → R (grown ls (labels_of_arms dia arms)) (grown labels (labels_of_arms dia (canon_arms w arms bound k)))
+  arms_carried P R w (one l sort b) bound k ls labels c has r = carried P R w b bound k (grown ls (l ∷ [])) (grown labels (label_as w l ∷ [])) c has.1 (c.grows l ls labels has.0 r)
+  arms_carried {dia} P R w (more l sort b arms) bound k ls labels c has r =
+      let j : ℕ = k + acts_in dia b in
+      let first : List (List ℕ) = labels_of dia (canon w b bound k) in
+      let rest : List (List ℕ) = labels_of_arms dia (canon_arms w arms bound j) in
+      let old : List (List ℕ) = grown ls (l ∷ []) in
+      let new : List (List ℕ) = grown labels (label_as w l ∷ []) in
+      subst (λ (z : List (List ℕ)). R z (grown new (first ++ rest))) (sym (grown_append (labels_of dia b) (labels_of_arms dia arms) old))
+      (subst (λ (z : List (List ℕ)). R (grown (grown old (labels_of dia b)) (labels_of_arms dia arms)) z) (sym (grown_append first rest new))
+      (arms_carried P R w arms bound j (grown old (labels_of dia b)) (grown new first) c has.2 (carried P R w b bound k old new c has.1 (c.grows l ls labels has.0 r))))
+
+head_small : (dia : Dialect) (p : List ℕ) (t : Turn dia) (s : Scene) → head_fits dia p t s ≡ true → s.acts < most dia
+head_small Talks p (sends_to r) s h = ltb-true s.acts 1024 (both (is_among p s.roles) (nat_lt s.acts 1024) (both (is_among p s.roles && nat_lt s.acts 1024) (is_among r s.roles) h).0).1
+head_small Acts p (with_mark m) s h = ltb-true s.acts 256 (both (is_among p s.roles) (nat_lt s.acts 256) h).1
+
+head_fit : (dia : Dialect) (w : Writing) (p : List ℕ) (t : Turn dia) (s : Scene) → RolesKnown w s.roles → HasRole w p × HasTurn w t → s.acts < most dia → head_fits dia (role_as w p) (turn_as w t) s ≡ true
+head_fit Talks w p (sends_to r) s known has small =
+    two_true (is_among (role_as w p) s.roles && nat_lt s.acts 1024) (is_among (role_as w r) s.roles)
+    (two_true (is_among (role_as w p) s.roles) (nat_lt s.acts 1024) (known p has.0) (lt-ltb s.acts 1024 small)) (known r has.1)
+head_fit Acts w p (with_mark m) s known has small = two_true (is_among (role_as w p) s.roles) (nat_lt s.acts 256) (known p has.0) (lt-ltb s.acts 256 small)
+
+small_number : (dia : Dialect) (k : ℕ) → k < most dia → k < 2 ^ 64
+small_number Talks k h = omega arith
+small_number Acts k h = omega arith
+
+acts_fit : {dia : Dialect} (x : List ℕ) (y : Turn dia) (l : List ℕ) (sort : Option Sort) (c : Body dia) (s : Scene) → head_fits dia x y s ≡ true → has_room_for l s ≡ true → body_fits dia c (with_label l (in_act s)) ≡ true → body_fits dia (acts x y l sort c) s ≡ true
+acts_fit {dia} x y l sort c s a room h =
+    two_true (head_fits dia x y s && has_room_for l s) (body_fits dia c (with_label l (in_act s))) (two_true (head_fits dia x y s) (has_room_for l s) a room) h
+
+offers_fit : {dia : Dialect} (x : List ℕ) (y : Turn dia) (c : Branches dia) (s : Scene) → head_fits dia x y s ≡ true → s.depth < 200 → arms_fit dia c (in_braces s) ≡ true → body_fits dia (offers x y c) s ≡ true
+offers_fit {dia} x y c s a low h =
+    two_true (head_fits dia x y s && nat_lt s.depth 200) (arms_fit dia c (in_braces s)) (two_true (head_fits dia x y s) (nat_lt s.depth 200) a (lt-ltb s.depth 200 low)) h
+
+name_fits : (back : ℕ → Bool) (bound named : Bound) (k : ℕ) (x : List ℕ) (found : Option ℕ) → bound_to x bound ≡ found → Leads back found k → Inv back bound named k → is_guarded (bound_to (name_of_place (number_or found)) named) k ≡ true
+name_fits back bound named k x None e h inv = absurd h
+name_fits back bound named k x (Some m) e h inv = rw (inv x m e h.1 h.0) (lt-ltb m k h.0)
+
+mutual
+  pub canon_fits : {dia : Dialect} (P : List ℕ → Type 0) (R : List (List ℕ) → List (List ℕ) → Type 0) (w : Writing) (t : Body dia) (bound named : Bound) (here : Bool) (k d inner : ℕ) (roles known ls labels : List (List ℕ)) → RolesKnown w known → Carries P R w → R ls labels → HasNames w P t → d ≤ 200 → inner ≤ d → (here ≡ true → inner < d)
+      → body_fits dia t (scene roles bound d k ls) ≡ true → Recs dia (goes_back w.places) t here k → Fine dia (goes_back w.places) t bound k → Inv (goes_back w.places) bound named k → Low bound k → body_fits dia (canon w t bound k) (scene known named inner k labels) ≡ true
+  canon_fits P R w ends bound named here k d inner roles known ls labels rs cs rel has du le lt h recs fine inv low = refl
+  canon_fits P R w (again x) bound named here k d inner roles known ls labels rs cs rel has du le lt h recs fine inv low = name_fits (goes_back w.places) bound named k x (bound_to x bound) refl fine inv
+  canon_fits {dia} P R w (binds x b) bound named here k d inner roles known ls labels rs cs rel has du le lt h recs fine inv low =
+      let p = both (nat_lt d 200) (body_fits dia b (scene roles ((x, k) ∷ bound) (suc d) k ls)) h in
+      let below : d < 200 = ltb-true d 200 p.0 in
+      canon_fits P R w b ((x, k) ∷ bound) named true k (suc d) inner roles known ls labels rs cs rel has (omega arith) (omega arith) (λ e. omega arith) p.1 recs fine (inv_rec (goes_back w.places) bound named k x inv) (low_rec bound k x low)
+  canon_fits {dia} P R w (acts x y l sort b) bound named here k d inner roles known ls labels rs cs rel has du le lt h recs fine inv low =
+      let c : Bool = goes_back w.places k in
+      let form : Body dia = canon w b bound (suc k) in
+      let old : Scene = scene roles bound d k ls in
+      let new : Scene = scene known (opened_for c k named) (deeper c inner) k labels in
+      let p = both (head_fits dia x y old && has_room_for l old) (body_fits dia b (with_label l (in_act old))) h in
+      let q = both (head_fits dia x y old) (has_room_for l old) p.0 in
+      let small : k < most dia = head_small dia x y old q.0 in
+      wrapped_fits c k (acts (role_as w x) (turn_as w y) (label_as w l) (sort_as sort) form) known named inner labels (λ e. let i = lt (recs.0 e) in omega arith)
+      (acts_fit (role_as w x) (turn_as w y) (label_as w l) (sort_as sort) form new (head_fit dia w x y new rs has.0 small) (cs.room l ls labels has.1 rel q.1)
+      (canon_fits P R w b bound (opened_for c k named) false (suc k) d (deeper c inner) roles known (grown ls (l ∷ [])) (grown labels (label_as w l ∷ [])) rs cs (cs.grows l ls labels has.1 rel) has.2 du (deeper_within c here inner d recs.0 le lt) (λ e. absurd (cc e)) p.1 recs.1 fine
+      (inv_head (goes_back w.places) bound named k c (small_number dia k small) refl inv) (low_up bound k (suc k) (omega arith) low)))
+  canon_fits {dia} P R w (offers x y (one l sort b)) bound named here k d inner roles known ls labels rs cs rel has du le lt h recs fine inv low =
+      let c : Bool = goes_back w.places k in
+      let form : Body dia = canon w b bound (suc k) in
+      let old : Scene = scene roles bound d k ls in
+      let new : Scene = scene known (opened_for c k named) (deeper c inner) k labels in
+      let p = both (head_fits dia x y old && nat_lt d 200) (arms_fit dia (one l sort b) (in_braces old)) h in
+      let q = both (head_fits dia x y old) (nat_lt d 200) p.0 in
+      let small : k < most dia = head_small dia x y old q.0 in
+      let below : d < 200 = ltb-true d 200 q.1 in
+      let inside = both (has_room_for l (in_braces old)) (body_fits dia b (with_label l (in_braces old))) p.1 in
+      let depth : deeper c inner ≤ d = deeper_within c here inner d recs.0 le lt in
+      wrapped_fits c k (acts (role_as w x) (turn_as w y) (label_as w l) (sort_as sort) form) known named inner labels (λ e. let i = lt (recs.0 e) in omega arith)
+      (acts_fit (role_as w x) (turn_as w y) (label_as w l) (sort_as sort) form new (head_fit dia w x y new rs has.0 small) (cs.room l ls labels has.1.0 rel inside.0)
+      (canon_fits P R w b bound (opened_for c k named) false (suc k) (suc d) (deeper c inner) roles known (grown ls (l ∷ [])) (grown labels (label_as w l ∷ [])) rs cs (cs.grows l ls labels has.1.0 rel) has.1.1 (omega arith) (omega arith) (λ e. absurd (cc e)) inside.1 recs.1 fine
+      (inv_head (goes_back w.places) bound named k c (small_number dia k small) refl inv) (low_up bound k (suc k) (omega arith) low)))
+  canon_fits {dia} P R w (offers x y (more l sort b arms)) bound named here k d inner roles known ls labels rs cs rel has du le lt h recs fine inv low =
+      let c : Bool = goes_back w.places k in
+      let ours : Branches dia = more l sort b arms in
+      let form : Branches dia = canon_arms w ours bound (suc k) in
+      let old : Scene = scene roles bound d k ls in
+      let new : Scene = scene known (opened_for c k named) (deeper c inner) k labels in
+      let p = both (head_fits dia x y old && nat_lt d 200) (arms_fit dia ours (in_braces old)) h in
+      let q = both (head_fits dia x y old) (nat_lt d 200) p.0 in
+      let small : k < most dia = head_small dia x y old q.0 in
+      let below : d < 200 = ltb-true d 200 q.1 in
+      let depth : deeper c inner ≤ d = deeper_within c here inner d recs.0 le lt in
+      wrapped_fits c k (offers (role_as w x) (turn_as w y) form) known named inner labels (λ e. let i = lt (recs.0 e) in omega arith)
+      (offers_fit (role_as w x) (turn_as w y) form new (head_fit dia w x y new rs has.0 small) (omega arith)
+      (canon_arms_fit P R w (more l sort b arms) bound (opened_for c k named) (suc k) (suc d) (suc (deeper c inner)) roles known ls labels rs cs rel has.1 (omega arith) (omega arith) p.1 recs.1 fine
+      (inv_all (goes_back w.places) bound (opened_for c k named) k low (inv_head (goes_back w.places) bound named k c (small_number dia k small) refl inv)) (low_up bound k (suc k) (omega arith) low)))
+
+  canon_arms_fit : {dia : Dialect} (P : List ℕ → Type 0) (R : List (List ℕ) → List (List ℕ) → Type 0) (w : Writing) (arms : Branches dia) (bound named : Bound) (k d inner : ℕ) (roles known ls labels : List (List ℕ)) → RolesKnown w known → Carries P R w → R ls labels → HasNamesArms w P arms → d ≤ 200 → inner ≤ d → arms_fit dia arms (scene roles bound d k ls) ≡ true
+      → RecsArms dia (goes_back w.places) arms k → FineArms dia (goes_back w.places) arms bound k → InvAll (goes_back w.places) bound named → Low bound k → arms_fit dia (canon_arms w arms bound k) (scene known named inner k labels) ≡ true
+  canon_arms_fit {dia} P R w (one l sort b) bound named k d inner roles known ls labels rs cs rel has du le h recs fine inv low =
+      let old : Scene = scene roles bound d k ls in
+      let new : Scene = scene known named inner k labels in
+      let p = both (has_room_for l old) (body_fits dia b (with_label l old)) h in
+      two_true (has_room_for (label_as w l) new) (body_fits dia (canon w b bound k) (with_label (label_as w l) new)) (cs.room l ls labels has.0 rel p.0)
+      (canon_fits P R w b bound named false k d inner roles known (grown ls (l ∷ [])) (grown labels (label_as w l ∷ [])) rs cs (cs.grows l ls labels has.0 rel) has.1 du le (λ e. absurd (cc e)) p.1 recs fine (λ x m e bk lt. inv x m e bk) low)
+  canon_arms_fit {dia} P R w (more l sort b arms) bound named k d inner roles known ls labels rs cs rel has du le h recs fine inv low =
+      let form : Body dia = canon w b bound k in
+      let j : ℕ = k + acts_in dia b in
+      let rest : Branches dia = canon_arms w arms bound j in
+      let old : Scene = scene roles bound d k ls in
+      let new : Scene = scene known named inner k labels in
+      let read : List (List ℕ) = grown ls (l ∷ []) in
+      let all : List (List ℕ) = grown labels (label_as w l ∷ []) in
+      let next : R read all = cs.grows l ls labels has.0 rel in
+      let p = both (has_room_for l old && body_fits dia b (with_label l old)) (arms_fit dia arms (behind dia b (with_label l old))) h in
+      let q = both (has_room_for l old) (body_fits dia b (with_label l old)) p.0 in
+      let step : k + acts_in dia b ≡ k + acts_in dia form = ap (λ z. k + z) (sym (canon_acts w b bound k)) in
+      two_true (has_room_for (label_as w l) new && body_fits dia form (with_label (label_as w l) new)) (arms_fit dia rest (behind dia form (with_label (label_as w l) new)))
+      (two_true (has_room_for (label_as w l) new) (body_fits dia form (with_label (label_as w l) new)) (cs.room l ls labels has.0 rel q.0)
+      (canon_fits P R w b bound named false k d inner roles known read all rs cs next has.1 du le (λ e. absurd (cc e)) q.1 recs.0 fine.0 (λ x m e bk lt. inv x m e bk) low))
+      (subst (λ (z : ℕ). arms_fit dia rest (scene known named inner z (grown all (labels_of dia form))) ≡ true) step
+      (canon_arms_fit P R w arms bound named j d inner roles known (grown read (labels_of dia b)) (grown all (labels_of dia form)) rs cs (carried P R w b bound k read all cs has.1 next) has.2 du le p.1 recs.1 fine.1 inv (low_up bound k j (omega arith) low)))

@@ -1,0 +1,5 @@
+use Rattle.rs_bodies.proofs.CanonWhole.{place_name_law}
+use Rattle.rs_bodies.proofs.canonical_laws.place_name_is_a_word.Goals as goal
+
+pub returns : goal.returns
+returns c = place_name_law
