@@ -18,7 +18,7 @@ use Rattle.rs_global.specs.Graph.{finish_of}
 use Rattle.rs_global.specs.Parts.{graph_spelt, node_at, node_by, part_of}
 use Rattle.rs_global.specs.Spells.{SpellsProtocol}
 use Rattle.rs_global.specs.Trees.{roles_of}
-use Rattle.rs_global.proofs.Spelt.{graph_is, of_part, roles_spelt}
+use Rattle.rs_global.proofs.Spelt.{graph_is, of_part}
 use Rattle.rs_wellformed.specs.Faults as wellformed
 use Rattle.rs_wellformed.specs.declared.checks.WfFault.{WfFault}
 use Rattle.rs_wellformed.specs.declared.checks.WfFault.TheVariants as wf
@@ -93,6 +93,6 @@ pub faults_of_spelt : (bytes : List ℕ) (at : ℕ) (names : Names_data) (protoc
 faults_of_spelt bytes at names protocol until fault s e =
     let spelling : Spelling_data = spelling_of Talks no_names (part_of s.tree) in
     let roles : ℕ = length (roles_of s.tree) in
-    let inside : LeadsInside roles spelling = subst (λ (z : ℕ). LeadsInside z spelling) (roles_spelt names s.tree s.names_are) (leads_inside Talks bytes at no_names names spelling until (of_part bytes at names protocol until s)) in
+    let inside : LeadsInside roles spelling = subst (λ (z : ℕ). LeadsInside z spelling) (ap (λ z. length z.roles) s.names_are) (leads_inside Talks bytes at no_names names spelling until (of_part bytes at names protocol until s)) in
     let same : protocol ≡ graph_spelt roles spelling = s.graph_is ∙ sym (graph_is s.tree) in
     of_graph roles spelling fault inside (subst (λ (z : Protocol_data). wellformed.Blames z fault) same (blamed protocol fault e))
