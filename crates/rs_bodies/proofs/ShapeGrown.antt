@@ -21,11 +21,9 @@ use Rattle.rs_bodies.specs.declared.dialects.Dialect.{Dialect}
 use Rattle.rs_bodies.specs.declared.dialects.Dialect.TheVariants.{Talks, Acts}
 use Rattle.rs_bodies.specs.declared.dialects.Head.{Head}
 use Rattle.rs_bodies.specs.declared.dialects.Head.TheVariants as head
-use Rattle.rs_bodies.specs.declared.dialects.Mark.{Mark}
 use Rattle.rs_bodies.specs.declared.places.Place.{Place}
 use Rattle.rs_bodies.specs.declared.places.Place.TheVariants as place
 use Rattle.rs_bodies.specs.declared.shapes.Walk.{Walk}
-use Rattle.rs_bodies.specs.Data.{Point_data}
 use Rattle.rs_bodies.specs.Dialects.{Turn, sends_to, with_mark, most}
 use Rattle.rs_bodies.specs.Fits.{is_guarded, has_room_for, head_fits, body_fits, arms_fit}
 use Rattle.rs_bodies.specs.Graph.{labels_of, labels_of_arms, acts_in, acts_in_arms, has_end, has_end_arms, Numbering, role_of, first_of, arm_of, arms_of}

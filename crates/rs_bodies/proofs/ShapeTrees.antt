@@ -1,5 +1,5 @@
 -- Bodies with a rec where it is gone back to, and with braces round more than one arm.
-use Rattle.std.proofs.Common.{◌≡◌, ℕ, suc, ◌<◌, ◌≤◌, ◌^◌, List, [], ◌∷◌, Bool, true, false, ◌&&◌, nat_lt, refl, sym, ap, ◌∙◌, arith}
+use Rattle.std.proofs.Common.{◌≡◌, ℕ, suc, ◌<◌, ◌≤◌, ◌^◌, List, ◌∷◌, Bool, true, false, nat_lt, refl, sym, ap, ◌∙◌, arith}
 use Rattle.std.specs.Fmt.{decimal}
 use Rattle.std.proofs.lemmas.Bool.{lt-ltb}
 use Rattle.rs_model.specs.declared.limits.TheConstants.{MOST_NESTING, MOST_TALKS}
@@ -11,7 +11,7 @@ use Rattle.rs_text.proofs.Values.{decimal_reads}
 use Rattle.rs_bodies.specs.declared.dialects.Dialect.{Dialect}
 use Rattle.rs_bodies.specs.Dialects.{Turn}
 use Rattle.rs_bodies.specs.Fits.{body_fits}
-use Rattle.rs_bodies.specs.Graph.{labels_of, labels_of_arms, acts_in, acts_in_arms, has_end, has_end_arms, Numbering, first_of, arms_of}
+use Rattle.rs_bodies.specs.Graph.{labels_of, labels_of_arms, acts_in, acts_in_arms, has_end, has_end_arms, Numbering, first_of}
 use Rattle.rs_bodies.specs.Places.{name_of_place}
 use Rattle.rs_bodies.specs.Shapes.{deeper}
 use Rattle.rs_bodies.specs.Trees.{Body, binds, acts, offers, Branches, one, more}

@@ -1,5 +1,5 @@
 -- Believed: the graphs that bodies spell.
-use Rattle.std.specs.Prelude.{◌≡◌, ℕ, ◌≤◌, List, [], ◌++◌, length, map, true}
+use Rattle.std.specs.Prelude.{◌≡◌, ℕ, List, [], ◌++◌, length, map, true}
 use Rattle.rs_model.specs.Data.{Names_data}
 use Rattle.rs_text.specs.Names.{grown}
 use Rattle.rs_text.specs.Sound.{IsSound}

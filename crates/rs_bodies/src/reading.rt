@@ -1,5 +1,6 @@
 ghost use Rattle.std.specs.Prelude.{◌≡◌, ◌≤◌, ◌<◌, ◌+◌, ◌++◌, ◌∷◌, [], length, OnOk, OnErr, IfOk, IfErr, Some, None, Option, Ok, Err, true, false, drop, reverse, codes, suc, nat_le, if◌then◌else◌};
 ghost use Rattle.std.specs.Option.{option_map};
+ghost use Rattle.rs_model.specs.declared.limits.TheConstants.{MOST_LABELS, MOST_ROLES, MOST_TALKS};
 ghost use Rattle.rs_text.specs.Lexemes.{sign_of, text_of, next_lexeme, lexeme_of};
 ghost use Rattle.rs_text.specs.Seen.{plain_text, word_text};
 ghost use Rattle.rs_text.specs.Seen.{is_text};
@@ -85,19 +86,20 @@ pub(crate) struct Reader<'a> {
 
 impl<'a> Model for Reader<'a> {
     ghost use Rattle.std.specs.Prelude.{reverse, length, ◌≤◌};
+    ghost use Rattle.rs_model.specs.declared.limits.TheConstants.{MOST_LABELS, MOST_ROLES, MOST_TALKS};
     ghost use Rattle.rs_bodies.specs.Data.{Reader_data};
 
     ghost Value = { Reader_data };
 
     ghost view = { λ r. record { roles = r.roles.items; labels = r.labels.items; role = r.role; drafts = r.drafts.items; start = r.start; ended = r.ended; bound = reverse r.bound.items; depth = r.depth; frames = reverse r.frames.items; mode = r.mode } };
 
-    ghost invariant = { λ r. (length r.roles.items ≤ 16) × ((length r.labels.items ≤ 256) × (length r.drafts.items ≤ 1024)) };
+    ghost invariant = { λ r. (length r.roles.items ≤ MOST_ROLES) × ((length r.labels.items ≤ MOST_LABELS) × (length r.drafts.items ≤ MOST_TALKS)) };
 }
 
 /// Heads at most.
 pub(crate) fn most_heads(dialect: Dialect) -> usize
     ensures number { result ≡ most dialect }
-    ensures few { result ≤ 1024 }
+    ensures few { result ≤ MOST_TALKS }
 {
     match dialect {
         Dialect::Talks => MOST_TALKS,
@@ -119,8 +121,8 @@ fn is_turn(dialect: Dialect, bytes: &[u8], token: Token) -> bool
 impl<'a> Reader<'a> {
     /// A reader before its first token.
     pub fn new(alloc: Global, dialect: Dialect, roles: Vec<Name>, labels: Vec<Name>) -> Reader<'a>
-        requires roles { length roles.items ≤ 16 }
-        requires labels { length labels.items ≤ 256 }
+        requires roles { length roles.items ≤ MOST_ROLES }
+        requires labels { length labels.items ≤ MOST_LABELS }
         requires none { roles.items ≡ spec.first_roles dialect (record { roles = roles.items; labels = labels.items }) }
         ensures { result ≡ spec.begin dialect (record { roles = roles.items; labels = labels.items }) }
     {
