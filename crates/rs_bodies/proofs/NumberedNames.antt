@@ -120,7 +120,7 @@ head_named m (head.Act p x) e = test_below p.0 (length m.names.roles) e
 pub tree_named : {dia : Dialect} (labels : List (List ℕ)) (m : Numbering) (p : List Place) (t : Body dia) → 0 < length m.names.roles → m.names.labels ≡ grown labels (labels_of dia t) → p ≡ places_in m t [] 0 ++ end_of (has_end dia t) → HaveNames m.names p
 tree_named {dia} labels m p t some is e =
     let all : list_all (is_place_numbered m) p ≡ true = ap (λ z. list_all (is_place_numbered m) z) e
-        ∙ joined_places m (places_in m t [] 0) (end_of (has_end dia t)) (places_numbered t m [] 0 some (numbered_in (labels_of dia t) labels m is)) (end_numbered (has_end dia t) m) in
+    ∙ joined_places m (places_in m t [] 0) (end_of (has_end dia t)) (places_numbered t m [] 0 some (numbered_in (labels_of dia t) labels m is)) (end_numbered (has_end dia t) m) in
     let at : (n : ℕ) (h : Head) (arms : List Arm) → slice_get p n ≡ Some (choice h arms) → (is_head_numbered m h ≡ true) × (list_all (is_arm_numbered m) arms ≡ true) = λ n h arms stands. both (is_head_numbered m h) (list_all (is_arm_numbered m) arms) (one_of (is_place_numbered m) p n (choice h arms) all stands) in
     record {
       heads = λ n h arms stands. head_named m h (at n h arms stands).0;

@@ -207,10 +207,13 @@ pub spelt_is_walked : (dia : Dialect) (old : Names_data) (b : Body dia) (roles s
 spelt_is_walked dia old b roles start labels places few_roles few_labels room s = ap (λ z. is_walked dia (outlined roles places) z labels) s.start_is ∙ body_walked dia old b roles labels places s.fits few_roles few_labels (omega arith) s.places_are
 
 pub walked_exactly : (dia : Dialect) (roles start labels : ℕ) (places : List Place) → roles ≤ MOST_ROLES → labels ≤ MOST_LABELS → IsTrue (is_walked dia (outlined roles places) start labels) ↔ HasBody dia roles labels places start
-walked_exactly dia roles start labels places few room = (walked_has_body dia roles start labels places few room, λ b.
-    let r : length b.old.roles ≡ roles = b.roles_are in
-    let l : length b.old.labels ≡ labels = b.labels_are in
-    spelt_is_walked dia b.old b.body roles start labels places (omega arith) (omega arith) room b.spells)
+walked_exactly dia roles start labels places few room = (
+  walked_has_body dia roles start labels places few room,
+  λ b.
+      let r : length b.old.roles ≡ roles = b.roles_are in
+      let l : length b.old.labels ≡ labels = b.labels_are in
+      spelt_is_walked dia b.old b.body roles start labels places (omega arith) (omega arith) room b.spells,
+)
 
 -- what a body spells, a body of words spells, with any greater number of names before it
 pub spelt_has_body : (dia : Dialect) (old : Names_data) (b : Body dia) (roles start labels : ℕ) (places : List Place) → length old.roles ≤ roles → length old.labels ≤ labels → roles ≤ MOST_ROLES → labels ≤ MOST_LABELS → SpellsPlaces dia old b places start → HasBody dia roles labels places start

@@ -1,5 +1,6 @@
 -- Believed: the two dialects of bodies, and all that they differ in.
 use Rattle.std.specs.Prelude.{ℕ, List, [], ◌∷◌, Bool, true, false}
+use Rattle.rs_model.specs.declared.limits.TheConstants.{MOST_ACTS, MOST_TALKS}
 use Rattle.rs_text.specs.Signs.{Sign, plain, arrow, bang, question, colon}
 use Rattle.rs_bodies.specs.declared.dialects.Dialect.{Dialect}
 use Rattle.rs_bodies.specs.declared.dialects.Dialect.TheVariants.{Talks, Acts}
@@ -45,5 +46,5 @@ turns d _ = false
 
 -- heads at most
 abbrev pub most : Dialect → ℕ
-most Talks = 1024
-most Acts = 256
+most Talks = MOST_TALKS
+most Acts = MOST_ACTS

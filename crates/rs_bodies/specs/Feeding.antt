@@ -1,5 +1,6 @@
 -- Steps: the reader, token by token.
 use Rattle.std.specs.Prelude.{◌≡◌, ℕ, suc, ◌-◌, List, [], ◌∷◌, ◌++◌, codes, length, drop, slice_get, Option, Some, None, Result, Ok, Err, Bool, true, false, if◌then◌else◌, nat_lt, nat_le}
+use Rattle.rs_model.specs.declared.limits.TheConstants.{MOST_LABELS, MOST_NESTING, MOST_ROLES}
 use Rattle.rs_model.specs.declared.graph.Role.{Role}
 use Rattle.rs_model.specs.declared.graph.Label.{Label}
 use Rattle.rs_model.specs.declared.values.Sort.{Sort}
@@ -77,7 +78,7 @@ abbrev pub new_role : Mode → Option (List ℕ) → ℕ → Reader_data → Fed
 new_role after None at r = expected wanted.Role at
 new_role after (Some word) at r =
     if is_among word r.roles then fault kind.NameTwice at
-    else if nat_le 16 (length r.roles) then fault kind.TooManyRoles at
+    else if nat_le MOST_ROLES (length r.roles) then fault kind.TooManyRoles at
     else Ok (record r { roles = r.roles ++ word ∷ []; mode = after })
 
 -- the comma behind the first role
@@ -126,7 +127,7 @@ feed_word d from word t at next r = if turns d t then met_by d (place_of word r.
 
 -- the word rec
 abbrev pub feed_rec : Link → ℕ → Reader_data → Fed
-feed_rec from at r = if nat_le 200 r.depth then fault kind.TooDeep at else Ok (record r { depth = suc r.depth; mode = mode.RecName from })
+feed_rec from at r = if nat_le MOST_NESTING r.depth then fault kind.TooDeep at else Ok (record r { depth = suc r.depth; mode = mode.RecName from })
 
 -- the first token of a body
 abbrev pub feed_body : Dialect → Link → Sign → ℕ → Lexeme → Reader_data → Fed
@@ -179,7 +180,7 @@ opened act r = record r { depth = suc r.depth; frames = record { act = act; boun
 
 -- an open brace
 abbrev pub feed_brace : ℕ → ℕ → Reader_data → Fed
-feed_brace act at r = if nat_le 200 r.depth then fault kind.TooDeep at else Ok (opened act r)
+feed_brace act at r = if nat_le MOST_NESTING r.depth then fault kind.TooDeep at else Ok (opened act r)
 
 -- the label with that number
 abbrev pub label_of_number : ℕ → Label
@@ -188,7 +189,7 @@ label_of_number k = record { 0 = k }
 -- an arm
 abbrev pub labelled_by : Option ℕ → ℕ → List ℕ → ℕ → Reader_data → Fed
 labelled_by (Some k) act word at r = in_mode (mode.Paren act (label_of_number k)) r
-labelled_by None act word at r = if nat_le 256 (length r.labels) then fault kind.TooManyLabels at else Ok (record r { labels = r.labels ++ word ∷ []; mode = mode.Paren act (label_of_number (length r.labels)) })
+labelled_by None act word at r = if nat_le MOST_LABELS (length r.labels) then fault kind.TooManyLabels at else Ok (record r { labels = r.labels ++ word ∷ []; mode = mode.Paren act (label_of_number (length r.labels)) })
 
 -- the label of an arm
 abbrev pub feed_label : ℕ → Wanted → Option (List ℕ) → ℕ → Reader_data → Fed

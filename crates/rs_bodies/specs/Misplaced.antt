@@ -1,5 +1,6 @@
 -- Believed: the faults of names and limits, by the place where a token stands.
 use Rattle.std.specs.Prelude.{ℕ, List, [], ◌∷◌, codes, length, Option, Some, None, if◌then◌else◌, nat_lt, nat_le}
+use Rattle.rs_model.specs.declared.limits.TheConstants.{MOST_LABELS, MOST_NESTING, MOST_ROLES}
 use Rattle.rs_model.specs.Data.{Names_data}
 use Rattle.rs_text.specs.declared.faults.TextKind.{TextKind}
 use Rattle.rs_text.specs.declared.faults.TextKind.TheVariants as kind
@@ -45,7 +46,7 @@ fault_of_word d word t s = if turns d t then fault_of_first d word s else fault_
 
 -- the rec or the brace that makes the nesting 201
 abbrev pub fault_of_depth : Scene → Option TextKind
-fault_of_depth s = if nat_le 200 s.depth then Some kind.TooDeep else None
+fault_of_depth s = if nat_le MOST_NESTING s.depth then Some kind.TooDeep else None
 
 -- a receiver, or a machine's own role
 abbrev pub fault_of_role : List ℕ → List (List ℕ) → Option TextKind
@@ -53,11 +54,11 @@ fault_of_role word roles = if is_among word roles then None else Some kind.Unkno
 
 -- a new label as the 257th
 abbrev pub fault_of_label : List ℕ → Scene → Option TextKind
-fault_of_label word s = if is_among word s.labels then None else if nat_le 256 (length s.labels) then Some kind.TooManyLabels else None
+fault_of_label word s = if is_among word s.labels then None else if nat_le MOST_LABELS (length s.labels) then Some kind.TooManyLabels else None
 
 -- a role whose name stands on the roles line already, or that is the 17th
 abbrev pub fault_of_new_role : List ℕ → List (List ℕ) → Option TextKind
-fault_of_new_role word roles = if is_among word roles then Some kind.NameTwice else if nat_le 16 (length roles) then Some kind.TooManyRoles else None
+fault_of_new_role word roles = if is_among word roles then Some kind.NameTwice else if nat_le MOST_ROLES (length roles) then Some kind.TooManyRoles else None
 
 -- the fault of names and limits of a token, with the token behind it, by what is wanted there
 abbrev pub fault_by : Dialect → Wanted → Sign → Sign → Scene → Option TextKind

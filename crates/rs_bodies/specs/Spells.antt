@@ -1,5 +1,6 @@
 -- Believed: what a text spells.
 use Rattle.std.specs.Prelude.{◌≡◌, ℕ, ◌≤◌, List, [], ◌∷◌, ◌++◌, length, true}
+use Rattle.rs_model.specs.declared.limits.TheConstants.{MOST_ROLES}
 use Rattle.rs_model.specs.Data.{Names_data}
 use Rattle.rs_text.specs.Lexemes.{Lexeme, Lexed, signs_of}
 use Rattle.rs_text.specs.Names.{is_among, grown}
@@ -27,7 +28,7 @@ tree_signs d t = opening_signs d t.opening ++ body_signs d t.body
 
 -- the roles of a roles line differ, and are 16 at most; a machine's role is known
 abbrev pub OpeningFits : (d : Dialect) → Names_data → Opening d → Type 0
-OpeningFits Talks old (of_roles f s xs) = (differ (f ∷ s ∷ xs) ≡ true) × (length (f ∷ s ∷ xs) ≤ 16)
+OpeningFits Talks old (of_roles f s xs) = (differ (f ∷ s ∷ xs) ≡ true) × (length (f ∷ s ∷ xs) ≤ MOST_ROLES)
 OpeningFits Acts old (of_role r) = is_among r old.roles ≡ true
 
 -- names and limits

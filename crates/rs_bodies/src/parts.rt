@@ -1,4 +1,5 @@
 ghost use Rattle.std.specs.Prelude.{◌≡◌, ◌≤◌, length, IfOk, IfErr, ◌⊎◌, Ok};
+ghost use Rattle.rs_model.specs.declared.limits.TheConstants.{MOST_LABELS, MOST_ROLES};
 ghost use Rattle.rs_text.specs.declared.faults.TextKind.TheVariants as kind;
 ghost use Rattle.rs_text.specs.Readings.{StopsBy};
 ghost use Rattle.rs_text.specs.Sound.{IsSound};
@@ -36,15 +37,15 @@ pub fn read_part(
 ) -> Result<(Spelling, usize), TextFault>
     requires at { at ≤ length bytes.now }
     requires sound { IsSound names.old }
-    requires roles { length names.old.roles ≤ 16 }
-    requires labels { length names.old.labels ≤ 256 }
+    requires roles { length names.old.roles ≤ MOST_ROLES }
+    requires labels { length names.old.labels ≤ MOST_LABELS }
     requires first { names.old.roles ≡ first_roles dialect names.old }
     ensures ok { IfOk result (λ r. Spells dialect bytes.now at names.old names.new r.0 r.1) }
     ensures err { IfErr result (λ e. (e.kind ≡ kind.NoMemory) ⊎ FirstFault dialect names.old bytes.now at e.kind e.at) }
     ensures left { IfErr result (λ e. LeavesBy dialect names.old names.new bytes.now at e.kind e.at) }
     ensures sound { IsSound names.new }
-    ensures roles { length names.new.roles ≤ 16 }
-    ensures labels { length names.new.labels ≤ 256 }
+    ensures roles { length names.new.roles ≤ MOST_ROLES }
+    ensures labels { length names.new.labels ≤ MOST_LABELS }
     ensures kept { KeepsBy dialect names.old names.new }
     ensures few { IfOk result (λ r. length r.0.points ≤ most dialect) }
     ensures within { IfOk result (λ r. r.1 ≤ length bytes.now) }

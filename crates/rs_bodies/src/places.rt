@@ -58,7 +58,9 @@ pub trait Numbered {
 
 impl Numbered for Protocol {
     ghost dialect = { Talks };
+
     ghost places = { λ p. places_of_protocol p };
+
     ghost root = { λ p. p.root };
 
     fn size(&self) -> usize {
@@ -76,7 +78,9 @@ impl Numbered for Protocol {
 
 impl Numbered for Machine {
     ghost dialect = { Acts };
+
     ghost places = { λ m. places_of_machine m };
+
     ghost root = { λ m. m.start };
 
     fn size(&self) -> usize {

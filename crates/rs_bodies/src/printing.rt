@@ -196,13 +196,7 @@ impl<'a> Model for Printer<'a> {
 }
 
 impl<'a> Printer<'a> {
-    fn new(
-        alloc: Global,
-        names: &'a Names,
-        root: u32,
-        flags: Vec<bool>,
-        text: Text,
-    ) -> Printer<'a>
+    fn new(alloc: Global, names: &'a Names, root: u32, flags: Vec<bool>, text: Text) -> Printer<'a>
         ensures { result ≡ spec.begins_with names.now root flags.items text }
     {
         Printer {

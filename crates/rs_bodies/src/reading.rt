@@ -1,5 +1,6 @@
 ghost use Rattle.std.specs.Prelude.{◌≡◌, ◌≤◌, ◌<◌, ◌+◌, ◌++◌, ◌∷◌, [], length, OnOk, OnErr, IfOk, IfErr, IfSome, IfNone, Some, None, Option, Ok, Err, true, false, drop, reverse, codes, suc, nat_le, if◌then◌else◌};
 ghost use Rattle.std.specs.Option.{option_map};
+ghost use Rattle.rs_model.specs.declared.limits.TheConstants.{MOST_LABELS, MOST_ROLES, MOST_TALKS};
 ghost use Rattle.rs_text.specs.Lexemes.{sign_of, text_of, next_lexeme, lexeme_of};
 ghost use Rattle.rs_text.specs.Names.{place_of};
 ghost use Rattle.rs_text.specs.Seen.{plain_text, word_text};
@@ -86,19 +87,20 @@ pub(crate) struct Reader<'a> {
 
 impl<'a> Model for Reader<'a> {
     ghost use Rattle.std.specs.Prelude.{reverse, length, ◌≤◌};
+    ghost use Rattle.rs_model.specs.declared.limits.TheConstants.{MOST_LABELS, MOST_ROLES, MOST_TALKS};
     ghost use Rattle.rs_bodies.specs.Data.{Reader_data};
 
     ghost Value = { Reader_data };
 
     ghost view = { λ r. record { roles = r.roles; labels = r.labels; role = r.role; drafts = r.drafts.items; start = r.start; ended = r.ended; bound = reverse r.bound.items; depth = r.depth; frames = reverse r.frames.items; mode = r.mode } };
 
-    ghost invariant = { λ r. (length r.roles ≤ 16) × ((length r.labels ≤ 256) × (length r.drafts.items ≤ 1024)) };
+    ghost invariant = { λ r. (length r.roles ≤ MOST_ROLES) × ((length r.labels ≤ MOST_LABELS) × (length r.drafts.items ≤ MOST_TALKS)) };
 }
 
 /// Heads at most.
 pub(crate) fn most_heads(dialect: Dialect) -> usize
     ensures number { result ≡ most dialect }
-    ensures few { result ≤ 1024 }
+    ensures few { result ≤ MOST_TALKS }
 {
     match dialect {
         Dialect::Talks => MOST_TALKS,
@@ -120,7 +122,7 @@ fn is_turn(dialect: Dialect, bytes: &[u8], token: Token) -> bool
 /// The role with this name.
 #[tactic(auto, using(rs_text::proofs::Numbers::place_below))]
 fn role_named(roles: &NameTable, word: &[u8]) -> Option<Role>
-    requires { length roles.now ≤ 16 }
+    requires { length roles.now ≤ MOST_ROLES }
     ensures some { IfSome result (λ role. place_of word.now roles.now ≡ Some role.0) }
     ensures none { IfNone result (place_of word.now roles.now ≡ None) }
 {
@@ -131,7 +133,7 @@ fn role_named(roles: &NameTable, word: &[u8]) -> Option<Role>
 /// The label with this name.
 #[tactic(auto, using(rs_text::proofs::Numbers::place_below))]
 fn label_named(labels: &NameTable, word: &[u8]) -> Option<Label>
-    requires { length labels.now ≤ 256 }
+    requires { length labels.now ≤ MOST_LABELS }
     ensures some { IfSome result (λ label. place_of word.now labels.now ≡ Some label.0) }
     ensures none { IfNone result (place_of word.now labels.now ≡ None) }
 {
@@ -142,8 +144,8 @@ fn label_named(labels: &NameTable, word: &[u8]) -> Option<Label>
 impl<'a> Reader<'a> {
     /// A reader before its first token.
     pub fn new(alloc: Global, dialect: Dialect, roles: Vec<Name>, labels: Vec<Name>) -> Reader<'a>
-        requires roles { length roles.items ≤ 16 }
-        requires labels { length labels.items ≤ 256 }
+        requires roles { length roles.items ≤ MOST_ROLES }
+        requires labels { length labels.items ≤ MOST_LABELS }
         requires none { roles.items ≡ spec.first_roles dialect (record { roles = roles.items; labels = labels.items }) }
         ensures { result ≡ spec.begin dialect (record { roles = roles.items; labels = labels.items }) }
     {

@@ -327,9 +327,7 @@ fn visited<G: Numbered>(
         return None;
     }
     match graph.place(n) {
-        Some(Place::Point(point)) => {
-            point_met(graph, trail, fuel - 1, depth, n, walk, &point)
-        }
+        Some(Place::Point(point)) => { point_met(graph, trail, fuel - 1, depth, n, walk, &point) }
         _ => None,
     }
 }

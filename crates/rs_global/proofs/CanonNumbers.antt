@@ -143,9 +143,9 @@ carries t names has d =
           subst (λ (z : List (List ℕ)). (is_among (f l) z || nat_lt (length z) 256) ≡ true) (sym r.0)
           (ap (λ z. is_among (f l) (map f ls) || nat_lt z 256) (length-map ls f) ∙ ap (λ z. z || nat_lt (length ls) 256) (among_map f (labels_read t) l ls inj (among_read t l p) r.1) ∙ h);
       grows = λ l ls labels p r. (
-          ap (λ z. grown z (f l ∷ [])) r.0 ∙ grown_map f (labels_read t) (l ∷ []) ls inj r.1 (λ y a. or_cases (is_among y (labels_read t) ≡ true) (bytes_eq l y) false a (λ b. subst (λ (z : List ℕ). is_among z (labels_read t) ≡ true) ((bytes_eq-Decides l y).0 b) (among_read t l p)) (λ b. absurd (cc b))),
-          (λ y a. or_cases (is_among y (labels_read t) ≡ true) (is_among y ls) (is_among y (l ∷ [])) (sym (grown_among (l ∷ []) ls y) ∙ a) (λ b. r.1 y b)
-          (λ b. or_cases (is_among y (labels_read t) ≡ true) (bytes_eq l y) false b (λ c. subst (λ (z : List ℕ). is_among z (labels_read t) ≡ true) ((bytes_eq-Decides l y).0 c) (among_read t l p)) (λ c. absurd (cc c)))),
+        ap (λ z. grown z (f l ∷ [])) r.0 ∙ grown_map f (labels_read t) (l ∷ []) ls inj r.1 (λ y a. or_cases (is_among y (labels_read t) ≡ true) (bytes_eq l y) false a (λ b. subst (λ (z : List ℕ). is_among z (labels_read t) ≡ true) ((bytes_eq-Decides l y).0 b) (among_read t l p)) (λ b. absurd (cc b))),
+        (λ y a. or_cases (is_among y (labels_read t) ≡ true) (is_among y ls) (is_among y (l ∷ [])) (sym (grown_among (l ∷ []) ls y) ∙ a) (λ b. r.1 y b)
+            (λ b. or_cases (is_among y (labels_read t) ≡ true) (bytes_eq l y) false b (λ c. subst (λ (z : List ℕ). is_among z (labels_read t) ≡ true) ((bytes_eq-Decides l y).0 c) (among_read t l p)) (λ c. absurd (cc c)))),
       );
     }
 

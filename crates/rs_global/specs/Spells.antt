@@ -1,5 +1,6 @@
 -- Believed: what a text spells.
 use Rattle.std.specs.Prelude.{◌≡◌, ℕ, ◌≤◌, List, [], ◌∷◌, ◌++◌, length, true}
+use Rattle.rs_model.specs.declared.limits.TheConstants.{MOST_ROLES}
 use Rattle.rs_model.specs.Data.{Protocol_data, Names_data}
 use Rattle.rs_text.specs.Lexemes.{Lexeme, Lexed, signs_of}
 use Rattle.rs_text.specs.Sound.{differ}
@@ -13,7 +14,7 @@ use Rattle.rs_global.specs.Graph.{graph_of, names_of}
 -- names and limits
 pub record Fits (t : ProtocolTree) : Type 0 where
   pub roles_differ : differ (roles_of t) ≡ true
-  pub few_roles : length (roles_of t) ≤ 16
+  pub few_roles : length (roles_of t) ≤ MOST_ROLES
   pub body : body_fits Talks t.body (first_scene (roles_of t) []) ≡ true
 
 -- the bytes from `at` on spell these names and this protocol, and go on at `until`

@@ -1,5 +1,6 @@
 // What printed protocols say. The functions do nothing: each states a law.
 ghost use Rattle.std.specs.Prelude.{◌≡◌, ◌≤◌, ◌+◌, ◌++◌, ℕ, List, drop, length, true};
+ghost use Rattle.rs_model.specs.declared.limits.TheConstants.{MOST_TALKS};
 ghost use Rattle.rs_model.specs.Data.{Names_data, Protocol_data};
 ghost use Rattle.rs_text.specs.Lexemes.{next_lexeme};
 ghost use Rattle.rs_text.specs.Words.{is_role_word};
@@ -32,7 +33,7 @@ pub fn lone_text_of_a_tree_spells_it()
 
 /// The name of a node can be a recursion name.
 pub fn node_name_is_a_word()
-    ensures { (n : ℕ) → n ≤ 1024 → is_role_word (name_of_node n) ≡ true }
+    ensures { (n : ℕ) → n ≤ MOST_TALKS → is_role_word (name_of_node n) ≡ true }
 {}
 
 /// A protocol that a text spells is text-shaped ..

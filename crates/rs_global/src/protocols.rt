@@ -1,4 +1,5 @@
 ghost use Rattle.std.specs.Prelude.{◌≡◌, ◌≤◌, ◌+◌, ◌++◌, length, map, IfOk, IfErr, ◌⊎◌};
+ghost use Rattle.rs_model.specs.declared.limits.TheConstants.{MOST_LABELS, MOST_ROLES, MOST_TALKS};
 ghost use Rattle.rs_text.specs.declared.faults.TextKind.TheVariants as kind;
 ghost use Rattle.rs_text.specs.Sound.{IsSound};
 ghost use Rattle.rs_global.specs.Faults.{FirstFault};
@@ -29,9 +30,9 @@ pub fn read_protocol(
     ensures ok { IfOk result (λ r. SpellsProtocol bytes.now at r.0 r.1 r.2) }
     ensures err { IfErr result (λ e. (e.kind ≡ kind.NoMemory) ⊎ FirstFault bytes.now at e.kind e.at) }
     ensures sound { IfOk result (λ r. IsSound r.0) }
-    ensures roles { IfOk result (λ r. length r.0.roles ≤ 16) }
-    ensures labels { IfOk result (λ r. length r.0.labels ≤ 256) }
-    ensures talks { IfOk result (λ r. length r.1.nodes ≤ 1025) }
+    ensures roles { IfOk result (λ r. length r.0.roles ≤ MOST_ROLES) }
+    ensures labels { IfOk result (λ r. length r.0.labels ≤ MOST_LABELS) }
+    ensures talks { IfOk result (λ r. length r.1.nodes ≤ MOST_TALKS + 1) }
     ensures within { IfOk result (λ r. r.2 ≤ length bytes.now) }
     ensures place { IfErr result (λ e. e.at ≤ length bytes.now) }
 {

@@ -12,8 +12,7 @@ use rs_model::{MOST_ROLES, Protocol};
 pub fn text_shaped(protocol: &Protocol) -> bool
     ensures { IsTrue result ↔ IsTextShaped protocol.now }
 {
-    fit_a_line(protocol.roles)
-        && has_body(protocol, Dialect::Talks, u32::from(protocol.roles), 0)
+    fit_a_line(protocol.roles) && has_body(protocol, Dialect::Talks, u32::from(protocol.roles), 0)
 }
 
 /// Whether so many roles can stand in a roles line.

@@ -1,4 +1,5 @@
 ghost use Rattle.std.specs.Prelude.{◌≡◌, ◌≤◌, ◌+◌, ◌++◌, length, map, take, IfOk, IfErr, ◌⊎◌};
+ghost use Rattle.rs_model.specs.declared.limits.TheConstants.{MOST_ACTS, MOST_LABELS, MOST_ROLES};
 ghost use Rattle.rs_text.specs.declared.faults.TextKind.TheVariants as kind;
 ghost use Rattle.rs_text.specs.Sound.{IsSound};
 ghost use Rattle.rs_machines.specs.Faults.{FirstFault, Keeps, LeavesLabels};
@@ -29,16 +30,16 @@ pub fn read_machine(
 ) -> Result<(Machine, usize), TextFault>
     requires at { at ≤ length bytes.now }
     requires sound { IsSound names.old }
-    requires roles { length names.old.roles ≤ 16 }
-    requires labels { length names.old.labels ≤ 256 }
+    requires roles { length names.old.roles ≤ MOST_ROLES }
+    requires labels { length names.old.labels ≤ MOST_LABELS }
     ensures ok { IfOk result (λ r. SpellsMachine bytes.now at names.old names.new r.0 r.1) }
     ensures err { IfErr result (λ e. (e.kind ≡ kind.NoMemory) ⊎ FirstFault names.old bytes.now at e.kind e.at) }
     ensures left { IfErr result (λ e. LeavesLabels names.old names.new bytes.now at e.kind e.at) }
     ensures sound { IsSound names.new }
     ensures roles { names.new.roles ≡ names.old.roles }
-    ensures labels { length names.new.labels ≤ 256 }
+    ensures labels { length names.new.labels ≤ MOST_LABELS }
     ensures kept { Keeps names.old names.new }
-    ensures states { IfOk result (λ r. length r.0.states ≤ 257) }
+    ensures states { IfOk result (λ r. length r.0.states ≤ MOST_ACTS + 1) }
     ensures within { IfOk result (λ r. r.1 ≤ length bytes.now) }
     ensures place { IfErr result (λ e. e.at ≤ length bytes.now) }
 {

@@ -204,7 +204,11 @@ fn tells_numbers_without_names(rt: HostRuntime) -> Result<(), Fail> {
     ];
     for (role, peer, label, want) in senders {
         let machine = sender(rt.alloc(), role, peer, label)?;
-        assert_eq!(rt; machine_text_shaped(&machine), want, "{role} {peer} {label}");
+        assert_eq!(rt;
+            machine_text_shaped(&machine),
+            want,
+            "{role} {peer} {label}"
+        );
     }
     Ok(())
 }

@@ -12,7 +12,12 @@ pub fn machine_text_shaped(machine: &Machine) -> bool
     ensures { IsTrue result ↔ IsMachineTextShaped machine.now }
 {
     can_be_named(machine.role)
-        && has_body(machine, Dialect::Acts, MOST_ROLES as u32, MOST_LABELS as u32)
+        && has_body(
+            machine,
+            Dialect::Acts,
+            MOST_ROLES as u32,
+            MOST_LABELS as u32,
+        )
 }
 
 /// Whether there can be a name for the role.
