@@ -8,3 +8,4 @@ pub mod Printables
 pub mod AcceptedSessions
 pub mod OneReason
 pub mod SomeSession
+pub mod RunSessions

@@ -16,6 +16,7 @@ use Rattle.rs_core.specs.Histories.{History, transcript_of}
 use Rattle.rs_core.specs.Plain.{Moment, Ending, Ended, Stopped, Stuck, IsPlain, FirstFull}
 use Rattle.rs_core.specs.Runs.{HasTranscripts, IsFullAt, IsShown, got_from, sent_to}
 use Rattle.rs_core.specs.Safety.{IsSafe}
+use Rattle.rs_core.specs.declared.runs.Outcome.{Outcome}
 use Rattle.rs_core.specs.declared.runs.Outcome.TheVariants as outcome
 use Rattle.rs_core.specs.declared.transcripts.Entry.{Entry}
 use Rattle.rs_core.proofs.Full.{stuck-is-full}
@@ -26,7 +27,7 @@ use Rattle.rs_project.specs.Data.{Projection_data}
 use Rattle.rs_safety.specs.Room.{room_of}
 use Rattle.rs_safety.specs.Sessions.{IsSession}
 use Rattle.rs_answers.specs.Data.{Answer_data}
-use Rattle.rs_answers.specs.Runs.{TellsEnd, HasEnded, IsStopped, IsFull, TellsRun, actor_of, capacity_of, ended_answer, stopped_answer, full_answer}
+use Rattle.rs_answers.specs.Runs.{TellsEnd, HasEnded, IsStopped, IsFull, TellsRun, actor_of, capacity_of, ended_answer, outcome_answer, stopped_answer, full_answer}
 use Rattle.rs_answers.specs.declared.runs.RunOptions.{RunOptions}
 use Rattle.rs_words.specs.Meaning.{IsFrom}
 use Rattle.rs_model.specs.declared.limits.TheConstants.{MOST_CAPACITY}
@@ -41,38 +42,27 @@ pub few_machines : (pr : Protocol_data) (ps : List Projection_data) (ms : List M
 few_machines pr ps ms s = let many = s.a_machine_each in let few = s.roles.1 in omega arith
 
 -- what a run shows is what is told of its end
-tells_ended : (names : Names_data) (ms : List Machine_data) (capacity : ℕ) (o : Ending ℕ) (transcripts : List (List Entry)) (actors : List ℕ) (a : Answer_data) → IsShown (length ms) o (outcome.Ended transcripts) actors → a ≡ ended_answer names transcripts
-    → TellsEnd names ms capacity a o
-tells_ended names ms capacity (Ended k) transcripts actors a s e = HasEnded k transcripts s.0 e
-tells_ended names ms capacity (Stopped p k) transcripts actors a s e = absurd s
-tells_ended names ms capacity (Stuck k) transcripts actors a s e = absurd s
+tells_shown : (names : Names_data) (ms : List Machine_data) (capacity : ℕ) (o : Ending ℕ) (x : Outcome) (actors : List ℕ) (a : Answer_data) → IsShown (length ms) o x actors → a ≡ outcome_answer names x → TellsEnd names ms capacity a o
+tells_shown names ms capacity (Ended k) (outcome.Ended transcripts) actors a s e = HasEnded k transcripts s.0 e
+tells_shown names ms capacity (Ended k) (outcome.Stopped role) actors a s e = absurd s
+tells_shown names ms capacity (Stopped p k) (outcome.Ended transcripts) actors a s e = absurd s
+tells_shown names ms capacity (Stopped p k) (outcome.Stopped role) actors a s e = IsStopped p k (e ∙ ap (λ (n : ℕ). stopped_answer names (record { 0 = n })) (sym s.0))
+tells_shown names ms capacity (Stuck k) (outcome.Ended transcripts) actors a s e = absurd s
+tells_shown names ms capacity (Stuck k) (outcome.Stopped role) actors a s e = absurd s
 
-tells_stopped : (names : Names_data) (ms : List Machine_data) (capacity : ℕ) (o : Ending ℕ) (role : Role) (actors : List ℕ) (a : Answer_data) → IsShown (length ms) o (outcome.Stopped role) actors → a ≡ stopped_answer names role → TellsEnd names ms capacity a o
-tells_stopped names ms capacity (Ended k) role actors a s e = absurd s
-tells_stopped names ms capacity (Stopped p k) role actors a s e = IsStopped p k (e ∙ ap (λ (n : ℕ). stopped_answer names (record { 0 = n })) (sym s.0))
-tells_stopped names ms capacity (Stuck k) role actors a s e = absurd s
+pub tells_run : (options : RunOptions) (names : Names_data) (ms : List Machine_data) (ds : List Derivation_data) (x : Outcome) (actors : List ℕ) (a : Answer_data)
+    → (o : Ending ℕ) × IsPlain ms by_draws (actor_of options.seed) options.limit (Some (capacity_of options.ring (room_of ds))) o × IsShown (length ms) o x actors
+    → a ≡ outcome_answer names x → TellsRun options names ms ds a
+tells_run options names ms ds x actors a p e = record { end = p.0; plain = p.1; tells = tells_shown names ms (capacity_of options.ring (room_of ds)) p.0 x actors a p.2 e }
 
-pub tells_run_ended : (options : RunOptions) (names : Names_data) (ms : List Machine_data) (ds : List Derivation_data) (transcripts : List (List Entry)) (actors : List ℕ) (r : Result Answer_data NoMemory)
-    → (o : Ending ℕ) × IsPlain ms by_draws (actor_of options.seed) options.limit (Some (capacity_of options.ring (room_of ds))) o × IsShown (length ms) o (outcome.Ended transcripts) actors
-    → IfOk r (λ a. a ≡ ended_answer names transcripts) → IfOk r (TellsRun options names ms ds)
-tells_run_ended options names ms ds transcripts actors (Ok a) p e = record { end = p.0; plain = p.1; tells = tells_ended names ms (capacity_of options.ring (room_of ds)) p.0 transcripts actors a p.2 e }
-tells_run_ended options names ms ds transcripts actors (Err x) p e = tt
-
-pub tells_run_stopped : (options : RunOptions) (names : Names_data) (ms : List Machine_data) (ds : List Derivation_data) (role : Role) (actors : List ℕ) (r : Result Answer_data NoMemory)
-    → (o : Ending ℕ) × IsPlain ms by_draws (actor_of options.seed) options.limit (Some (capacity_of options.ring (room_of ds))) o × IsShown (length ms) o (outcome.Stopped role) actors
-    → IfOk r (λ a. a ≡ stopped_answer names role) → IfOk r (TellsRun options names ms ds)
-tells_run_stopped options names ms ds role actors (Ok a) p e = record { end = p.0; plain = p.1; tells = tells_stopped names ms (capacity_of options.ring (room_of ds)) p.0 role actors a p.2 e }
-tells_run_stopped options names ms ds role actors (Err x) p e = tt
-
-pub tells_run_full : (options : RunOptions) (names : Names_data) (ms : List Machine_data) (ds : List Derivation_data) (sender receiver : Role) (sent taken : ℕ) (r : Result Answer_data NoMemory)
+pub tells_run_full : (options : RunOptions) (names : Names_data) (ms : List Machine_data) (ds : List Derivation_data) (sender receiver : Role) (sent taken : ℕ) (a : Answer_data)
     → IsFullAt ms by_draws (actor_of options.seed) options.limit (capacity_of options.ring (room_of ds)) sender receiver sent taken
-    → IfOk r (λ a. a ≡ full_answer names sender receiver sent taken) → IfOk r (TellsRun options names ms ds)
-tells_run_full options names ms ds sender receiver sent taken (Ok a) f e = record {
+    → a ≡ full_answer names sender receiver sent taken → TellsRun options names ms ds a
+tells_run_full options names ms ds sender receiver sent taken a f e = record {
   end = Stuck f.end;
   plain = f.plain;
   tells = IsFull f.end sender receiver f.full (e ∙ ap (λ z. full_answer names sender receiver z taken) f.is_sent ∙ ap (λ z. full_answer names sender receiver (sent_to receiver.0 (transcript_of (f.end.history sender.0))) z) f.is_taken);
 }
-tells_run_full options names ms ds sender receiver sent taken (Err x) f e = tt
 
 -- lists with the same items are the same
 same_items : {A : Type 0} (xs ys : List A) → length xs ≡ length ys → ((p : ℕ) (x y : A) → p < length xs → slice_get xs p ≡ Some x → slice_get ys p ≡ Some y → x ≡ y) → xs ≡ ys

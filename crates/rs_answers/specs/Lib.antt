@@ -5,6 +5,7 @@ pub mod Machines
 pub mod RefusalTexts
 pub mod Refusals
 pub mod Report
+pub mod RunSessions
 pub mod Runs
 pub mod Sessions
 pub mod Shown

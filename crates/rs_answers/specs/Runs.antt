@@ -5,6 +5,8 @@ use Rattle.rs_core.specs.Draws.{by_draws}
 use Rattle.rs_core.specs.Histories.{transcript_of}
 use Rattle.rs_core.specs.Plain.{Moment, Ending, Ended, Stopped, Stuck, IsPlain, FirstFull}
 use Rattle.rs_core.specs.Runs.{HasTranscripts, got_from, sent_to}
+use Rattle.rs_core.specs.declared.runs.Outcome.{Outcome}
+use Rattle.rs_core.specs.declared.runs.Outcome.TheVariants as outcome
 use Rattle.rs_core.specs.declared.transcripts.Entry.{Entry}
 use Rattle.rs_derive.specs.Data.{Derivation_data}
 use Rattle.rs_model.specs.Data.{Machine_data, Names_data}
@@ -43,6 +45,11 @@ ended_answer names transcripts = record {
 -- the role has made as many acts as the limit allows, and hasn't ended
 abbrev pub stopped_answer : Names_data → Role → Answer_data
 stopped_answer names role = line_of_answer (codes "stopped ") (role_name names role) verdict.Stopped
+
+-- what a run came to
+abbrev pub outcome_answer : Names_data → Outcome → Answer_data
+outcome_answer names (outcome.Ended transcripts) = ended_answer names transcripts
+outcome_answer names (outcome.Stopped role) = stopped_answer names role
 
 -- no role can move: the sender's queue to the receiver is full, into which it has put so many messages, of which so many
 -- were taken

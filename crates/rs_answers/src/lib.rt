@@ -16,7 +16,7 @@ mod transcript_texts;
 mod verdicts;
 mod verifying;
 
-pub use answers::Answer;
+pub use answers::{Answer, AnswerWithSession};
 pub use checks::{check, check_with_derivations};
 pub use derivations::{
     DerivedSession, Underivable, accept_derived, derivations_of, derived_session,

@@ -5,10 +5,11 @@ ghost use Rattle.rs_core.specs.Runs.{IsGiven};
 ghost use Rattle.rs_answers.specs.Derivations.{IsBound};
 ghost use Rattle.rs_documents.specs.Reading.{IsReady};
 ghost use Rattle.rs_answers.specs.Runs as spec;
+ghost use Rattle.rs_answers.specs.RunSessions.{HasCome, IsThereWhere, WasRunByDraws, WasRunOf};
 ghost use Rattle.rs_answers.specs.Runs.{Runs, TellsRun};
 ghost use Rattle.rs_words.specs.Meaning.{IsFrom};
 
-use crate::answers::Answer;
+use crate::answers::{Answer, AnswerWithSession};
 use crate::derivations::{DerivedSession, accept_derived, derived_session};
 use crate::refusal_texts::{line_of_answer, role_name};
 use crate::refusals::refusal_answer;
@@ -91,6 +92,16 @@ pub fn stopped_answer(alloc: Global, names: &Names, role: Role) -> Result<Answer
     )
 }
 
+/// What the run came to.
+fn outcome_answer(alloc: Global, names: &Names, outcome: Outcome) -> Result<Answer, NoMemory>
+    ensures { IfOk result (λ a. a ≡ spec.outcome_answer names.now outcome) }
+{
+    match outcome {
+        Outcome::Ended(transcripts) => ended_answer(alloc, names, &transcripts),
+        Outcome::Stopped(role) => stopped_answer(alloc, names, role),
+    }
+}
+
 /// No role can move: the sender's queue to the receiver is full.
 fn full_answer(
     alloc: Global,
@@ -124,20 +135,21 @@ fn run_accepted(
     names: &Names,
     accepted: &Accepted,
     options: RunOptions,
-) -> Result<Answer, NoMemory>
+) -> Result<AnswerWithSession, NoMemory>
     requires ring { IfSome options.ring (IsFrom 1 MOST_CAPACITY) }
-    ensures { IfOk result (TellsRun options names.now accepted.now.machines accepted.now.derivations) }
+    ensures answer { IfOk result (λ a. TellsRun options names.now accepted.now.machines accepted.now.derivations a.answer) }
+    ensures closed { IfOk result (λ a. IsThereWhere (HasCome a.answer.verdict) (WasRunByDraws options names.now accepted.now.machines a.answer) a.closed) }
 {
     let actors = actors_of(alloc, accepted.machines().len(), options.seed)?;
     let capacity = capacity_of(options.ring, accepted.room());
     match run_inline(alloc, accepted, actors, capacity, options.limit) {
         Ok(ran) => {
-            let Ran { run, closed: _ } = ran;
+            let Ran { run, closed } = ran;
             let Run { outcome, .. } = run;
-            match outcome {
-                Outcome::Ended(transcripts) => ended_answer(alloc, names, &transcripts),
-                Outcome::Stopped(role) => stopped_answer(alloc, names, role),
-            }
+            Ok(AnswerWithSession {
+                answer: outcome_answer(alloc, names, outcome)?,
+                closed: Some(closed),
+            })
         }
         Err(
             ExecFault::Full {
@@ -146,18 +158,24 @@ fn run_accepted(
                 sent,
                 taken,
             },
-        ) => full_answer(alloc, names, sender, receiver, sent, taken),
+        ) => AnswerWithSession::alone(full_answer(alloc, names, sender, receiver, sent, taken)),
         Err(ExecFault::NoMemory) => Err(NoMemory),
     }
 }
 
-/// What `run` answers to a document: the first reason to refuse it, else how the run of its session ended.
-pub fn run(alloc: Global, document: &Document, options: RunOptions) -> Result<Answer, NoMemory>
+/// What `run` answers to a document: the first reason to refuse it, else how the run of its session ended. The session is
+/// handed out where all roles have ended or one was stopped.
+pub fn run(
+    alloc: Global,
+    document: &Document,
+    options: RunOptions,
+) -> Result<AnswerWithSession, NoMemory>
     requires ready { IsReady document.now }
     requires roles { length document.now.names.roles ≡ document.now.protocol.roles }
     requires bound { IsBound options.bound }
     requires ring { IfSome options.ring (IsFrom 1 MOST_CAPACITY) }
-    ensures { IfOk result (Runs options document.now) }
+    ensures answer { IfOk result (λ a. Runs options document.now a.answer) }
+    ensures closed { IfOk result (λ a. IsThereWhere (HasCome a.answer.verdict) (WasRunOf options document.now a.answer) a.closed) }
 {
     let names = &document.names;
     let DerivedSession {
@@ -166,7 +184,7 @@ pub fn run(alloc: Global, document: &Document, options: RunOptions) -> Result<An
         derivations,
     } = match derived_session(alloc, document, options.bound) {
         Ok(session) => session,
-        Err(refusal) => return refusal_answer(alloc, names, refusal),
+        Err(refusal) => return AnswerWithSession::alone(refusal_answer(alloc, names, refusal)),
     };
     let accepted = accept_derived(
         &document.protocol,

@@ -12,6 +12,8 @@ use Rattle.rs_answers.specs.declared.refusals.Refusal.{Refusal}
 use Rattle.rs_answers.specs.declared.verdicts.Verdict.TheVariants as verdict
 use Rattle.rs_core.specs.Plain.{Moment, Ending, Ended, Stopped, IsPlain}
 use Rattle.rs_core.specs.Runs.{HasActors}
+use Rattle.rs_core.specs.declared.runs.Outcome.{Outcome}
+use Rattle.rs_core.specs.declared.runs.Outcome.TheVariants as outcome
 use Rattle.rs_demo_answers.specs.declared.limits.TheConstants.{DEMO_LIMIT}
 use Rattle.rs_demos.specs.Acting.{by_demo}
 use Rattle.rs_demos.specs.Outputs.{output_of}
@@ -40,6 +42,11 @@ too_small capacity room = line_of_answer (codes "room too small: ring ") (joined
 -- all roles have ended: what is printed of their actors
 abbrev pub ended_answer : Demo → List DemoActor → Answer_data
 ended_answer kind actors = record { text = output_of kind actors; verdict = verdict.Fine }
+
+-- what a run came to, with the actors that it left
+abbrev pub outcome_answer : Demo → Names_data → Outcome → List DemoActor → Answer_data
+outcome_answer kind names (outcome.Ended transcripts) left = ended_answer kind left
+outcome_answer kind names (outcome.Stopped role) left = stopped_answer names role
 
 -- the actor of a role; behind the last role there is none, and a sink stands for it
 abbrev pub actor_at : List DemoActor → ℕ → DemoActor

@@ -2,6 +2,8 @@
 
 ghost use Rattle.std.specs.Prelude.{◌≡◌, ◌≤◌, length, IfOk, IfSome};
 ghost use Rattle.rs_demo_answers.specs.Demos as spec;
+ghost use Rattle.rs_answers.specs.RunSessions.{HasCome, IsThereWhere};
+ghost use Rattle.rs_demo_answers.specs.DemoSessions.{WasPerformed, WasRunByActors, WasRunOn};
 ghost use Rattle.rs_demo_answers.specs.Demos.{AnswersDemo, AnswersOwn, Performs, TellsRun};
 ghost use Rattle.rs_documents.specs.Reading.{IsReady};
 ghost use Rattle.rs_safety.specs.Room.{room_of};
@@ -11,7 +13,7 @@ ghost use Rattle.rs_model.specs.declared.limits.TheConstants.{MOST_CAPACITY};
 use crate::limits::DEMO_LIMIT;
 use rs_answers::Piece::{Number, Words};
 use rs_answers::{
-    Answer, DerivedSession, Verdict, accept_derived, answer_to_fault, capacity_of, derived_session,
+    Answer, AnswerWithSession, DerivedSession, Verdict, accept_derived, answer_to_fault, capacity_of, derived_session,
     line_of_answer, refusal_answer, stopped_answer,
 };
 use rs_core::{Outcome, Run};
@@ -57,6 +59,22 @@ fn ended_answer(alloc: Global, kind: Demo, actors: &[DemoActor]) -> Result<Answe
     })
 }
 
+/// What the run came to, with the actors that it left.
+fn outcome_answer(
+    alloc: Global,
+    kind: Demo,
+    names: &Names,
+    outcome: Outcome,
+    left: &[DemoActor],
+) -> Result<Answer, NoMemory>
+    ensures { IfOk result (λ a. a ≡ spec.outcome_answer kind names.now outcome left.now) }
+{
+    match outcome {
+        Outcome::Ended(_) => ended_answer(alloc, kind, left),
+        Outcome::Stopped(role) => stopped_answer(alloc, names, role),
+    }
+}
+
 /// Runs an accepted session over rings of a capacity, by these actors, and tells how the run ended.
 fn run_session(
     alloc: Global,
@@ -65,20 +83,21 @@ fn run_session(
     accepted: &Accepted,
     actors: Vec<DemoActor>,
     capacity: u16,
-) -> Result<Answer, NoMemory>
+) -> Result<AnswerWithSession, NoMemory>
     requires actors { length actors.items ≡ length accepted.now.machines }
     requires capacity { IsFrom 1 MOST_CAPACITY capacity }
     requires enough { room_of accepted.now.derivations ≤ capacity }
-    ensures { IfOk result (TellsRun kind actors.items names.now accepted.now.machines capacity) }
+    ensures answer { IfOk result (λ a. TellsRun kind actors.items names.now accepted.now.machines capacity a.answer) }
+    ensures closed { IfOk result (λ a. IsThereWhere (HasCome a.answer.verdict) (WasRunByActors kind actors.items names.now accepted.now.machines a.answer) a.closed) }
 {
     match run_inline(alloc, accepted, actors, capacity, DEMO_LIMIT) {
         Ok(ran) => {
-            let Ran { run, closed: _ } = ran;
+            let Ran { run, closed } = ran;
             let Run { outcome, actors } = run;
-            match outcome {
-                Outcome::Ended(_) => ended_answer(alloc, kind, actors.as_slice()),
-                Outcome::Stopped(role) => stopped_answer(alloc, names, role),
-            }
+            Ok(AnswerWithSession {
+                answer: outcome_answer(alloc, kind, names, outcome, actors.as_slice())?,
+                closed: Some(closed),
+            })
         }
         Err(ExecFault::Full { .. }) => unreachable!(),
         Err(ExecFault::NoMemory) => Err(NoMemory),
@@ -93,15 +112,16 @@ fn perform(
     names: &Names,
     accepted: &Accepted,
     actors: Vec<DemoActor>,
-) -> Result<Answer, NoMemory>
+) -> Result<AnswerWithSession, NoMemory>
     requires actors { length actors.items ≡ length accepted.now.machines }
     requires ring { IfSome ring (IsFrom 1 MOST_CAPACITY) }
-    ensures { IfOk result (Performs kind ring actors.items names.now accepted.now.machines accepted.now.derivations) }
+    ensures answer { IfOk result (λ a. Performs kind ring actors.items names.now accepted.now.machines accepted.now.derivations a.answer) }
+    ensures closed { IfOk result (λ a. IsThereWhere (HasCome a.answer.verdict) (WasRunByActors kind actors.items names.now accepted.now.machines a.answer) a.closed) }
 {
     let room = accepted.room();
     let capacity = capacity_of(ring, room);
     if u64::from(capacity) < room {
-        too_small(alloc, capacity, room)
+        AnswerWithSession::alone(too_small(alloc, capacity, room))
     } else {
         run_session(alloc, kind, names, accepted, actors, capacity)
     }
@@ -115,12 +135,13 @@ fn answer_to_own(
     ring: Option<u16>,
     document: &Document,
     actors: Vec<DemoActor>,
-) -> Result<Answer, NoMemory>
+) -> Result<AnswerWithSession, NoMemory>
     requires ready { IsReady document.now }
     requires roles { length document.now.names.roles ≡ document.now.protocol.roles }
     requires actors { length actors.items ≡ document.now.protocol.roles }
     requires ring { IfSome ring (IsFrom 1 MOST_CAPACITY) }
-    ensures { IfOk result (AnswersOwn kind ring actors.items document.now) }
+    ensures answer { IfOk result (λ a. AnswersOwn kind ring actors.items document.now a.answer) }
+    ensures closed { IfOk result (λ a. IsThereWhere (HasCome a.answer.verdict) (WasRunOn kind actors.items document.now a.answer) a.closed) }
 {
     let names = &document.names;
     let DerivedSession {
@@ -129,7 +150,7 @@ fn answer_to_own(
         derivations,
     } = match derived_session(alloc, document, DEFAULT_BOUND) {
         Ok(session) => session,
-        Err(refusal) => return refusal_answer(alloc, names, refusal),
+        Err(refusal) => return AnswerWithSession::alone(refusal_answer(alloc, names, refusal)),
     };
     let accepted = accept_derived(
         &document.protocol,
@@ -141,19 +162,25 @@ fn answer_to_own(
 }
 
 /// What the demo answers to the bytes of the input: that they aren't the numbers that it asks for, or what comes of the
-/// demo's own document, which goes the way of any other.
-pub fn demo(alloc: Global, kind: Demo, ring: Option<u16>, bytes: &[u8]) -> Result<Answer, NoMemory>
+/// demo's own document, which goes the way of any other. The session is handed out where its run came to an end.
+pub fn demo(
+    alloc: Global,
+    kind: Demo,
+    ring: Option<u16>,
+    bytes: &[u8],
+) -> Result<AnswerWithSession, NoMemory>
     requires { IfSome ring (IsFrom 1 MOST_CAPACITY) }
-    ensures { IfOk result (AnswersDemo kind ring bytes.now) }
+    ensures answer { IfOk result (λ a. AnswersDemo kind ring bytes.now a.answer) }
+    ensures closed { IfOk result (λ a. IsThereWhere (HasCome a.answer.verdict) (WasPerformed kind bytes.now a.answer) a.closed) }
 {
     let actors = match demo_actors(alloc, kind, bytes) {
         Ok(actors) => actors,
-        Err(DemoFault::BadNumbers) => return bad_numbers(alloc),
+        Err(DemoFault::BadNumbers) => return AnswerWithSession::alone(bad_numbers(alloc)),
         Err(DemoFault::NoMemory) => return Err(NoMemory),
     };
     let text = demo_document(alloc, kind, actors.len() as u8)?;
     match read_document(alloc, text.as_slice()) {
         Ok(document) => answer_to_own(alloc, kind, ring, &document, actors),
-        Err(fault) => answer_to_fault(alloc, text.as_slice(), fault),
+        Err(fault) => AnswerWithSession::alone(answer_to_fault(alloc, text.as_slice(), fault)),
     }
 }

@@ -1,0 +1,120 @@
+-- The session of a run is the one that is due beside what is told.
+use Rattle.std.proofs.Common.{◌≡◌, ℕ, List, length, get_or, slice_get, Some, sym, ap, ◌∙◌, subst, arith}
+use Rattle.std.proofs.lemmas.Option.{get_or_from_slice_get, slice_get_within}
+use Rattle.rs_core.specs.Actors.{Behaviour, Plays}
+use Rattle.rs_core.specs.Configurations.{Configuration}
+use Rattle.rs_core.specs.Draws.{by_draws}
+use Rattle.rs_core.specs.Histories.{History}
+use Rattle.rs_core.specs.Runs.{HasActors, IsGiven}
+use Rattle.rs_core.specs.declared.runs.Outcome.{Outcome}
+use Rattle.rs_core.proofs.Ends.{get-there}
+use Rattle.rs_exec.specs.Runs.{IsSessionOfRun}
+use Rattle.rs_model.specs.Data.{Machine_data, Names_data}
+use Rattle.rs_project.specs.declared.projecting.ProjFault.{ProjFault}
+use Rattle.rs_project.specs.declared.projecting.ProjFault.TheVariants as proj
+use Rattle.rs_model.specs.declared.graph.Role.{Role}
+use Rattle.rs_rings.specs.Closed.{Closed_data}
+use Rattle.rs_rings.specs.Views.{history_in}
+use Rattle.rs_search.specs.declared.faults.SearchFault.{SearchFault}
+use Rattle.rs_search.specs.declared.faults.SearchFault.TheVariants as search
+use Rattle.rs_text.specs.declared.faults.TextKind.{TextKind}
+use Rattle.rs_text.specs.declared.faults.TextKind.TheVariants as kind
+use Rattle.rs_wellformed.specs.declared.checks.WfFault.{WfFault}
+use Rattle.rs_wellformed.specs.declared.checks.WfFault.TheVariants as wf
+use Rattle.rs_answers.specs.Data.{Answer_data}
+use Rattle.rs_answers.specs.RefusalTexts.{fault_answer, proj_answer, search_answer, wf_answer}
+use Rattle.rs_answers.specs.Refusals.{refusal_answer}
+use Rattle.rs_answers.specs.RunSessions.{HasCome, WasRun, WasRunByDraws}
+use Rattle.rs_answers.specs.Runs.{actor_of, outcome_answer}
+use Rattle.rs_answers.specs.declared.refusals.Refusal.{Refusal}
+use Rattle.rs_answers.specs.declared.refusals.Refusal.TheVariants as refusal
+use Rattle.rs_answers.specs.declared.runs.RunOptions.{RunOptions}
+
+-- ---- a session that was run
+
+module _ {A : Type 0} (machines : List Machine_data) (b : Behaviour A) (actors left : List A) (given : ℕ → A) (limit : ℕ) (closed : Closed_data) (o : Outcome) (is : IsGiven given actors) (count : length actors ≡ length machines) (s : IsSessionOfRun machines b actors limit closed o left) where
+  -- what each role's actor has become
+  after : ℕ → A
+  after p = get_or left p (given p)
+
+  after_is : (p : ℕ) (y : A) → slice_get left p ≡ Some y → after p ≡ y
+  unfolding after
+  after_is p y at = get_or_from_slice_get left p y (given p) at
+
+  have_become : HasActors (length machines) after left
+  have_become = record {
+    many = s.played.many;
+    each = λ p l. let y = get-there left p (let e = s.played.many in omega arith) in y.1 ∙ ap Some (sym (after_is p y.0 y.1));
+  }
+
+  -- the session of a run was run by the actors that were given, where what it came to is so
+  pub was_run : (comes_to : (ℕ → History) → Configuration → (ℕ → A) → Type 0) → ((become : ℕ → A) → HasActors (length machines) become left → comes_to (history_in closed.last) s.end become) → WasRun machines b given limit comes_to closed
+  was_run comes_to comes = record {
+    same_machines = s.same_machines;
+    end = s.end;
+    after = after;
+    run = record {
+      legal = s.legal;
+      played = λ p m runs.
+          let low = slice_get_within machines p m runs in
+          let x = get-there actors p (omega (arith, count)) in
+          let y = get-there left p (let e = s.played.many in omega arith) in
+          let k = s.played.each p m x.0 y.0 runs x.1 y.1 in
+          (k.0, subst (λ (z : A). Plays b m z (history_in closed.last p) k.0 (after p)) (sym (is p x.0 x.1)) (subst (λ (z : A). Plays b m x.0 (history_in closed.last p) k.0 z) (sym (after_is p y.0 y.1)) k.1));
+      few = s.few;
+    };
+    comes = comes after have_become;
+  }
+
+pub was_run_by_draws : (options : RunOptions) (names : Names_data) (ms : List Machine_data) (actors left : List ℕ) (closed : Closed_data) (o : Outcome) (a : Answer_data) → IsGiven (actor_of options.seed) actors → length actors ≡ length ms
+    → IsSessionOfRun ms by_draws actors options.limit closed o left → a ≡ outcome_answer names o → WasRunByDraws options names ms a closed
+was_run_by_draws options names ms actors left closed o a is count s e = was_run ms by_draws actors left (actor_of options.seed) options.limit closed o is count s _ (λ become has. (o, s.comes_to, e))
+
+-- ---- answers beside which no session is due
+
+abbrev pub IsAlone : Answer_data → Type 0
+IsAlone a = HasCome a.verdict → ⊥
+
+pub alone : (a b : Answer_data) → a ≡ b → IsAlone b → IsAlone a
+alone a b e h = subst IsAlone (sym e) h
+
+pub fault-is-alone : (bytes : List ℕ) (k : TextKind) (at : ℕ) → IsAlone (fault_answer bytes k at)
+fault-is-alone bytes (kind.Expected w) at e = e
+fault-is-alone bytes kind.UnknownRole at e = e
+fault-is-alone bytes kind.UnboundName at e = e
+fault-is-alone bytes kind.NameTwice at e = e
+fault-is-alone bytes kind.TooDeep at e = e
+fault-is-alone bytes kind.TooManyRoles at e = e
+fault-is-alone bytes kind.TooManyNodes at e = e
+fault-is-alone bytes kind.NoMemory at e = e
+fault-is-alone bytes kind.Unguarded at e = e
+fault-is-alone bytes kind.TooManyLabels at e = e
+fault-is-alone bytes kind.BadByte at e = e
+fault-is-alone bytes kind.NumberTooLarge at e = e
+fault-is-alone bytes kind.NameTooLong at e = e
+
+wf-is-alone : (names : Names_data) (f : WfFault) → IsAlone (wf_answer names f)
+wf-is-alone names (wf.SelfTalk n) e = e
+wf-is-alone names (wf.NoArms n) e = e
+wf-is-alone names (wf.TooManyArms n) e = e
+wf-is-alone names (wf.TwiceLabel n l) e = e
+wf-is-alone names (wf.BadNext n) e = e
+
+proj-is-alone : (names : Names_data) (f : ProjFault) → IsAlone (proj_answer names f)
+proj-is-alone names (proj.Unmergeable r a b) e = e
+proj-is-alone names (proj.Unreached r n) e = e
+proj-is-alone names (proj.TooManyStates r) e = e
+proj-is-alone names proj.NoMemory e = e
+
+search-is-alone : (names : Names_data) (role : Role) (f : SearchFault) → IsAlone (search_answer names role f)
+search-is-alone names role (search.NotFound cut) e = e
+search-is-alone names role (search.Forgets n) e = e
+search-is-alone names role search.TooLarge e = e
+search-is-alone names role search.NoMemory e = e
+
+pub refusal-is-alone : (names : Names_data) (r : Refusal) → IsAlone (refusal_answer names r)
+refusal-is-alone names (refusal.IllFormed f) e = wf-is-alone names f e
+refusal-is-alone names (refusal.Unprojectable f) e = proj-is-alone names f e
+refusal-is-alone names (refusal.IllMachine role f) e = e
+refusal-is-alone names (refusal.Underivable u) e = search-is-alone names u.role u.fault e
+refusal-is-alone names refusal.NoMemory e = e
