@@ -27,7 +27,7 @@ use Rattle.rs_answers.specs.declared.refusals.Refusal.{Refusal}
 use Rattle.rs_answers.specs.declared.refusals.Refusal.TheVariants as refusal
 use Rattle.rs_answers.specs.Report.{report}
 use Rattle.rs_answers.specs.Runs as runs
-use Rattle.rs_answers.specs.Runs.{Runs, TellsRun}
+use Rattle.rs_answers.specs.Runs.{Runs}
 use Rattle.rs_answers.specs.declared.runs.RunOptions.{RunOptions}
 use Rattle.rs_answers.specs.Sessions.{HasMachines, Refuses, first_refusal, machines_of}
 use Rattle.rs_answers.specs.Shown.{Shows}
@@ -60,16 +60,12 @@ pub shown : (bound : ℕ) (d : Document_data) (ps : List Projection_data) (ms : 
     → IfOk r (Shows (with_derivations d ds)) → IfOk r (Checks bound true d)
 shown bound d ps ms ds r h found is = made (Shows (with_derivations d ds)) (Checks bound true d) r is (λ m x. checks.IsAccepted ps ms ds h found x)
 
--- the document is refused, and so isn't run; or its session is run
+-- the document is refused, and so isn't run
 pub refused_run : (options : RunOptions) (d : Document_data) (why : Refusal) (r : Result Answer_data NoMemory) → (why ≡ refusal.NoMemory) ⊎ HasNoDerivations options.bound d why → IfOk r (λ a. a ≡ refusal_answer d.names why)
     → IfOk r (λ a. why ≡ refusal.NoMemory → ⊥) → IfOk r (Runs options d)
 refused_run options d why (Err e) h is never = tt
 refused_run options d why (Ok m) (inl memory) is never = absurd (never memory)
 refused_run options d why (Ok m) (inr h) is never = runs.IsRefused why h is
-
-pub is_run : (options : RunOptions) (d : Document_data) (ps : List Projection_data) (ms : List Machine_data) (ds : List Derivation_data) (r : Result Answer_data NoMemory) → HasMachines d ps ms → AreCanonical options.bound ms ps ds
-    → IfOk r (TellsRun options d.names ms ds) → IfOk r (Runs options d)
-is_run options d ps ms ds r h found is = made (TellsRun options d.names ms ds) (Runs options d) r is (λ m x. runs.IsRun ps ms ds h found x)
 
 -- why there is no session, or no derivation
 pub no_projection : (d : Document_data) (f : ProjFault) → first_fault d.protocol ≡ None → (f ≡ proj.NoMemory) ⊎ Refuses d.protocol f → (of_projecting f ≡ refusal.NoMemory) ⊎ HasNoSession d (of_projecting f)

@@ -1,5 +1,6 @@
 -- The session of a run is the one that is due beside what is told.
-use Rattle.std.proofs.Common.{◌≡◌, ℕ, List, length, get_or, slice_get, Some, sym, ap, ◌∙◌, subst, arith}
+use Rattle.std.proofs.Common.{◌≡◌, ℕ, List, length, get_or, slice_get, Option, Some, None, Result, Ok, Err, sym, ap, ◌∙◌, subst, arith}
+use Rattle.std.specs.Prelude.{IfOk}
 use Rattle.std.proofs.lemmas.Option.{get_or_from_slice_get, slice_get_within}
 use Rattle.rs_core.specs.Actors.{Behaviour, Plays}
 use Rattle.rs_core.specs.Configurations.{Configuration}
@@ -7,9 +8,11 @@ use Rattle.rs_core.specs.Draws.{by_draws}
 use Rattle.rs_core.specs.Histories.{History}
 use Rattle.rs_core.specs.Runs.{HasActors, IsGiven}
 use Rattle.rs_core.specs.declared.runs.Outcome.{Outcome}
+use Rattle.rs_core.specs.declared.runs.Outcome.TheVariants as outcome
 use Rattle.rs_core.proofs.Ends.{get-there}
 use Rattle.rs_exec.specs.Runs.{IsSessionOfRun}
 use Rattle.rs_model.specs.Data.{Machine_data, Names_data}
+use Rattle.rs_model.specs.declared.memory.NoMemory.{NoMemory}
 use Rattle.rs_project.specs.declared.projecting.ProjFault.{ProjFault}
 use Rattle.rs_project.specs.declared.projecting.ProjFault.TheVariants as proj
 use Rattle.rs_model.specs.declared.graph.Role.{Role}
@@ -24,8 +27,9 @@ use Rattle.rs_wellformed.specs.declared.checks.WfFault.TheVariants as wf
 use Rattle.rs_answers.specs.Data.{Answer_data}
 use Rattle.rs_answers.specs.RefusalTexts.{fault_answer, proj_answer, search_answer, wf_answer}
 use Rattle.rs_answers.specs.Refusals.{refusal_answer}
-use Rattle.rs_answers.specs.RunSessions.{HasCome, WasRun, WasRunByDraws}
+use Rattle.rs_answers.specs.RunSessions.{HasCome, IsThereWhere, WasRun, WasRunByDraws}
 use Rattle.rs_answers.specs.Runs.{actor_of, outcome_answer}
+use Rattle.rs_answers.specs.declared.answers.AnswerWithSession.{AnswerWithSession}
 use Rattle.rs_answers.specs.declared.refusals.Refusal.{Refusal}
 use Rattle.rs_answers.specs.declared.refusals.Refusal.TheVariants as refusal
 use Rattle.rs_answers.specs.declared.runs.RunOptions.{RunOptions}
@@ -70,7 +74,27 @@ pub was_run_by_draws : (options : RunOptions) (names : Names_data) (ms : List Ma
     → IsSessionOfRun ms by_draws actors options.limit closed o left → a ≡ outcome_answer names o → WasRunByDraws options names ms a closed
 was_run_by_draws options names ms actors left closed o a is count s e = was_run ms by_draws actors left (actor_of options.seed) options.limit closed o is count s _ (λ become has. (o, s.comes_to, e))
 
+-- an outcome is an end or a stop
+pub has_come : (names : Names_data) (o : Outcome) (a : Answer_data) → a ≡ outcome_answer names o → HasCome a.verdict
+has_come names (outcome.Ended transcripts) a e = subst (λ (z : Answer_data). HasCome z.verdict) (sym e) tt
+has_come names (outcome.Stopped role) a e = subst (λ (z : Answer_data). HasCome z.verdict) (sym e) tt
+
 -- ---- answers beside which no session is due
+
+-- an answer that is given alone is the one that was made
+pub made_alone : (P : Answer_data → Type 0) (Q : AnswerWithSession → Type 0) (r : Result Answer_data NoMemory) (s : Result AnswerWithSession NoMemory) → IfOk s (λ a. (r ≡ Ok a.answer) × (a.closed ≡ None)) → IfOk r P
+    → ((a : AnswerWithSession) → P a.answer → a.closed ≡ None → Q a) → IfOk s Q
+made_alone P Q r (Ok a) is h next = next a (subst (λ (z : Result Answer_data NoMemory). IfOk z P) is.0 h) is.1
+made_alone P Q r (Err e) is h next = tt
+
+-- no session is there where none is due
+pub not_there : (due : Type 0) (fact : Closed_data → Type 0) (c : Option Closed_data) → c ≡ None → (due → ⊥) → IsThereWhere due fact c
+not_there due fact c none never = subst (IsThereWhere due fact) (sym none) never
+
+-- .. beside a fact that still holds
+pub still_there : (due also : Type 0) (fact other : Closed_data → Type 0) (c : Option Closed_data) → (due → also) → (also → due) → ((closed : Closed_data) → fact closed → other closed) → IsThereWhere due fact c → IsThereWhere also other c
+still_there due also fact other None there back next h = λ d. h (back d)
+still_there due also fact other (Some closed) there back next h = (there h.0, next closed h.1)
 
 abbrev pub IsAlone : Answer_data → Type 0
 IsAlone a = HasCome a.verdict → ⊥

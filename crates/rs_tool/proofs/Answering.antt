@@ -29,7 +29,7 @@ use Rattle.rs_answers.specs.RefusalTexts.{too_large, fault_answer}
 use Rattle.rs_tool.specs.Statuses.{status_after, status_of}
 use Rattle.rs_tool.specs.declared.statuses.Stop.{Stop}
 use Rattle.rs_tool.specs.declared.statuses.Stop.TheVariants as stop
-use Rattle.rs_tool.specs.Tasks.{ReadTheInput, reads_document, reads_input}
+use Rattle.rs_tool.specs.Tasks.{ReadTheInput, is_built, reads_document, reads_input}
 use Rattle.rs_answers.proofs.RunSessions.{alone}
 use Rattle.rs_answers.specs.declared.answers.AnswerWithSession.{AnswerWithSession}
 use Rattle.std.proofs.lemmas.Result.{IfOk-weaker}
@@ -73,6 +73,16 @@ reading task.Project reads = OfDocument reads
 reading (task.Run bound ring workers limit seed) reads = OfDocument reads
 reading (task.Demo kind ring workers) reads = OfData kind ring (demo_by_one kind ring workers reads)
 reading (task.Gen number) reads = absurd cc
+
+-- a task that reads no input, and isn't `gen`, isn't built
+pub unbuilt : (t : Task) → reads_input t ≡ false → ((number : ℕ) → t ≡ task.Gen number → ⊥) → is_built t ≡ false
+unbuilt (task.Check bound asked) reads other = absurd cc
+unbuilt task.Verify reads other = absurd cc
+unbuilt task.Show reads other = absurd cc
+unbuilt task.Project reads other = absurd cc
+unbuilt (task.Run bound ring workers limit seed) reads other = reads
+unbuilt (task.Demo kind ring workers) reads other = reads
+unbuilt (task.Gen number) reads other = absurd (other number refl)
 
 long_answer : (t : Task) (bytes : List ℕ) (a : Answer_data) → IsReading t → MOST_BYTES < length bytes → a ≡ too_large (codes "text") → AnswersTask t bytes a
 long_answer t bytes a (OfDocument reads) long is = ReadsDocument reads (IsTooLong long is)
