@@ -13,8 +13,8 @@ ghost use Rattle.rs_model.specs.declared.limits.TheConstants.{MOST_CAPACITY};
 use crate::limits::DEMO_LIMIT;
 use rs_answers::Piece::{Number, Words};
 use rs_answers::{
-    Answer, AnswerWithSession, DerivedSession, Verdict, accept_derived, answer_to_fault, capacity_of, derived_session,
-    line_of_answer, refusal_answer, stopped_answer,
+    Answer, AnswerWithSession, DerivedSession, Verdict, accept_derived, answer_to_fault,
+    capacity_of, derived_session, line_of_answer, refusal_answer, stopped_answer,
 };
 use rs_core::{Outcome, Run};
 use rs_demos::{Demo, DemoActor, DemoFault, demo_actors, demo_document, demo_output};

@@ -10,8 +10,8 @@ ghost use Rattle.rs_words.specs.Meaning.{IsInRange};
 
 use rs_answers::Piece::Words;
 use rs_answers::{
-    AnswerWithSession, RunOptions, answer_to_fault, check, check_with_derivations, project_all, run, show,
-    too_large, verify,
+    AnswerWithSession, RunOptions, answer_to_fault, check, check_with_derivations, project_all,
+    run, show, too_large, verify,
 };
 use rs_documents::{Document, read_document};
 use rs_model::{MOST_BYTES, NoMemory};

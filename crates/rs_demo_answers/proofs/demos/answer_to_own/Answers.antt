@@ -20,7 +20,7 @@ use Rattle.rs_demo_answers.proofs.demos.answer_to_own.Goals as goal
 pub returns-in-Err-clause-answer : goal.returns-in-Err-clause-answer
 returns-in-Err-clause-answer c =
     let refused = subst (λ (d : Document_data). (c.in-Err.refusal ≡ refusal.NoMemory) ⊎ HasNoDerivations DEFAULT_BOUND d c.in-Err.refusal → IfOk c.refusal_answer.result (AnswersOwn c.args.kind c.args.ring c.args.actors.items d)) c.document.view_is
-      (λ why. own_refused c.args.kind c.args.ring c.args.actors.items _ c.in-Err.refusal c.refusal_answer.result why c.refusal_answer.ensures.answer c.refusal_answer.ensures.memory) c.in-Err.ensures.err in
+    (λ why. own_refused c.args.kind c.args.ring c.args.actors.items _ c.in-Err.refusal c.refusal_answer.result why c.refusal_answer.ensures.answer c.refusal_answer.ensures.memory) c.in-Err.ensures.err in
     made_alone (AnswersOwn c.args.kind c.args.ring c.args.actors.items c.args.document.now) (λ (a : AnswerWithSession). AnswersOwn c.args.kind c.args.ring c.args.actors.items c.args.document.now a.answer) c.refusal_answer.result c.alone.result c.alone.ensures
     refused (λ a h none. h)
 

@@ -52,12 +52,12 @@ returns-in-Ok-read_document-clause-closed c =
 pub returns-in-Err-clause-answer : goal.returns-in-Err-clause-answer
 returns-in-Err-clause-answer c =
     let many : c.len.result ≡ length c.in-Ok.actors.items = omega (arith, c.len.ensures) in
-    made_alone (AnswersDemo c.args.kind c.args.ring c.args.bytes.now) (λ (a : AnswerWithSession). AnswersDemo c.args.kind c.args.ring c.args.bytes.now a.answer) c.answer_to_fault.result c.alone.result c.alone.ensures
+    made_alone (AnswersDemo c.args.kind c.args.ring c.args.bytes.now) (λ (a : AnswerWithSession). AnswersDemo c.args.kind c.args.ring c.args.bytes.now a.answer) c.answer_to_fault.result c.alone-in-Err.result c.alone-in-Err.ensures
     (of_faulty c.args.kind c.args.ring c.args.bytes.now c.in-Ok.actors.items c.in_ok-text.text c.in-Err.fault c.answer_to_fault.result
     (record { starts = c.in-Ok.ensures.ok; document = subst (λ (n : ℕ). IsDemoText c.args.kind n c.in_ok-text.text) many c.in_ok-text.ensures }) (rw c.as_slice.ensures at c.in-Err.ensures.err) (rw c.as_slice-in-Err.ensures at c.answer_to_fault.ensures.answer) c.answer_to_fault.ensures.memory)
     (λ a h none. h)
 
 pub returns-in-Err-clause-closed : goal.returns-in-Err-clause-closed
 returns-in-Err-clause-closed c =
-    made_alone (λ a. a ≡ fault_answer c.in_ok-text.text c.in-Err.fault.kind c.in-Err.fault.at) _ c.answer_to_fault.result c.alone.result c.alone.ensures (rw c.as_slice-in-Err.ensures at c.answer_to_fault.ensures.answer)
+    made_alone (λ a. a ≡ fault_answer c.in_ok-text.text c.in-Err.fault.kind c.in-Err.fault.at) _ c.answer_to_fault.result c.alone-in-Err.result c.alone-in-Err.ensures (rw c.as_slice-in-Err.ensures at c.answer_to_fault.ensures.answer)
     (λ a e none. not_there _ _ a.closed none (alone a.answer _ e (fault-is-alone c.in_ok-text.text c.in-Err.fault.kind c.in-Err.fault.at)))

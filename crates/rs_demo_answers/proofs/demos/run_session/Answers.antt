@@ -1,4 +1,3 @@
-use Rattle.std.proofs.Common.{sym, subst}
 use Rattle.rs_demo_answers.specs.Demos.{actor_at}
 use Rattle.rs_demo_answers.proofs.Performing.{given, has_come, told, was_run_by_actors}
 use Rattle.rs_demo_answers.proofs.demos.run_session.Goals as goal
@@ -13,5 +12,5 @@ returns-in_ok-outcome_answer-in-Ok-clause-closed c =
     let e = rw c.as_slice.ensures.value at c.in_ok-outcome_answer-in-Ok.ensures in (
       has_come c.args.kind c.args.names.now c.in-Ok.ran.run.outcome c.in-Ok.ran.run.actors.items c.in_ok-outcome_answer-in-Ok.field-0 e,
       was_run_by_actors c.args.kind c.args.actors.items c.args.names.now c.args.accepted.now.machines c.in-Ok.ran.run.actors.items c.in-Ok.ran.closed c.in-Ok.ran.run.outcome c.in_ok-outcome_answer-in-Ok.field-0 c.requires.actors
-      c.in-Ok.ensures.closed e,
+          c.in-Ok.ensures.closed e,
     )
