@@ -20,7 +20,7 @@ use Rattle.rs_words.specs.Meaning.{IsMeaning, SpellsTask}
 use Rattle.rs_pipeline.specs.Pipelines.{pipeline_of, pipeline_summary, pipeline_text}
 use Rattle.rs_words.proofs.Exact.{words_spell_one_task}
 use Rattle.rs_words.specs.declared.limits.TheConstants.{DEFAULT_BOUND}
-use Rattle.rs_tool.specs.Answers.{Answers, CarriesOut, AnswersText, IsTooLong, IsFaulty, IsDocument, AnswersDocument, AnswersData, DataIsTooLong, AnswersPipeline, AnswersTask, ReadsDocument, RunsDemo}
+use Rattle.rs_tool.specs.Answers.{CarriesOut, AnswersText, IsTooLong, IsFaulty, IsDocument, AnswersDocument, DataIsTooLong, AnswersPipeline, AnswersTask, ReadsDocument, RunsDemo}
 use Rattle.rs_tool.specs.Calls.{Ends, ForInput, IsStopped, Tells, TellsAll, TellsPart, TellsReadFault, TellsNoMemory}
 use Rattle.rs_documents.specs.Data.{Document_data}
 use Rattle.rs_answers.specs.Data.{Answer_data}

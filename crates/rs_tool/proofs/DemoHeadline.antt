@@ -1,15 +1,15 @@
 -- The session of a demo that was carried out is safe, and its run is never full.
-use Rattle.std.proofs.Common.{◌≡◌, ℕ, List, Option, Some, None, false, true, sym, ap, subst, ◌∙◌}
+use Rattle.std.proofs.Common.{◌≡◌, ℕ, List, Option, Some, None, sym, subst, ◌∙◌}
 use Rattle.std.specs.Prelude.{IfSome}
 use Rattle.rs_answers.specs.Data.{Answer_data}
 use Rattle.rs_answers.specs.RefusalTexts.{fault_answer}
 use Rattle.rs_answers.specs.Refusals.{refusal_answer}
-use Rattle.rs_demo_answers.specs.Demos.{AnswersDemo, HasBadNumbers, IsFaulty, IsDocument, AnswersOwn, IsRefused, IsAccepted, Performs, IsTooSmall, IsRun, TellsEnd, HasEnded, IsStopped}
+use Rattle.rs_demo_answers.specs.Demos.{AnswersDemo, HasBadNumbers, IsFaulty, IsDocument, IsRefused, IsAccepted, IsTooSmall, IsRun, TellsEnd, HasEnded, IsStopped}
 use Rattle.rs_core.specs.Plain.{Ending}
 use Rattle.rs_demos.specs.declared.actors.DemoActor.{DemoActor}
 use Rattle.rs_demos.specs.declared.kinds.Demo.{Demo}
 use Rattle.rs_model.specs.Data.{Names_data}
-use Rattle.rs_tool.specs.Answers.{Answers, AnswersData, DataIsTooLong, DataIsShort, AnswersTask, IsNotBuilt, ReadsDocument, RunsDemo, MakesPipeline}
+use Rattle.rs_tool.specs.Answers.{AnswersData, DataIsTooLong, DataIsShort, AnswersTask, IsNotBuilt, ReadsDocument, RunsDemo, MakesPipeline}
 use Rattle.rs_tool.specs.Calls.{ForInput, Tells, TellsAll, TellsPart, TellsReadFault, TellsNoMemory}
 use Rattle.rs_tool.specs.DemoHeadline.{HasSafeDemo}
 use Rattle.rs_tool.specs.RunHeadline.{IsOfRun}
@@ -18,9 +18,7 @@ use Rattle.rs_tool.specs.Tasks.{SpellsDemo}
 use Rattle.rs_rings.specs.Closed.{Closed_data}
 use Rattle.rs_tool.specs.declared.statuses.Status.{Status}
 use Rattle.rs_tool.specs.declared.statuses.Status.TheVariants as status
-use Rattle.rs_words.specs.Meaning.{SpellsTask}
 use Rattle.rs_words.specs.declared.limits.TheConstants.{DEFAULT_BOUND}
-use Rattle.rs_words.specs.declared.tasks.Task.{Task}
 use Rattle.rs_words.specs.declared.tasks.Task.TheVariants as task
 use Rattle.rs_tool.proofs.Headline.{derived-is-safe, fault-is-no-run, no-run, refusal-is-no-run, task-is-answered, told-is-run}
 

@@ -1,5 +1,5 @@
 -- A call hands out the session of its task exactly where it is due.
-use Rattle.std.proofs.Common.{◌≡◌, ◌⊎◌, inl, inr, ℕ, List, Option, Some, None, sym, ◌∙◌, subst}
+use Rattle.std.proofs.Common.{◌≡◌, inl, inr, ℕ, List, Option, Some, None, sym, ◌∙◌, subst}
 use Rattle.std.specs.Prelude.{IfSome}
 use Rattle.rs_answers.specs.Data.{Answer_data}
 use Rattle.rs_answers.specs.declared.verdicts.Verdict.{Verdict}
@@ -10,7 +10,6 @@ use Rattle.rs_words.proofs.Exact.{words_spell_one_task}
 use Rattle.rs_tool.specs.Answers.{Answers}
 use Rattle.rs_tool.specs.Calls.{ForInput, IsStopped, Tells, TellsAll, TellsPart, TellsReadFault, TellsNoMemory}
 use Rattle.rs_tool.specs.Sessions.{ForNothing, ForTask, HandsOut, HandsOutFor, HasItsSession, WasWritten}
-use Rattle.rs_tool.specs.Statuses.{status_of}
 use Rattle.rs_tool.specs.declared.statuses.Status.{Status}
 use Rattle.rs_tool.specs.declared.statuses.Status.TheVariants as status
 use Rattle.rs_tool.proofs.Answering.{no_stop}
@@ -24,7 +23,7 @@ of_words words t bytes a c spells (ForTask u s h) = subst (λ (x : Task). HandsO
 -- an answer was written ..
 where_written : (words : List (List ℕ)) (t : Task) (bytes : List ℕ) (a : Answer_data) (s : Status) (c : Option Closed_data) → Answers words bytes a → WasWritten a.verdict s → HandsOut t bytes a c → HasItsSession words t bytes s c
 where_written words t bytes a s None h w out = (a, h, λ due. out (due.0, due.1))
-where_written words t bytes a s (Some x) h w out = (a, h, (out.0.0, out.0.1, w), out.1)
+where_written words t bytes a s (Some x) h w out = (a, h, ((out.0.0, out.0.1, w), out.1))
 
 -- .. or none was
 unwritten : (v : Verdict) (s : Status) → IsStopped s → WasWritten v s → ⊥

@@ -1,6 +1,6 @@
 -- Which session is handed out beside an answer.
-use Rattle.std.proofs.Common.{◌≡◌, ◌⊎◌, inl, inr, ℕ, List, Bool, true, false, Option, Some, None, Result, Ok, Err, sym, ◌∙◌, subst}
-use Rattle.std.specs.Prelude.{IfOk, IfSome}
+use Rattle.std.proofs.Common.{◌≡◌, ℕ, List, Option, Some, None, Result, Ok, Err, sym, subst}
+use Rattle.std.specs.Prelude.{IfOk}
 use Rattle.rs_answers.specs.Data.{Answer_data}
 use Rattle.rs_answers.specs.RunSessions.{HasCome, IsThereWhere}
 use Rattle.rs_demo_answers.specs.DemoSessions.{WasPerformed}
@@ -10,7 +10,6 @@ use Rattle.rs_documents.specs.Data.{Document_data}
 use Rattle.rs_documents.specs.Documents.{SpellsDocument}
 use Rattle.rs_rings.specs.Closed.{Closed_data}
 use Rattle.rs_tool.specs.Sessions.{HandsOut, HandsOutOn, IsSessionOf, IsSessionOn, RunsASession}
-use Rattle.rs_tool.specs.Tasks.{reads_document}
 use Rattle.rs_words.specs.declared.tasks.Task.{Task}
 use Rattle.rs_words.specs.declared.tasks.Task.TheVariants as task
 
