@@ -20,7 +20,7 @@ use Rattle.rs_words.specs.Meaning.{IsMeaning, SpellsTask}
 use Rattle.rs_pipeline.specs.Pipelines.{pipeline_of, pipeline_summary, pipeline_text}
 use Rattle.rs_words.proofs.Exact.{words_spell_one_task}
 use Rattle.rs_words.specs.declared.limits.TheConstants.{DEFAULT_BOUND}
-use Rattle.rs_tool.specs.Answers.{Answers, CarriesOut, AnswersText, IsTooLong, IsFaulty, IsDocument, AnswersDocument, AnswersData, DataIsTooLong, AnswersPipeline, AnswersTask, ReadsDocument, RunsDemo}
+use Rattle.rs_tool.specs.Answers.{CarriesOut, AnswersText, IsTooLong, IsFaulty, IsDocument, AnswersDocument, DataIsTooLong, AnswersPipeline, AnswersTask, ReadsDocument, RunsDemo}
 use Rattle.rs_tool.specs.Calls.{Ends, ForInput, IsStopped, Tells, TellsAll, TellsPart, TellsReadFault, TellsNoMemory}
 use Rattle.rs_documents.specs.Data.{Document_data}
 use Rattle.rs_answers.specs.Data.{Answer_data}
@@ -29,12 +29,16 @@ use Rattle.rs_answers.specs.RefusalTexts.{too_large, fault_answer}
 use Rattle.rs_tool.specs.Statuses.{status_after, status_of}
 use Rattle.rs_tool.specs.declared.statuses.Stop.{Stop}
 use Rattle.rs_tool.specs.declared.statuses.Stop.TheVariants as stop
-use Rattle.rs_tool.specs.Tasks.{ReadTheInput, reads_document, reads_input}
-use Rattle.rs_answers.proofs.Answering.{made}
+use Rattle.rs_tool.specs.Tasks.{ReadTheInput, is_built, reads_document, reads_input}
+use Rattle.rs_answers.proofs.RunSessions.{alone}
+use Rattle.rs_answers.specs.declared.answers.AnswerWithSession.{AnswerWithSession}
+use Rattle.std.proofs.lemmas.Result.{IfOk-weaker}
+use Rattle.rs_tool.specs.Sessions.{ForTask, Gives, GivesTo}
+use Rattle.rs_tool.proofs.Sessions.{none_handed}
 
 -- the answer to a document is the answer to the text that spells it
-pub of_document : (t : Task) (bytes : List ℕ) (d : Document_data) (r : Result Answer_data NoMemory) → length bytes ≤ MOST_BYTES → SpellsDocument bytes d → IfOk r (AnswersDocument t d) → IfOk r (AnswersText t bytes)
-of_document t bytes d r short h a = made (AnswersDocument t d) (AnswersText t bytes) r a (λ m x. IsDocument short d h x)
+pub of_document : (t : Task) (bytes : List ℕ) (d : Document_data) (r : Result AnswerWithSession NoMemory) → length bytes ≤ MOST_BYTES → SpellsDocument bytes d → IfOk r (λ a. AnswersDocument t d a.answer) → IfOk r (λ a. AnswersText t bytes a.answer)
+of_document t bytes d r short h a = IfOk-weaker r _ _ (λ m x. IsDocument short d h x) a
 
 pub of_fault : (t : Task) (bytes : List ℕ) (f : TextFault) (r : Result Answer_data NoMemory) → length bytes ≤ MOST_BYTES → (f.kind ≡ kind.NoMemory) ⊎ FirstFault bytes f.kind f.at → IfOk r (λ m. m ≡ fault_answer bytes f.kind f.at)
     → OnOk r (f.kind ≡ kind.NoMemory → ⊥) → IfOk r (AnswersText t bytes)
@@ -70,17 +74,30 @@ reading (task.Run bound ring workers limit seed) reads = OfDocument reads
 reading (task.Demo kind ring workers) reads = OfData kind ring (demo_by_one kind ring workers reads)
 reading (task.Gen number) reads = absurd cc
 
+-- a task that reads no input, and isn't `gen`, isn't built
+pub unbuilt : (t : Task) → reads_input t ≡ false → ((number : ℕ) → t ≡ task.Gen number → ⊥) → is_built t ≡ false
+unbuilt (task.Check bound asked) reads other = absurd cc
+unbuilt task.Verify reads other = absurd cc
+unbuilt task.Show reads other = absurd cc
+unbuilt task.Project reads other = absurd cc
+unbuilt (task.Run bound ring workers limit seed) reads other = reads
+unbuilt (task.Demo kind ring workers) reads other = reads
+unbuilt (task.Gen number) reads other = absurd (other number refl)
+
 long_answer : (t : Task) (bytes : List ℕ) (a : Answer_data) → IsReading t → MOST_BYTES < length bytes → a ≡ too_large (codes "text") → AnswersTask t bytes a
 long_answer t bytes a (OfDocument reads) long is = ReadsDocument reads (IsTooLong long is)
 long_answer t bytes a (OfData kind ring same) long is = RunsDemo kind ring same (DataIsTooLong long is)
 
-pub of_long : (t : Task) (o : Option (List ℕ)) (a : Answer_data) → reads_input t ≡ true → IfSome o (λ bytes. MOST_BYTES < length bytes) → a ≡ too_large (codes "text") → IfSome o (λ bytes. AnswersTask t bytes a)
-of_long t (Some bytes) a reads long is = long_answer t bytes a (reading t reads) long is
-of_long t None a reads long is = tt
+pub of_long : (t : Task) (o : Option (List ℕ)) (a : AnswerWithSession) → reads_input t ≡ true → IfSome o (λ bytes. MOST_BYTES < length bytes) → a.answer ≡ too_large (codes "text") → a.closed ≡ None → IfSome o (λ bytes. Gives t bytes a)
+of_long t (Some bytes) a reads long is none = (long_answer t bytes a.answer (reading t reads) long is, none_handed t bytes a.answer a.closed none (λ due. alone a.answer _ is (λ e. e) due.1))
+of_long t None a reads long is none = tt
 
 -- the answer of the task that the words spell is the answer to the words
-of_task : (words : List (List ℕ)) (t : Task) (o : Option (List ℕ)) (a : Answer_data) → SpellsTask words t → IfSome o (λ bytes. AnswersTask t bytes a) → IfSome o (λ bytes. Answers words bytes a)
-of_task words t (Some bytes) a s h = CarriesOut t s h
+to_words : (words : List (List ℕ)) (t : Task) (bytes : List ℕ) (a : AnswerWithSession) → SpellsTask words t → Gives t bytes a → GivesTo words bytes a
+to_words words t bytes a s h = (CarriesOut t s h.0, ForTask t s h.1)
+
+of_task : (words : List (List ℕ)) (t : Task) (o : Option (List ℕ)) (a : AnswerWithSession) → SpellsTask words t → IfSome o (λ bytes. Gives t bytes a) → IfSome o (λ bytes. GivesTo words bytes a)
+of_task words t (Some bytes) a s h = to_words words t bytes a s h
 of_task words t None a s h = tt
 
 -- words that read nothing spell a task that doesn't
@@ -97,15 +114,15 @@ unread_by_task words t source behind s h none = h (doesnt_read words t s none)
 pub read_by_task : (words : List (List ℕ)) (t : Task) (P : Type 0) → SpellsTask words t → (reads_input t ≡ true → P) → ReadTheInput words → P
 read_by_task words t P s h read = h (subst (λ (x : Task). reads_input x ≡ true) (words_spell_one_task words read.0 t read.1 s) read.2)
 
-for_task : (words : List (List ℕ)) (t : Task) (o : Option (List ℕ)) (a : Answer_data) → SpellsTask words t → IfSome o (λ bytes. AnswersTask t bytes a) → (reads_input t ≡ false → (bytes : List ℕ) → AnswersTask t bytes a)
-    → ForInput words o (λ bytes. Answers words bytes a)
+for_task : (words : List (List ℕ)) (t : Task) (o : Option (List ℕ)) (a : AnswerWithSession) → SpellsTask words t → IfSome o (λ bytes. Gives t bytes a) → (reads_input t ≡ false → (bytes : List ℕ) → Gives t bytes a)
+    → ForInput words o (λ bytes. GivesTo words bytes a)
 for_task words t o a s told unasked = record {
   told = of_task words t o a s told;
-  unread = λ none bytes. CarriesOut t s (unasked (doesnt_read words t s none) bytes);
+  unread = λ none bytes. to_words words t bytes a s (unasked (doesnt_read words t s none) bytes);
 }
 
-pub for_task_made : {E : Type 0} (words : List (List ℕ)) (t : Task) (o : Option (List ℕ)) (r : Result Answer_data E) → SpellsTask words t → IfSome o (λ bytes. IfOk r (AnswersTask t bytes))
-    → (reads_input t ≡ false → IfOk r (λ a. (bytes : List ℕ) → AnswersTask t bytes a)) → IfOk r (λ a. ForInput words o (λ bytes. Answers words bytes a))
+pub for_task_made : {E : Type 0} (words : List (List ℕ)) (t : Task) (o : Option (List ℕ)) (r : Result AnswerWithSession E) → SpellsTask words t → IfSome o (λ bytes. IfOk r (Gives t bytes))
+    → (reads_input t ≡ false → IfOk r (λ a. (bytes : List ℕ) → Gives t bytes a)) → IfOk r (λ a. ForInput words o (λ bytes. GivesTo words bytes a))
 for_task_made words t o (Ok a) s told unasked = for_task words t o a s told unasked
 for_task_made words t o (Err e) s told unasked = tt
 
@@ -119,7 +136,7 @@ pub keeps_same : (o : Option (List ℕ)) → Keeps o o
 keeps_same (Some bytes) = refl
 keeps_same None = tt
 
-no_stop : (v : Verdict) → IsStopped (status_of v) → ⊥
+pub no_stop : (v : Verdict) → IsStopped (status_of v) → ⊥
 no_stop verdict.Fine (inl e) = cc
 no_stop verdict.Fine (inr e) = cc
 no_stop verdict.Refused (inl e) = cc
@@ -160,35 +177,35 @@ if_told None P Q next h = tt
 for_input : (words : List (List ℕ)) (left : Option (List ℕ)) (P Q : List ℕ → Type 0) → ((bytes : List ℕ) → P bytes → Q bytes) → ForInput words left P → ForInput words left Q
 for_input words left P Q next h = record { told = if_told left P Q next h.told; unread = λ none bytes. next bytes (h.unread none bytes) }
 
-tells_all : (words : List (List ℕ)) (left written new : Option (List ℕ)) (a : Answer_data) (s : Status) → s ≡ status_of a.verdict → ForInput words left (λ bytes. Answers words bytes a) → Appends written new a.text
-    → ForInput words left (λ bytes. Tells words bytes written new s)
-tells_all words left written new a s is h text = for_input words left _ _ (λ bytes own. TellsAll a own text is) h
+tells_all : (words : List (List ℕ)) (left written new : Option (List ℕ)) (a : AnswerWithSession) (s : Status) → s ≡ status_of a.answer.verdict → ForInput words left (λ bytes. GivesTo words bytes a) → Appends written new a.answer.text
+    → ForInput words left (λ bytes. Tells words bytes written new s a.closed)
+tells_all words left written new a s is h text = for_input words left _ _ (λ bytes own. TellsAll a.answer own.0 own.1 text is) h
 
-tells_part : (words : List (List ℕ)) (left written new : Option (List ℕ)) (a : Answer_data) → ForInput words left (λ bytes. Answers words bytes a) → AppendsPrefix written new a.text
-    → ForInput words left (λ bytes. Tells words bytes written new status.WriteFault)
-tells_part words left written new a h text = for_input words left _ _ (λ bytes own. TellsPart a own text refl) h
+tells_part : (words : List (List ℕ)) (left written new : Option (List ℕ)) (a : AnswerWithSession) → ForInput words left (λ bytes. GivesTo words bytes a) → AppendsPrefix written new a.answer.text
+    → ForInput words left (λ bytes. Tells words bytes written new status.WriteFault a.closed)
+tells_part words left written new a h text = for_input words left _ _ (λ bytes own. TellsPart a.answer own.0 own.1 text refl) h
 
 at_end : (left later : Option (List ℕ)) (s : Status) → IfSome left (λ bytes. length bytes ≤ MOST_BYTES → IsAtEnd later) → IfSome left (λ bytes. length bytes ≤ MOST_BYTES → (IsStopped s → ⊥) → IsAtEnd later)
 at_end (Some bytes) later s h = λ short went. h short
 at_end None later s h = tt
 
 -- the answer was written whole
-pub ends_whole : {S : Type 0} (words : List (List ℕ)) (left later written new : Option (List ℕ)) (read_rose write_rose : Type 0) (source behind : S) (a : Answer_data) (s : Status) → s ≡ status_of a.verdict
-    → ForInput words left (λ bytes. Answers words bytes a) → Appends written new a.text → ((ReadTheInput words → ⊥) → behind ≡ source) → (ReadTheInput words → IfSome left (λ bytes. length bytes ≤ MOST_BYTES → IsAtEnd later))
-    → Ends words left later written new read_rose write_rose source behind s
+pub ends_whole : {S : Type 0} (words : List (List ℕ)) (left later written new : Option (List ℕ)) (read_rose write_rose : Type 0) (source behind : S) (a : AnswerWithSession) (s : Status) → s ≡ status_of a.answer.verdict
+    → ForInput words left (λ bytes. GivesTo words bytes a) → Appends written new a.answer.text → ((ReadTheInput words → ⊥) → behind ≡ source) → (ReadTheInput words → IfSome left (λ bytes. length bytes ≤ MOST_BYTES → IsAtEnd later))
+    → Ends words left later written new read_rose write_rose source behind (record { status = s; closed = a.closed })
 ends_whole {S} words left later written new read_rose write_rose source behind a s is h text unread end = record {
   answer = tells_all words left written new a s is h text;
-  stopped = λ stop. absurd (no_stop a.verdict (subst IsStopped is stop));
-  read_fault = λ e. absurd (no_stop a.verdict (inl (sym is ∙ e)));
-  write_fault = λ e. absurd (no_write_fault a.verdict (sym is ∙ e));
+  stopped = λ stop. absurd (no_stop a.answer.verdict (subst IsStopped is stop));
+  read_fault = λ e. absurd (no_stop a.answer.verdict (inl (sym is ∙ e)));
+  write_fault = λ e. absurd (no_write_fault a.answer.verdict (sym is ∙ e));
   unread = unread;
   end = λ r. at_end left later s (end r);
 }
 
 -- a first part of it was written
-pub ends_early : {S : Type 0} (words : List (List ℕ)) (left later written new : Option (List ℕ)) (read_rose write_rose : Type 0) (source behind : S) (a : Answer_data)
-    → ForInput words left (λ bytes. Answers words bytes a) → AppendsPrefix written new a.text → write_rose → ((ReadTheInput words → ⊥) → behind ≡ source) → (ReadTheInput words → IfSome left (λ bytes. length bytes ≤ MOST_BYTES → IsAtEnd later))
-    → Ends words left later written new read_rose write_rose source behind status.WriteFault
+pub ends_early : {S : Type 0} (words : List (List ℕ)) (left later written new : Option (List ℕ)) (read_rose write_rose : Type 0) (source behind : S) (a : AnswerWithSession)
+    → ForInput words left (λ bytes. GivesTo words bytes a) → AppendsPrefix written new a.answer.text → write_rose → ((ReadTheInput words → ⊥) → behind ≡ source) → (ReadTheInput words → IfSome left (λ bytes. length bytes ≤ MOST_BYTES → IsAtEnd later))
+    → Ends words left later written new read_rose write_rose source behind (record { status = status.WriteFault; closed = a.closed })
 ends_early {S} words left later written new read_rose write_rose source behind a h text rose unread end = record {
   answer = tells_part words left written new a h text;
   stopped = λ stop. elim stop [ inl e ↦ cc | inr e ↦ cc ];
@@ -200,7 +217,7 @@ ends_early {S} words left later written new read_rose write_rose source behind a
 
 -- nothing was written, since no answer was made
 pub ends_stopped : {S : Type 0} (words : List (List ℕ)) (left later written : Option (List ℕ)) (read_rose write_rose : Type 0) (source behind : S) (why : Stop) (s : Status) → s ≡ status_after why → (why ≡ stop.ReadFault → read_rose)
-    → ((ReadTheInput words → ⊥) → behind ≡ source) → Ends words left later written written read_rose write_rose source behind s
+    → ((ReadTheInput words → ⊥) → behind ≡ source) → Ends words left later written written read_rose write_rose source behind (record { status = s; closed = None })
 ends_stopped {S} words left later written read_rose write_rose source behind why s is rose unread = record {
   answer = for_any words left _ (λ bytes. tells why is);
   stopped = λ _. keeps_same written;
@@ -210,9 +227,9 @@ ends_stopped {S} words left later written read_rose write_rose source behind why
   end = λ read. where_told left _ (λ bytes short went. absurd (went (is_stopped why is)));
 }
   where
-    tells : {bytes : List ℕ} (w : Stop) → s ≡ status_after w → Tells words bytes written written s
-    tells stop.ReadFault e = TellsReadFault (keeps_same written) e
-    tells stop.NoMemory e = TellsNoMemory (keeps_same written) e
+    tells : {bytes : List ℕ} (w : Stop) → s ≡ status_after w → Tells words bytes written written s None
+    tells stop.ReadFault e = TellsReadFault (keeps_same written) e refl
+    tells stop.NoMemory e = TellsNoMemory (keeps_same written) e refl
 
     was_read : (w : Stop) → status_after w ≡ status.ReadFault → w ≡ stop.ReadFault
     was_read stop.ReadFault e = refl

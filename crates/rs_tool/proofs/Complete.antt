@@ -16,6 +16,8 @@ use Rattle.rs_answers.specs.Machines.{machines_of}
 use Rattle.rs_answers.specs.Sessions.{HasMachines, first_refusal}
 use Rattle.rs_tool.specs.Statuses.{status_of}
 use Rattle.rs_tool.specs.Tasks.{SpellsCheck}
+use Rattle.rs_rings.specs.Closed.{Closed_data}
+use Rattle.rs_tool.specs.declared.statuses.Reply.{Reply}
 use Rattle.rs_tool.specs.declared.statuses.Status.{Status}
 use Rattle.rs_tool.specs.declared.statuses.Status.TheVariants as status
 use Rattle.rs_words.specs.declared.tasks.Task.TheVariants as task
@@ -62,16 +64,16 @@ is_fine words bound bytes s a check h =
     let t = answers words bound bytes s check in
     ap (λ (z : Answer_data). status_of z.verdict) (one_answer words bytes a t.0 h t.1) ∙ t.2
 
-told : (words : List (List ℕ)) (bound : ℕ) (bytes : List ℕ) (old new : Option (List ℕ)) (state : Status) (s : SpellsDerivableSession bound bytes) → SpellsCheck words bound → Tells words bytes old new state
+told : (words : List (List ℕ)) (bound : ℕ) (bytes : List ℕ) (old new : Option (List ℕ)) (state : Status) (z : Option Closed_data) (s : SpellsDerivableSession bound bytes) → SpellsCheck words bound → Tells words bytes old new state z
     → (state ≡ status.ReadFault → ⊥) → (state ≡ status.WriteFault → ⊥) → (state ≡ status.Fine) ⊎ (state ≡ status.NoMemory)
-told words bound bytes old new state s check (TellsAll a h text is) no_read no_write = inl (is ∙ is_fine words bound bytes s a check h)
-told words bound bytes old new state s check (TellsPart a h text is) no_read no_write = absurd (no_write is)
-told words bound bytes old new state s check (TellsReadFault keeps is) no_read no_write = absurd (no_read is)
-told words bound bytes old new state s check (TellsNoMemory keeps is) no_read no_write = inr is
+told words bound bytes old new state z s check (TellsAll a h session text is) no_read no_write = inl (is ∙ is_fine words bound bytes s a check h)
+told words bound bytes old new state z s check (TellsPart a h session text is) no_read no_write = absurd (no_write is)
+told words bound bytes old new state z s check (TellsReadFault keeps is none) no_read no_write = absurd (no_read is)
+told words bound bytes old new state z s check (TellsNoMemory keeps is none) no_read no_write = inr is
 
-pub complete : {S : Type 0} (words : List (List ℕ)) (left later old new : Option (List ℕ)) (read_rose write_rose : Type 0) (source behind : S) (state : Status) → Ends words left later old new read_rose write_rose source behind state
-    → IsComplete words left read_rose write_rose state
-complete words None later old new read_rose write_rose source behind state ends = λ bound check. tt
-complete words (Some bytes) later old new read_rose write_rose source behind state ends = λ bound check s no_read no_write.
+pub complete : {S : Type 0} (words : List (List ℕ)) (left later old new : Option (List ℕ)) (read_rose write_rose : Type 0) (source behind : S) (reply : Reply) → Ends words left later old new read_rose write_rose source behind reply
+    → IsComplete words left read_rose write_rose reply.status
+complete words None later old new read_rose write_rose source behind reply ends = λ bound check. tt
+complete words (Some bytes) later old new read_rose write_rose source behind reply ends = λ bound check s no_read no_write.
     let answer = ends.answer in
-    told words bound bytes old new state s check answer.told (λ is. no_read (ends.read_fault is)) (λ is. no_write (ends.write_fault is))
+    told words bound bytes old new reply.status reply.closed s check answer.told (λ is. no_read (ends.read_fault is)) (λ is. no_write (ends.write_fault is))

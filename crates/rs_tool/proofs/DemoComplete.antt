@@ -1,13 +1,11 @@
 -- A demo that can be performed is performed.
-use Rattle.std.proofs.Common.{◌≡◌, ℕ, ◌≤◌, ◌<◌, List, length, Option, Some, None, sym, subst, ◌∙◌, arith}
+use Rattle.std.proofs.Common.{◌≡◌, ℕ, ◌≤◌, List, length, Option, Some, None, sym, subst, arith}
 use Rattle.rs_answers.specs.Data.{Answer_data}
-use Rattle.rs_answers.specs.Derivations.{AreCanonical}
-use Rattle.rs_answers.specs.Machines.{machines_of}
 use Rattle.rs_answers.specs.Runs.{capacity_of}
 use Rattle.rs_answers.specs.Sessions.{HasMachines}
 use Rattle.rs_answers.proofs.OneReason.{not_refused, one_session_derived}
 use Rattle.rs_core.specs.Plain.{Ending, IsPlain}
-use Rattle.rs_demo_answers.specs.Demos.{AnswersDemo, HasBadNumbers, IsFaulty, IsDocument, AnswersOwn, IsRefused, IsAccepted, Performs, IsTooSmall, IsRun, TellsEnd, HasEnded, IsStopped, Opens, actor_at}
+use Rattle.rs_demo_answers.specs.Demos.{AnswersDemo, HasBadNumbers, IsFaulty, IsDocument, AnswersOwn, IsRefused, IsAccepted, IsTooSmall, IsRun, TellsEnd, HasEnded, IsStopped, Opens, actor_at}
 use Rattle.rs_demo_answers.specs.declared.limits.TheConstants.{DEMO_LIMIT}
 use Rattle.rs_demo_answers.proofs.OneAnswer.{one_opening}
 use Rattle.rs_demo_answers.proofs.Stopping.{never_stopped}
@@ -28,6 +26,8 @@ use Rattle.rs_tool.specs.Calls.{Ends, Tells, TellsAll, TellsPart, TellsReadFault
 use Rattle.rs_tool.specs.DemoCompleteness.{CanBePerformed, IsCompleteDemo, IsPerformed}
 use Rattle.rs_tool.specs.Statuses.{status_of}
 use Rattle.rs_tool.specs.Tasks.{SpellsDemo}
+use Rattle.rs_rings.specs.Closed.{Closed_data}
+use Rattle.rs_tool.specs.declared.statuses.Reply.{Reply}
 use Rattle.rs_tool.specs.declared.statuses.Status.{Status}
 use Rattle.rs_tool.specs.declared.statuses.Status.TheVariants as status
 use Rattle.rs_words.specs.declared.limits.TheConstants.{DEFAULT_BOUND}
@@ -75,17 +75,17 @@ data_is_performed : (kind : Demo) (ring : Option ℕ) (bytes : List ℕ) (a : An
 data_is_performed kind ring bytes a c (DataIsTooLong l x) = let short = c.short in absurd (omega (arith, l, short))
 data_is_performed kind ring bytes a c (DataIsShort s h) = demo_is_performed kind ring bytes a c h
 
-told_is_performed : (words : List (List ℕ)) (kind : Demo) (ring : Option ℕ) (bytes : List ℕ) (old new : Option (List ℕ)) (s : Status) → CanBePerformed kind ring bytes → SpellsDemo words kind ring → Tells words bytes old new s
+told_is_performed : (words : List (List ℕ)) (kind : Demo) (ring : Option ℕ) (bytes : List ℕ) (old new : Option (List ℕ)) (s : Status) (z : Option Closed_data) → CanBePerformed kind ring bytes → SpellsDemo words kind ring → Tells words bytes old new s z
     → (s ≡ status.ReadFault → ⊥) → (s ≡ status.WriteFault → ⊥) → IsPerformed s
-told_is_performed words kind ring bytes old new s c spells (TellsAll a h text is) no_read no_write =
+told_is_performed words kind ring bytes old new s z c spells (TellsAll a h session text is) no_read no_write =
     demo-is-answered kind ring bytes a (IsPerformed s) (task-is-answered words (task.Demo kind ring 1) bytes a spells h) (λ own. subst IsPerformed (sym is) (data_is_performed kind ring bytes a c own))
-told_is_performed words kind ring bytes old new s c spells (TellsPart a h text is) no_read no_write = absurd (no_write is)
-told_is_performed words kind ring bytes old new s c spells (TellsReadFault keeps is) no_read no_write = absurd (no_read is)
-told_is_performed words kind ring bytes old new s c spells (TellsNoMemory keeps is) no_read no_write = subst IsPerformed (sym is) tt
+told_is_performed words kind ring bytes old new s z c spells (TellsPart a h session text is) no_read no_write = absurd (no_write is)
+told_is_performed words kind ring bytes old new s z c spells (TellsReadFault keeps is none) no_read no_write = absurd (no_read is)
+told_is_performed words kind ring bytes old new s z c spells (TellsNoMemory keeps is none) no_read no_write = subst IsPerformed (sym is) tt
 
-pub complete_demo : {S : Type 0} (words : List (List ℕ)) (left later old new : Option (List ℕ)) (read_rose write_rose : Type 0) (source behind : S) (state : Status) → Ends words left later old new read_rose write_rose source behind state
-    → IsCompleteDemo words left read_rose write_rose state
-complete_demo words None later old new read_rose write_rose source behind state ends = λ kind ring spells. tt
-complete_demo words (Some bytes) later old new read_rose write_rose source behind state ends = λ kind ring spells c no_read no_write.
+pub complete_demo : {S : Type 0} (words : List (List ℕ)) (left later old new : Option (List ℕ)) (read_rose write_rose : Type 0) (source behind : S) (reply : Reply) → Ends words left later old new read_rose write_rose source behind reply
+    → IsCompleteDemo words left read_rose write_rose reply.status
+complete_demo words None later old new read_rose write_rose source behind reply ends = λ kind ring spells. tt
+complete_demo words (Some bytes) later old new read_rose write_rose source behind reply ends = λ kind ring spells c no_read no_write.
     let answer = ends.answer in
-    told_is_performed words kind ring bytes old new state c spells answer.told (λ is. no_read (ends.read_fault is)) (λ is. no_write (ends.write_fault is))
+    told_is_performed words kind ring bytes old new reply.status reply.closed c spells answer.told (λ is. no_read (ends.read_fault is)) (λ is. no_write (ends.write_fault is))

@@ -1,25 +1,24 @@
 -- The session of a demo that was carried out is safe, and its run is never full.
-use Rattle.std.proofs.Common.{◌≡◌, ℕ, List, Option, Some, None, false, true, sym, ap, subst, ◌∙◌}
+use Rattle.std.proofs.Common.{◌≡◌, ℕ, List, Option, Some, None, sym, subst, ◌∙◌}
 use Rattle.std.specs.Prelude.{IfSome}
 use Rattle.rs_answers.specs.Data.{Answer_data}
 use Rattle.rs_answers.specs.RefusalTexts.{fault_answer}
 use Rattle.rs_answers.specs.Refusals.{refusal_answer}
-use Rattle.rs_demo_answers.specs.Demos.{AnswersDemo, HasBadNumbers, IsFaulty, IsDocument, AnswersOwn, IsRefused, IsAccepted, Performs, IsTooSmall, IsRun, TellsEnd, HasEnded, IsStopped}
+use Rattle.rs_demo_answers.specs.Demos.{AnswersDemo, HasBadNumbers, IsFaulty, IsDocument, IsRefused, IsAccepted, IsTooSmall, IsRun, TellsEnd, HasEnded, IsStopped}
 use Rattle.rs_core.specs.Plain.{Ending}
 use Rattle.rs_demos.specs.declared.actors.DemoActor.{DemoActor}
 use Rattle.rs_demos.specs.declared.kinds.Demo.{Demo}
 use Rattle.rs_model.specs.Data.{Names_data}
-use Rattle.rs_tool.specs.Answers.{Answers, AnswersData, DataIsTooLong, DataIsShort, AnswersTask, IsNotBuilt, ReadsDocument, RunsDemo, MakesPipeline}
+use Rattle.rs_tool.specs.Answers.{AnswersData, DataIsTooLong, DataIsShort, AnswersTask, IsNotBuilt, ReadsDocument, RunsDemo, MakesPipeline}
 use Rattle.rs_tool.specs.Calls.{ForInput, Tells, TellsAll, TellsPart, TellsReadFault, TellsNoMemory}
 use Rattle.rs_tool.specs.DemoHeadline.{HasSafeDemo}
 use Rattle.rs_tool.specs.RunHeadline.{IsOfRun}
 use Rattle.rs_tool.specs.Statuses.{status_of}
 use Rattle.rs_tool.specs.Tasks.{SpellsDemo}
+use Rattle.rs_rings.specs.Closed.{Closed_data}
 use Rattle.rs_tool.specs.declared.statuses.Status.{Status}
 use Rattle.rs_tool.specs.declared.statuses.Status.TheVariants as status
-use Rattle.rs_words.specs.Meaning.{SpellsTask}
 use Rattle.rs_words.specs.declared.limits.TheConstants.{DEFAULT_BOUND}
-use Rattle.rs_words.specs.declared.tasks.Task.{Task}
 use Rattle.rs_words.specs.declared.tasks.Task.TheVariants as task
 use Rattle.rs_tool.proofs.Headline.{derived-is-safe, fault-is-no-run, no-run, refusal-is-no-run, task-is-answered, told-is-run}
 
@@ -45,10 +44,10 @@ data-is-safe : (kind : Demo) (ring : Option ℕ) (bytes : List ℕ) (a : Answer_
 data-is-safe kind ring bytes a (DataIsTooLong l x) run = absurd (no-run a _ x (λ e. e) run)
 data-is-safe kind ring bytes a (DataIsShort s h) run = demo-is-safe kind ring bytes a h run
 
-pub demos-are-safe : (words : List (List ℕ)) (o old new : Option (List ℕ)) (s : Status) (kind : Demo) (ring : Option ℕ) → SpellsDemo words kind ring → ForInput words o (λ bytes. Tells words bytes old new s) → IfSome o (λ bytes. IsOfRun s → HasSafeDemo kind bytes)
-demos-are-safe words None old new s kind ring spells told = tt
-demos-are-safe words (Some bytes) old new s kind ring spells told = λ run.
-    let is = told-is-run words (task.Demo kind ring 1) bytes old new s spells told.told run in
+pub demos-are-safe : (words : List (List ℕ)) (o old new : Option (List ℕ)) (s : Status) (z : Option Closed_data) (kind : Demo) (ring : Option ℕ) → SpellsDemo words kind ring → ForInput words o (λ bytes. Tells words bytes old new s z) → IfSome o (λ bytes. IsOfRun s → HasSafeDemo kind bytes)
+demos-are-safe words None old new s z kind ring spells told = tt
+demos-are-safe words (Some bytes) old new s z kind ring spells told = λ run.
+    let is = told-is-run words (task.Demo kind ring 1) bytes old new s z spells told.told run in
     demo-is-answered kind ring bytes is.0 (HasSafeDemo kind bytes) is.1 (λ h. data-is-safe kind ring bytes is.0 h is.2)
 
 -- ---- no demo is full
@@ -78,13 +77,13 @@ data-is-not-full : (kind : Demo) (ring : Option ℕ) (bytes : List ℕ) (a : Ans
 data-is-not-full kind ring bytes a (DataIsTooLong l x) = not-full a _ x (λ full. cc)
 data-is-not-full kind ring bytes a (DataIsShort s h) = demo-is-not-full kind ring bytes a h
 
-told-is-not-full : (words : List (List ℕ)) (kind : Demo) (ring : Option ℕ) (bytes : List ℕ) (old new : Option (List ℕ)) (s : Status) → SpellsDemo words kind ring → Tells words bytes old new s → s ≡ status.Full → ⊥
-told-is-not-full words kind ring bytes old new s spells (TellsAll a h text is) full =
+told-is-not-full : (words : List (List ℕ)) (kind : Demo) (ring : Option ℕ) (bytes : List ℕ) (old new : Option (List ℕ)) (s : Status) (z : Option Closed_data) → SpellsDemo words kind ring → Tells words bytes old new s z → s ≡ status.Full → ⊥
+told-is-not-full words kind ring bytes old new s z spells (TellsAll a h session text is) full =
     demo-is-answered kind ring bytes a ⊥ (task-is-answered words (task.Demo kind ring 1) bytes a spells h) (λ own. data-is-not-full kind ring bytes a own (sym is ∙ full))
-told-is-not-full words kind ring bytes old new s spells (TellsPart a h text is) full = let no = sym is ∙ full in cc
-told-is-not-full words kind ring bytes old new s spells (TellsReadFault keeps is) full = let no = sym is ∙ full in cc
-told-is-not-full words kind ring bytes old new s spells (TellsNoMemory keeps is) full = let no = sym is ∙ full in cc
+told-is-not-full words kind ring bytes old new s z spells (TellsPart a h session text is) full = let no = sym is ∙ full in cc
+told-is-not-full words kind ring bytes old new s z spells (TellsReadFault keeps is none) full = let no = sym is ∙ full in cc
+told-is-not-full words kind ring bytes old new s z spells (TellsNoMemory keeps is none) full = let no = sym is ∙ full in cc
 
-pub demos-are-never-full : (words : List (List ℕ)) (o old new : Option (List ℕ)) (s : Status) (kind : Demo) (ring : Option ℕ) → SpellsDemo words kind ring → ForInput words o (λ bytes. Tells words bytes old new s) → IfSome o (λ bytes. s ≡ status.Full → ⊥)
-demos-are-never-full words None old new s kind ring spells told = tt
-demos-are-never-full words (Some bytes) old new s kind ring spells told = told-is-not-full words kind ring bytes old new s spells told.told
+pub demos-are-never-full : (words : List (List ℕ)) (o old new : Option (List ℕ)) (s : Status) (z : Option Closed_data) (kind : Demo) (ring : Option ℕ) → SpellsDemo words kind ring → ForInput words o (λ bytes. Tells words bytes old new s z) → IfSome o (λ bytes. s ≡ status.Full → ⊥)
+demos-are-never-full words None old new s z kind ring spells told = tt
+demos-are-never-full words (Some bytes) old new s z kind ring spells told = told-is-not-full words kind ring bytes old new s z spells told.told

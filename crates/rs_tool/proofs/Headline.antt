@@ -18,6 +18,7 @@ use Rattle.rs_text.specs.declared.faults.TextKind.TheVariants as kind
 use Rattle.rs_wellformed.specs.declared.checks.WfFault.{WfFault}
 use Rattle.rs_wellformed.specs.declared.checks.WfFault.TheVariants as wf
 use Rattle.rs_tool.specs.Statuses.{status_of}
+use Rattle.rs_rings.specs.Closed.{Closed_data}
 use Rattle.rs_tool.specs.declared.statuses.Status.{Status}
 use Rattle.rs_tool.specs.declared.statuses.Status.TheVariants as status
 use Rattle.rs_pipeline.specs.Pipelines.{pipeline_text, pipeline_of}
@@ -185,37 +186,37 @@ pub task-is-answered : (words : List (List ℕ)) (t : Task) (bytes : List ℕ) (
 task-is-answered words t bytes a s (SpellsNothing none is) = absurd (none t s)
 task-is-answered words t bytes a s (CarriesOut u r h) = subst (λ (x : Task). AnswersTask x bytes a) (words_spell_one_task words u t r s) h
 
-pub told-is-run : (words : List (List ℕ)) (t : Task) (bytes : List ℕ) (old new : Option (List ℕ)) (s : Status) → SpellsTask words t → Tells words bytes old new s → IsOfRun s → (a : Answer_data) × AnswersTask t bytes a × IsOfRun (status_of a.verdict)
-told-is-run words t bytes old new s spells (TellsAll a h text is) run = (a, task-is-answered words t bytes a spells h, subst IsOfRun is run)
-told-is-run words t bytes old new s spells (TellsPart a h text is) run = absurd (subst IsOfRun is run)
-told-is-run words t bytes old new s spells (TellsReadFault keeps is) run = absurd (subst IsOfRun is run)
-told-is-run words t bytes old new s spells (TellsNoMemory keeps is) run = absurd (subst IsOfRun is run)
+pub told-is-run : (words : List (List ℕ)) (t : Task) (bytes : List ℕ) (old new : Option (List ℕ)) (s : Status) (z : Option Closed_data) → SpellsTask words t → Tells words bytes old new s z → IsOfRun s → (a : Answer_data) × AnswersTask t bytes a × IsOfRun (status_of a.verdict)
+told-is-run words t bytes old new s z spells (TellsAll a h session text is) run = (a, task-is-answered words t bytes a spells h, subst IsOfRun is run)
+told-is-run words t bytes old new s z spells (TellsPart a h session text is) run = absurd (subst IsOfRun is run)
+told-is-run words t bytes old new s z spells (TellsReadFault keeps is none) run = absurd (subst IsOfRun is run)
+told-is-run words t bytes old new s z spells (TellsNoMemory keeps is none) run = absurd (subst IsOfRun is run)
 
 fine-is-run : (s : Status) → s ≡ status.Fine → IsOfRun s
 fine-is-run s e = subst IsOfRun (sym e) tt
 
-pub fine-is-safe : (words : List (List ℕ)) (o old new : Option (List ℕ)) (s : Status) (bound : ℕ) → SpellsCheck words bound → ForInput words o (λ bytes. Tells words bytes old new s) → IfSome o (λ bytes. s ≡ status.Fine → SpellsSafeMachines bytes)
-fine-is-safe words None old new s bound check told = tt
-fine-is-safe words (Some bytes) old new s bound check told = λ fine.
-    let is = told-is-run words (task.Check bound check.0) bytes old new s check.1 told.told (fine-is-run s fine) in
+pub fine-is-safe : (words : List (List ℕ)) (o old new : Option (List ℕ)) (s : Status) (z : Option Closed_data) (bound : ℕ) → SpellsCheck words bound → ForInput words o (λ bytes. Tells words bytes old new s z) → IfSome o (λ bytes. s ≡ status.Fine → SpellsSafeMachines bytes)
+fine-is-safe words None old new s z bound check told = tt
+fine-is-safe words (Some bytes) old new s z bound check told = λ fine.
+    let is = told-is-run words (task.Check bound check.0) bytes old new s z check.1 told.told (fine-is-run s fine) in
     checks-safely bound check.0 bytes is.0 is.1 is.2
 
-pub verified-is-safe : (words : List (List ℕ)) (o old new : Option (List ℕ)) (s : Status) → SpellsTask words task.Verify → ForInput words o (λ bytes. Tells words bytes old new s) → IfSome o (λ bytes. s ≡ status.Fine → SpellsSafeMachines bytes)
-verified-is-safe words None old new s spells told = tt
-verified-is-safe words (Some bytes) old new s spells told = λ fine.
-    let is = told-is-run words task.Verify bytes old new s spells told.told (fine-is-run s fine) in
+pub verified-is-safe : (words : List (List ℕ)) (o old new : Option (List ℕ)) (s : Status) (z : Option Closed_data) → SpellsTask words task.Verify → ForInput words o (λ bytes. Tells words bytes old new s z) → IfSome o (λ bytes. s ≡ status.Fine → SpellsSafeMachines bytes)
+verified-is-safe words None old new s z spells told = tt
+verified-is-safe words (Some bytes) old new s z spells told = λ fine.
+    let is = told-is-run words task.Verify bytes old new s z spells told.told (fine-is-run s fine) in
     verifies-safely bytes is.0 is.1 is.2
 
-pub runs-are-safe : (words : List (List ℕ)) (o old new : Option (List ℕ)) (s : Status) (options : RunOptions) → SpellsRun words options → ForInput words o (λ bytes. Tells words bytes old new s) → IfSome o (λ bytes. IsOfRun s → SpellsSafeMachines bytes)
-runs-are-safe words None old new s options spells told = tt
-runs-are-safe words (Some bytes) old new s options spells told = λ run.
-    let is = told-is-run words (task.Run options.bound options.ring 1 options.limit options.seed) bytes old new s spells told.told run in
+pub runs-are-safe : (words : List (List ℕ)) (o old new : Option (List ℕ)) (s : Status) (z : Option Closed_data) (options : RunOptions) → SpellsRun words options → ForInput words o (λ bytes. Tells words bytes old new s z) → IfSome o (λ bytes. IsOfRun s → SpellsSafeMachines bytes)
+runs-are-safe words None old new s z options spells told = tt
+runs-are-safe words (Some bytes) old new s z options spells told = λ run.
+    let is = told-is-run words (task.Run options.bound options.ring 1 options.limit options.seed) bytes old new s z spells told.told run in
     runs-safely options bytes is.0 is.1 is.2
 
-pub pipeline-is-safe : (words : List (List ℕ)) (o old new : Option (List ℕ)) (s : Status) (number : ℕ) → SpellsTask words (task.Gen number) → ForInput words o (λ bytes. Tells words bytes old new s) → s ≡ status.Fine → SpellsSafeMachines (pipeline_text (pipeline_of number))
-pipeline-is-safe words o old new s number spells told fine =
+pub pipeline-is-safe : (words : List (List ℕ)) (o old new : Option (List ℕ)) (s : Status) (z : Option Closed_data) (number : ℕ) → SpellsTask words (task.Gen number) → ForInput words o (λ bytes. Tells words bytes old new s z) → s ≡ status.Fine → SpellsSafeMachines (pipeline_text (pipeline_of number))
+pipeline-is-safe words o old new s z number spells told fine =
     let none : ReadTheInput words → ⊥ = λ read. no-gen (words_spell_one_task words read.0 (task.Gen number) read.1 spells) read.2 in
-    let is = told-is-run words (task.Gen number) [] old new s spells (told.unread none []) (fine-is-run s fine) in
+    let is = told-is-run words (task.Gen number) [] old new s z spells (told.unread none []) (fine-is-run s fine) in
     pipes-safely number [] is.0 is.1 is.2
   where
     no-gen : {t : Task} → t ≡ task.Gen number → reads_input t ≡ true → ⊥

@@ -1,5 +1,7 @@
 pub mod Answering
 pub mod Headline
+pub mod Sessions
+pub mod ItsSession
 pub mod Unique
 pub mod EnoughRoom
 pub mod Complete

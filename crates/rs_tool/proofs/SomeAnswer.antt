@@ -31,7 +31,7 @@ use Rattle.rs_documents.specs.Data.{Document_data}
 use Rattle.rs_answers.specs.Data.{Answer_data}
 use Rattle.rs_documents.specs.Documents.{SpellsDocument}
 use Rattle.rs_answers.specs.RefusalTexts.{usage, not_built, too_large, fault_answer, wf_answer, proj_answer}
-use Rattle.rs_answers.specs.Refusals.{IsIllFormed, HasNoProjection, IsWithoutSession, HasNoDerivation, refusal_answer}
+use Rattle.rs_answers.specs.Refusals.{IsWithoutSession, HasNoDerivation, refusal_answer}
 use Rattle.rs_answers.specs.Report.{report}
 use Rattle.rs_answers.specs.Runs as runs
 use Rattle.rs_answers.specs.Runs.{Runs}

@@ -22,7 +22,7 @@ use Rattle.rs_documents.specs.Data.{Document_data}
 use Rattle.rs_answers.specs.Data.{Answer_data}
 use Rattle.rs_documents.specs.Documents.{SpellsDocument}
 use Rattle.rs_answers.specs.RefusalTexts.{blame_answer, fault_answer, wf_answer, proj_answer}
-use Rattle.rs_answers.specs.Refusals.{IsIllFormed, HasNoProjection, refusal_answer}
+use Rattle.rs_answers.specs.Refusals.{refusal_answer}
 use Rattle.rs_answers.specs.Runs as runs
 use Rattle.rs_answers.specs.Runs.{Runs, TellsRun}
 use Rattle.rs_answers.specs.declared.runs.RunOptions.{RunOptions}

@@ -5,5 +5,6 @@ pub mod DemoCompleteness
 pub mod DemoHeadline
 pub mod Headline
 pub mod RunHeadline
+pub mod Sessions
 pub mod Statuses
 pub mod Tasks

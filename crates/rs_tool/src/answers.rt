@@ -4,13 +4,14 @@ ghost use Rattle.std.specs.Prelude.{◌≡◌, length, true, IfOk};
 ghost use Rattle.rs_documents.specs.Canonical.{CanBeShown};
 ghost use Rattle.rs_documents.specs.Reading.{IsReady};
 ghost use Rattle.rs_tool.specs.Answers.{AnswersDocument, AnswersText};
+ghost use Rattle.rs_tool.specs.Sessions.{HandsOut, HandsOutOn};
 ghost use Rattle.rs_tool.specs.Tasks.{reads_document};
 ghost use Rattle.rs_words.specs.Meaning.{IsInRange};
 
 use rs_answers::Piece::Words;
 use rs_answers::{
-    Answer, RunOptions, answer_to_fault, check, check_with_derivations, project_all, run, show,
-    too_large, verify,
+    AnswerWithSession, RunOptions, answer_to_fault, check, check_with_derivations, project_all,
+    run, show, too_large, verify,
 };
 use rs_documents::{Document, read_document};
 use rs_model::{MOST_BYTES, NoMemory};
@@ -18,53 +19,64 @@ use rs_words::Task;
 use std::alloc::Global;
 
 /// The answer of the task, which reads a document, to it.
-fn answer_to_document(alloc: Global, task: Task, document: Document) -> Result<Answer, NoMemory>
+fn answer_to_document(
+    alloc: Global,
+    task: Task,
+    document: Document,
+) -> Result<AnswerWithSession, NoMemory>
     requires range { IsInRange task }
     requires reads { reads_document task ≡ true }
     requires ready { IsReady document }
     requires roles { length document.names.roles ≡ document.protocol.roles }
     requires shown { CanBeShown document }
-    ensures { IfOk result (AnswersDocument task document) }
+    ensures answer { IfOk result (λ a. AnswersDocument task document a.answer) }
+    ensures closed { IfOk result (λ a. HandsOutOn task document a.answer a.closed) }
 {
     match task {
         Task::Check {
             bound,
             derivations: true,
-        } => check_with_derivations(alloc, document, bound),
-        Task::Check { bound, .. } => check(alloc, &document, bound),
-        Task::Verify => verify(alloc, document),
-        Task::Show => show(alloc, &document),
-        Task::Project => project_all(alloc, &document),
+        } => AnswerWithSession::alone(check_with_derivations(alloc, document, bound)),
+        Task::Check { bound, .. } => AnswerWithSession::alone(check(alloc, &document, bound)),
+        Task::Verify => AnswerWithSession::alone(verify(alloc, document)),
+        Task::Show => AnswerWithSession::alone(show(alloc, &document)),
+        Task::Project => AnswerWithSession::alone(project_all(alloc, &document)),
         Task::Run {
             bound,
             ring,
             limit,
             seed,
             ..
-        } => {
-            let options = RunOptions {
+        } => run(
+            alloc,
+            &document,
+            RunOptions {
                 bound,
                 ring,
                 limit,
                 seed,
-            };
-            Ok(run(alloc, &document, options)?.answer)
-        }
+            },
+        ),
         _ => unreachable!(),
     }
 }
 
 /// The answer of the task, which reads a document, to a text.
-pub fn answer_to_text(alloc: Global, task: Task, bytes: &[u8]) -> Result<Answer, NoMemory>
+pub fn answer_to_text(
+    alloc: Global,
+    task: Task,
+    bytes: &[u8],
+) -> Result<AnswerWithSession, NoMemory>
     requires range { IsInRange task }
     requires reads { reads_document task ≡ true }
-    ensures { IfOk result (AnswersText task bytes.now) }
+    ensures answer { IfOk result (λ a. AnswersText task bytes.now a.answer) }
+    ensures closed { IfOk result (λ a. HandsOut task bytes.now a.answer a.closed) }
 {
     if bytes.len() > MOST_BYTES {
-        return too_large(alloc, &[Words(b"text")]);
+        return AnswerWithSession::alone(too_large(alloc, &[Words(b"text")]));
     }
     match read_document(alloc, bytes) {
         Ok(document) => answer_to_document(alloc, task, document),
-        Err(fault) => answer_to_fault(alloc, bytes, fault),
+        Err(fault) => AnswerWithSession::alone(answer_to_fault(alloc, bytes, fault)),
     }
 }

@@ -20,7 +20,7 @@ pub fn answer_to_gen(alloc: Global, number: u32) -> Result<Answer, NoMemory>
         bound: DEFAULT_BOUND,
         derivations: false,
     };
-    let checked = answer_to_text(alloc, check, document.as_slice())?;
+    let checked = answer_to_text(alloc, check, document.as_slice())?.answer;
     let mut text = pipeline_summary(alloc, pipeline)?;
     text.push(checked.text.as_slice())?;
     Ok(Answer {

@@ -5,6 +5,7 @@ ghost use Rattle.rs_tool.specs.Statuses.{code_of};
 
 use rs_answers::Verdict;
 use rs_model::NoMemory;
+use rs_rings::Closed;
 
 /// How a call ended.
 #[derive(Clone, Copy, Debug, PartialEq, Eq)]
@@ -114,14 +115,16 @@ impl From<Stop> for Status {
     }
 }
 
-/// What a call answers beside its text.
-#[derive(Clone, Copy, Debug, PartialEq, Eq)]
+/// What a call answers beside its text: its status, and the session of a `run` or a `demo`, closed or given up, where it came to
+/// its end or to a stop.
+#[derive(Drop)]
 pub struct Reply {
     pub status: Status,
+    pub closed: Option<Closed>,
 }
 
 /// What a call without workers answers.
-#[derive(Clone, Copy, Debug, PartialEq, Eq)]
+#[derive(Drop)]
 pub enum Serial {
     Answered(Reply),
     /// The words ask for several workers; nothing was read or written.

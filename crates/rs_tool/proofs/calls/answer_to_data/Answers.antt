@@ -1,11 +1,12 @@
 use Rattle.std.proofs.Common.{◌≤◌, length, arith}
 use Rattle.std.proofs.lemmas.Bool.Decides.{nat_tests}
+use Rattle.std.proofs.lemmas.Result.{IfOk-weaker}
 use Rattle.rs_model.specs.declared.limits.TheConstants.{MOST_BYTES}
 use Rattle.rs_tool.specs.Answers.{DataIsShort}
 use Rattle.rs_tool.proofs.calls.answer_to_data.Goals as goal
 
-pub returns : goal.returns
-returns c =
+pub returns-clause-answer : goal.returns-clause-answer
+returns-clause-answer c =
     let told = c.if-bytes-gt-MOST_BYTES.false in
     let short : length c.args.bytes.now ≤ MOST_BYTES = grind (arith, nat_tests) in
-    DataIsShort short c.in_ok-demo.ensures.answer
+    IfOk-weaker c.demo.result _ _ (λ a h. DataIsShort short h) c.demo.ensures.answer
