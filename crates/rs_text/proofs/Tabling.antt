@@ -4,6 +4,7 @@ use Rattle.std.proofs.lemmas.List.{get_or-set_same, get_or-set_other, length-set
 use Rattle.std.proofs.lemmas.Bool.Decides.{eqb_tells}
 use Rattle.std.proofs.lemmas.Option.{none-some, same_Some}
 use Rattle.rs_text.specs.Names.{place_of}
+use Rattle.rs_text.specs.declared.tables.TheConstants.{BUCKETS}
 use Rattle.rs_text.specs.Tables.{AreFiled, IsChained, First, Later, bucket_of}
 use Rattle.rs_text.proofs.Naming.{place_law, absent_law}
 
@@ -48,19 +49,19 @@ zero-at zero (suc n) = refl
 zero-at (suc k) zero = refl
 zero-at (suc k) (suc n) = zero-at k n
 
-pub none-filed : (names : List (List ℕ)) (heads links : List ℕ) → names ≡ [] → heads ≡ replicate 256 0 → links ≡ [] → AreFiled names heads links
+pub none-filed : (names : List (List ℕ)) (heads links : List ℕ) → names ≡ [] → heads ≡ replicate BUCKETS 0 → links ≡ [] → AreFiled names heads links
 none-filed names heads links en eh el = rw (en, eh, el) record {
-  buckets = length-replicate {A = ℕ} 256 0;
+  buckets = length-replicate {A = ℕ} BUCKETS 0;
   size = refl;
-  within = λ b. (let z = zero-at 256 b in omega arith);
+  within = λ b. (let z = zero-at BUCKETS b in omega arith);
   falls = λ m next e. absurd (none-some next e);
   filed = λ n f e. absurd (none-some f e);
 }
 
-pub filed-on : (names names' : List (List ℕ)) (heads links heads' links' : List ℕ) (name : List ℕ) (b head n : ℕ) → b ≡ bucket_of name → b < 256 → n ≡ length names + 1 → head ≡ get_or heads b 0
+pub filed-on : (names names' : List (List ℕ)) (heads links heads' links' : List ℕ) (name : List ℕ) (b head n : ℕ) → b ≡ bucket_of name → b < BUCKETS → n ≡ length names + 1 → head ≡ get_or heads b 0
     → names' ≡ names ++ (name ∷ []) → links' ≡ links ++ (head ∷ []) → heads' ≡ set heads b n → AreFiled names heads links → AreFiled names' heads' links'
 filed-on names names' heads links heads' links' name b head n eb lt en eh ef el es a =
-    let l = length-append names (name ∷ []) in let s = a.size in let c256 = a.buckets in
+    let l = length-append names (name ∷ []) in let s = a.size in let all = a.buckets in
     let within : b < length heads = omega arith in
     let top : n ≡ suc (length names) = omega arith in
     let here : get_or (set heads b n) b 0 ≡ suc (length names) = get_or-set_same heads b n 0 within ∙ top in

@@ -1,6 +1,7 @@
 //! What a reader sees in a token: its text, and what that names.
 
 ghost use Rattle.std.specs.Prelude.{◌≡◌, ◌≤◌, length, Some, None, IfSome, IfNone};
+ghost use Rattle.rs_model.specs.declared.limits.TheConstants.{MOST_LABELS, MOST_ROLES};
 ghost use Rattle.rs_text.specs.Lexemes.{sign_of, text_of};
 ghost use Rattle.rs_text.specs.Names.{place_of, is_among};
 ghost use Rattle.rs_text.specs.Seen.{plain_text, word_text, sort_named};
@@ -77,7 +78,7 @@ pub fn sort(word: &[u8]) -> Option<Sort>
 /// The role with this name.
 #[tactic(auto, using(crate::proofs::Numbers::place_below))]
 pub fn role(roles: &[Name], word: &[u8]) -> Option<Role>
-    requires { length roles.now ≤ 16 }
+    requires { length roles.now ≤ MOST_ROLES }
     ensures some { IfSome result (λ role. place_of word.now roles.now ≡ Some role.0) }
     ensures none { IfNone result (place_of word.now roles.now ≡ None) }
 {
@@ -88,7 +89,7 @@ pub fn role(roles: &[Name], word: &[u8]) -> Option<Role>
 /// The label with this name.
 #[tactic(auto, using(crate::proofs::Numbers::place_below))]
 pub fn label(labels: &[Name], word: &[u8]) -> Option<Label>
-    requires { length labels.now ≤ 256 }
+    requires { length labels.now ≤ MOST_LABELS }
     ensures some { IfSome result (λ label. place_of word.now labels.now ≡ Some label.0) }
     ensures none { IfNone result (place_of word.now labels.now ≡ None) }
 {

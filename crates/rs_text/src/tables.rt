@@ -1,12 +1,14 @@
 ghost use Rattle.std.specs.Prelude.{◌≡◌, ◌⊎◌, ◌<◌, ◌≤◌, ◌++◌, ◌∷◌, [], ℕ, true, false, length, slice_get, Some, IfOk, OnOk, OnErr, MatchOption};
 ghost use Rattle.rs_text.specs.Names.{place_of};
 ghost use Rattle.rs_text.specs.Tables.{AreFiled, AreFiledIn, IsChained, bucket_of, bucket_on};
+ghost use Rattle.rs_text.specs.declared.tables.TheConstants.{BUCKETS};
 
 use crate::names::find;
 use rs_model::{Name, NoMemory};
 use std::alloc::Global;
 use std::marker::Model;
 
+// The buckets of the index; no limit of what is filed.
 const BUCKETS: usize = 256;
 
 // Fewer names are found as fast without an index.
@@ -138,7 +140,7 @@ fn index_of(alloc: Global, names: &[Name]) -> Result<Index, NoMemory>
 
 fn bucket_of(name: &[u8]) -> usize
     ensures is { result ≡ bucket_of name.now }
-    ensures within { result < 256 }
+    ensures within { result < BUCKETS }
 {
     let (_, end) = name.split_at(name.len().saturating_sub(8));
     bucket_on(end)
@@ -146,7 +148,7 @@ fn bucket_of(name: &[u8]) -> usize
 
 fn bucket_on(bytes: &[u8]) -> usize
     ensures is { result ≡ bucket_on 0 bytes.now }
-    ensures within { result < 256 }
+    ensures within { result < BUCKETS }
 {
     let mut bucket = 0;
     for byte in bytes {
