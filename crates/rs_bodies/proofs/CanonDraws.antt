@@ -18,8 +18,10 @@ use Rattle.rs_bodies.specs.Places.{name_of_place}
 use Rattle.rs_bodies.specs.Points.{head_of}
 use Rattle.rs_bodies.specs.Trees.{Body, ends, again, binds, acts, offers, Branches, one, more}
 use Rattle.rs_bodies.proofs.BackFlags.{goes_back, back_is, is_back}
-use Rattle.rs_bodies.proofs.CanonForms.{Writing, role_as, label_as, turn_as, sort_as, wrapped, canon, canon_arms, Low, low_rec, low_up, Ins, ins_rec, HasRole, HasLabel, HasTurn, HasNames, HasNamesArms, role_stands, label_stands}
+use Rattle.rs_bodies.proofs.CanonForms.{Writing, role_as, label_as, turn_as, sort_as, canon, canon_arms, HasRole, HasLabel, HasTurn, HasNames, HasNamesArms, role_stands, label_stands}
 use Rattle.rs_bodies.proofs.Fitting.{Named, NamedArms}
+use Rattle.rs_bodies.proofs.NamesLead.{Low, low_rec, low_up, Ins, ins_rec}
+use Rattle.rs_bodies.proofs.Wrapped.{wrapped}
 use Rattle.rs_bodies.proofs.PlacesIn.{point_at, places_in, places_in_arms, places_length, one_longer, at_seam}
 
 -- ---- one place

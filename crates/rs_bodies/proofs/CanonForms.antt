@@ -1,12 +1,10 @@
 -- The canonical form of a body, and where names lead.
-use Rattle.std.proofs.Common.{◌≡◌, ℕ, suc, ◌+◌, ◌<◌, List, [], ◌∷◌, length, Bool, true, false, if◌then◌else◌, Option, Some, None, arith, slice_get, ap, sym, ◌∙◌}
+use Rattle.std.proofs.Common.{◌≡◌, ℕ, suc, ◌+◌, ◌<◌, List, [], ◌∷◌, length, Option, Some, None, slice_get, ap, sym, ◌∙◌}
 use Rattle.std.proofs.lemmas.Option.{slice_get-get_or}
-use Rattle.std.specs.Str.{bytes_eq}
 use Rattle.rs_model.specs.Data.{Names_data}
 use Rattle.rs_model.specs.declared.values.Sort.{Sort}
 use Rattle.rs_text.specs.Arms.{sort_or_unit, shown_sort}
 use Rattle.rs_text.specs.Names.{Bound, bound_to, number_or}
-use Rattle.rs_text.proofs.Basics.{some_is}
 use Rattle.rs_bodies.specs.declared.dialects.Dialect.{Dialect}
 use Rattle.rs_bodies.specs.declared.places.Place.{Place}
 use Rattle.rs_bodies.specs.Dialects.{Turn, sends_to, with_mark}
@@ -14,6 +12,7 @@ use Rattle.rs_bodies.specs.Graph.{acts_in, Numbering, role_of, label_of}
 use Rattle.rs_bodies.specs.Places.{name_of_place}
 use Rattle.rs_bodies.specs.Trees.{Body, ends, again, binds, acts, offers, Branches, one, more}
 use Rattle.rs_bodies.proofs.BackFlags.{goes_back}
+use Rattle.rs_bodies.proofs.Wrapped.{wrapped, offered}
 
 -- ---- the canonical form
 
@@ -40,16 +39,6 @@ turn_as w (with_mark m) = with_mark m
 abbrev pub sort_as : Option Sort → Option Sort
 sort_as sort = shown_sort (sort_or_unit sort)
 
--- rec Xk where an arm goes back to k
-abbrev pub wrapped : {dia : Dialect} → Bool → ℕ → Body dia → Body dia
-wrapped true k b = binds (name_of_place k) b
-wrapped false k b = b
-
--- one arm right behind the head, more in braces
-abbrev pub offered : {dia : Dialect} → (s : List ℕ) → Turn dia → Branches dia → Body dia
-offered s r (one l sort b) = acts s r l sort b
-offered s r (more l sort b arms) = offers s r (more l sort b arms)
-
 -- the canonical form of a body
 abbrev mutual
   pub canon : {dia : Dialect} → Writing → Body dia → Bound → ℕ → Body dia
@@ -62,33 +51,6 @@ abbrev mutual
   pub canon_arms : {dia : Dialect} → Writing → Branches dia → Bound → ℕ → Branches dia
   canon_arms w (one l sort b) bound count = one (label_as w l) (sort_as sort) (canon w b bound count)
   canon_arms {dia} w (more l sort b arms) bound count = more (label_as w l) (sort_as sort) (canon w b bound count) (canon_arms w arms bound (count + acts_in dia b))
-
--- ---- where names lead
-
--- no name leads behind k
-abbrev pub Low : Bound → ℕ → Type 0
-Low bound k = (x : List ℕ) (m : ℕ) → bound_to x bound ≡ Some m → m < k + 1
-
-low_pick : (c : Bool) (k : ℕ) (found : Option ℕ) (m : ℕ) → (if c then Some k else found) ≡ Some m → (found ≡ Some m → m < k + 1) → m < k + 1
-low_pick true k found m e f = let same : k ≡ m = some_is k m e in omega arith
-low_pick false k found m e f = f e
-
-pub low_rec : (bound : Bound) (k : ℕ) (x : List ℕ) → Low bound k → Low ((x, k) ∷ bound) k
-low_rec bound k x low y m e = low_pick (bytes_eq x y) k (bound_to y bound) m e (λ h. low y m h)
-
-pub low_up : (bound : Bound) (k j : ℕ) → k < j + 1 → Low bound k → Low bound j
-low_up bound k j lt low x m e = let a : m < k + 1 = low x m e in omega arith
-
--- a name that leads before k leads to a head round the place
-abbrev pub Ins : Bound → (from k : ℕ) → Type 0
-Ins bound from k = (x : List ℕ) (m : ℕ) → bound_to x bound ≡ Some m → m < k → m < from
-
-ins_pick : (c : Bool) (k from : ℕ) (found : Option ℕ) (m : ℕ) → m < k → (if c then Some k else found) ≡ Some m → (found ≡ Some m → m < from) → m < from
-ins_pick true k from found m lt e f = let same : k ≡ m = some_is k m e in absurd (omega arith)
-ins_pick false k from found m lt e f = f e
-
-pub ins_rec : (bound : Bound) (from k : ℕ) (x : List ℕ) → Ins bound from k → Ins ((x, k) ∷ bound) from k
-ins_rec bound from k x ins y m e lt = ins_pick (bytes_eq x y) k from (bound_to y bound) m lt e (λ h. ins y m h lt)
 
 -- ---- names that can be written
 

@@ -1,130 +1,31 @@
 -- The canonical form nests no deeper than a body that spells it, and has names and limits as it has.
-use Rattle.std.proofs.Common.{◌≡◌, ℕ, zero, suc, ◌+◌, ◌^◌, ◌<◌, ◌≤◌, List, [], ◌∷◌, ◌++◌, length, Bool, true, false, ◌&&◌, ◌||◌, nat_lt, Option, Some, None, refl, sym, ap, ◌∙◌, subst, arith, slice_get}
-use Rattle.std.specs.Str.{bytes_eq}
+use Rattle.std.proofs.Common.{◌≡◌, ℕ, suc, ◌+◌, ◌^◌, ◌<◌, ◌≤◌, List, [], ◌∷◌, ◌++◌, length, Bool, true, false, ◌&&◌, ◌||◌, nat_lt, Option, Some, None, refl, sym, ap, ◌∙◌, subst, arith}
 use Rattle.std.proofs.lemmas.Bool.{ltb-true, lt-ltb}
-use Rattle.rs_model.specs.declared.graph.Arm.{Arm}
 use Rattle.rs_model.specs.declared.values.Sort.{Sort}
-use Rattle.rs_text.proofs.Basics.{some_is, two_true, both}
+use Rattle.rs_text.proofs.Basics.{two_true, both}
 use Rattle.rs_text.proofs.Naming.{grown_append}
 use Rattle.rs_text.specs.Names.{Bound, bound_to, number_or, grown, is_among}
 use Rattle.rs_bodies.specs.declared.dialects.Dialect.{Dialect}
 use Rattle.rs_bodies.specs.declared.dialects.Dialect.TheVariants.{Talks, Acts}
-use Rattle.rs_bodies.specs.declared.places.Place.{Place}
-use Rattle.rs_bodies.specs.declared.places.Place.TheVariants as place
 use Rattle.rs_bodies.specs.Dialects.{Turn, sends_to, with_mark, most}
 use Rattle.rs_bodies.specs.Fits.{is_guarded, has_room_for, head_fits, body_fits, arms_fit}
-use Rattle.rs_bodies.specs.Graph.{labels_of, labels_of_arms, acts_in, acts_in_arms, Numbering, first_of, arm_of, arms_of}
-use Rattle.rs_bodies.specs.Places.{choice, end_of, name_of_place, IsGoneBackTo}
+use Rattle.rs_bodies.specs.Graph.{labels_of, labels_of_arms, acts_in}
+use Rattle.rs_bodies.specs.Places.{name_of_place}
 use Rattle.rs_bodies.specs.Scenes.{Scene, with_label, in_act, in_braces, behind}
 use Rattle.rs_bodies.specs.Trees.{Body, ends, again, binds, acts, offers, Branches, one, more}
-use Rattle.rs_bodies.proofs.BackFlags.{goes_back, back_is}
-use Rattle.rs_bodies.proofs.CanonForms.{Writing, role_as, label_as, turn_as, sort_as, wrapped, offered, canon, canon_arms, Low, low_rec, low_up, HasRole, HasTurn, HasNames, HasNamesArms}
-use Rattle.rs_bodies.proofs.CanonSame.{Inv, InvAll, inv_rec, inv_head, inv_all, opened_for, canon_acts, wrapped_labels, offered_labels}
-use Rattle.rs_bodies.proofs.Fitting.{good_behind, rec_at, recs_at, Recs, RecsArms, at_self, at_later, in_first, in_rest, recs_stand, NamesGood, same_name, lead_good, Named, NamedArms, Leads, Fine, FineArms}
-use Rattle.rs_bodies.proofs.PlacesIn.{places_in, places_in_arms, places_length}
-
--- ---- an arm that goes back leads to such a head
-
-abbrev BackGood : (ℕ → Bool) → ℕ → List Arm → Type 0
-BackGood good n arms = (index : ℕ) (arm : Arm) → slice_get arms index ≡ Some arm → arm.next ≤ n → good arm.next ≡ true
-
-abbrev PlaceGood : (ℕ → Bool) → ℕ → Place → Type 0
-PlaceGood good n place.End = Unit {0}
-PlaceGood good n (place.Point x) = BackGood good n x.arms
-
-abbrev Backs : (ℕ → Bool) → ℕ → List Place → Type 0
-Backs good n [] = Unit {0}
-Backs good n (x ∷ places) = PlaceGood good n x × Backs good (suc n) places
-
-backs_append : (good : ℕ → Bool) (xs ys : List Place) (n j : ℕ) → n + length xs ≡ j → Backs good n xs → Backs good j ys → Backs good n (xs ++ ys)
-backs_append good [] ys n j e h k = let same : j ≡ n = omega arith in subst (λ (z : ℕ). Backs good z ys) same k
-backs_append good (x ∷ xs) ys n j e h k = (h.0, backs_append good xs ys (suc n) j (omega arith) h.1 k)
-
-backs_at : (good : ℕ → Bool) (places : List Place) (n i : ℕ) (here : Place) → Backs good n places → slice_get places i ≡ Some here → PlaceGood good (n + i) here
-backs_at good [] n i here h e = absurd (cc e)
-backs_at good (x ∷ places) n zero here h e =
-    let same : n ≡ n + 0 = omega arith in
-    subst (λ (z : ℕ). PlaceGood good z here) same (subst (λ (z : Place). PlaceGood good n z) (some_is x here e) h.0)
-backs_at good (x ∷ places) n (suc i) here h e =
-    let same : suc n + i ≡ n + suc i = omega arith in
-    subst (λ (z : ℕ). PlaceGood good z here) same (backs_at good places (suc n) i here h.1 e)
-
-one_good : (good : ℕ → Bool) (n : ℕ) (a : Arm) → (a.next ≤ n → good a.next ≡ true) → BackGood good n (a ∷ [])
-one_good good n a f zero arm e le = let same : a ≡ arm = some_is a arm e in subst (λ (z : Arm). good z.next ≡ true) same (f (subst (λ (z : Arm). z.next ≤ n) (sym same) le))
-one_good good n a f (suc index) arm e le = absurd (cc e)
-
-more_good : (good : ℕ → Bool) (n : ℕ) (a : Arm) (arms : List Arm) → (a.next ≤ n → good a.next ≡ true) → BackGood good n arms → BackGood good n (a ∷ arms)
-more_good good n a arms f g zero arm e le = let same : a ≡ arm = some_is a arm e in subst (λ (z : Arm). good z.next ≡ true) same (f (subst (λ (z : Arm). z.next ≤ n) (sym same) le))
-more_good good n a arms f g (suc index) arm e le = g index arm e le
-
-mutual
-  backs : {dia : Dialect} (m : Numbering) (good : ℕ → Bool) (t : Body dia) (bound : Bound) (here : Bool) (k : ℕ) → k + acts_in dia t ≤ m.last → Named dia t bound k → Low bound k → ((v : ℕ) → k ≤ v → v < k + acts_in dia t → rec_at dia t here k v ≡ true → good v ≡ true)
-      → ((x : List ℕ) (v : ℕ) → bound_to x bound ≡ Some v → v < k → good v ≡ true) → ((x : List ℕ) (v : ℕ) → bound_to x bound ≡ Some v → v ≡ k → here ≡ true) → Backs good k (places_in m t bound k)
-  backs {dia} m good ends bound here k end named low f before at = tt
-  backs {dia} m good (again x) bound here k end named low f before at = tt
-  backs {dia} m good (binds x b) bound here k end named low f before at =
-      backs m good b ((x, k) ∷ bound) true k end named (low_rec bound k x low) f
-      (λ y v e lt. same_name (bytes_eq x y) k v (bound_to y bound) e (λ same. absurd (omega arith)) (λ g. before y v g lt)) (λ y v e same. refl)
-  backs {dia} m good (acts s r l sort b) bound here k end named low f before at =
-      let names : NamesGood good bound k = good_behind good bound here k before at (λ h. f k (omega arith) (omega arith) (at_self k here (rec_at dia b false (suc k) k) ∙ h)) in (
-        (one_good good k (arm_of m l sort (first_of dia b bound (suc k) m.last)) (lead_good dia good b bound k (suc k) m.last named names (omega arith) (omega arith))),
-        backs m good b bound false (suc k) (omega arith) named (low_up bound k (suc k) (omega arith) low) (λ v le lt h. f v (omega arith) (omega arith) (at_later v k here (rec_at dia b false (suc k) v) (omega arith) ∙ h))
-            (λ x v e lt. names x v e (omega arith)) (λ x v e same. let lt : v < k + 1 = low x v e in absurd (omega arith)),
-      )
-  backs {dia} m good (offers s r arms) bound here k end named low f before at =
-      let names : NamesGood good bound k = good_behind good bound here k before at (λ h. f k (omega arith) (omega arith) (at_self k here (recs_at dia arms (suc k) k) ∙ h)) in (
-        (arms_good m good arms bound k (suc k) (omega arith) (omega arith) named names),
-        backs_arms m good arms bound k (suc k) (omega arith) (omega arith) named low (λ v le lt h. f v (omega arith) (omega arith) (at_later v k here (recs_at dia arms (suc k) v) (omega arith) ∙ h)) names,
-      )
-
-  arms_good : {dia : Dialect} (m : Numbering) (good : ℕ → Bool) (arms : Branches dia) (bound : Bound) (n j : ℕ) → n < j → j + acts_in_arms dia arms ≤ m.last → NamedArms dia arms bound j → NamesGood good bound n → BackGood good n (arms_of dia m arms bound j)
-  arms_good {dia} m good (one l sort b) bound n j lt end named names = one_good good n (arm_of m l sort (first_of dia b bound j m.last)) (lead_good dia good b bound n j m.last named names lt (omega arith))
-  arms_good {dia} m good (more l sort b arms) bound n j lt end named names =
-      more_good good n (arm_of m l sort (first_of dia b bound j m.last)) (arms_of dia m arms bound (j + acts_in dia b)) (lead_good dia good b bound n j m.last named.0 names lt (omega arith)) (arms_good m good arms bound n (j + acts_in dia b) (omega arith) (omega arith) named.1 names)
-
-  backs_arms : {dia : Dialect} (m : Numbering) (good : ℕ → Bool) (arms : Branches dia) (bound : Bound) (n j : ℕ) → n < j → j + acts_in_arms dia arms ≤ m.last → NamedArms dia arms bound j → Low bound n → ((v : ℕ) → j ≤ v → v < j + acts_in_arms dia arms → recs_at dia arms j v ≡ true → good v ≡ true) → NamesGood good bound n
-      → Backs good j (places_in_arms m arms bound j)
-  backs_arms {dia} m good (one l sort b) bound n j lt end named low f names =
-      backs m good b bound false j end named (low_up bound n j (omega arith) low) f (λ x v e i. let le : v < n + 1 = low x v e in names x v e (omega arith)) (λ x v e same. let le : v < n + 1 = low x v e in absurd (omega arith))
-  backs_arms {dia} m good (more l sort b arms) bound n j lt end named low f names =
-      backs_append good (places_in m b bound j) (places_in_arms m arms bound (j + acts_in dia b)) j (j + acts_in dia b) (ap (λ z. j + z) (places_length m b bound j))
-      (backs m good b bound false j (omega arith) named.0 (low_up bound n j (omega arith) low) (λ v le i h. f v le (omega arith) (in_first v (j + acts_in dia b) (rec_at dia b false j v) (recs_at dia arms (j + acts_in dia b) v) i ∙ h)) (λ x v e i. let le : v < n + 1 = low x v e in names x v e (omega arith)) (λ x v e same. let le : v < n + 1 = low x v e in absurd (omega arith)))
-      (backs_arms m good arms bound n (j + acts_in dia b) (omega arith) (omega arith) named.1 low (λ v le i h. f v (omega arith) (omega arith) (in_rest v (j + acts_in dia b) (rec_at dia b false j v) (recs_at dia arms (j + acts_in dia b) v) le ∙ h)) names)
-
-end_backs : (good : ℕ → Bool) (n : ℕ) (c : Bool) → Backs good n (end_of c)
-end_backs good n true = (tt, tt)
-end_backs good n false = tt
-
--- a rec stands in front of each head of the tree that is gone back to in its graph
-pub tree_recs : {dia : Dialect} (m : Numbering) (p : List Place) (t : Body dia) (c : Bool) → p ≡ places_in m t [] 0 ++ end_of c → m.last ≡ acts_in dia t → Named dia t [] 0 → Recs dia (goes_back p) t false 0
-tree_recs {dia} m p t c e last named =
-    let good : ℕ → Bool = rec_at dia t false 0 in
-    let all : Backs good 0 (places_in m t [] 0 ++ end_of c) = backs_append good (places_in m t [] 0) (end_of c) 0 (0 + length (places_in m t [] 0)) refl
-    (backs m good t [] false 0 (omega arith) named (λ x v h. absurd (cc h)) (λ v le lt h. h) (λ x v h lt. absurd (cc h)) (λ x v h same. absurd (cc h))) (end_backs good (0 + length (places_in m t [] 0)) c) in
-    recs_stand dia (goes_back p) t false 0 (λ v h le lt.
-    let b : IsGoneBackTo p v = back_is p v h in
-    let here : BackGood good (0 + b.number) b.arms = backs_at good (places_in m t [] 0 ++ end_of c) 0 b.number (choice b.head b.arms) all (ap (λ z. slice_get z b.number) (sym e) ∙ b.stands) in
-    let to : b.arm.next ≡ v = b.leads in
-    let behind : v ≤ b.number = b.behind in
-    subst (λ (z : ℕ). good z ≡ true) to (here b.index b.arm b.holds (omega arith)))
+use Rattle.rs_bodies.proofs.BackFlags.{goes_back}
+use Rattle.rs_bodies.proofs.CanonForms.{Writing, role_as, label_as, turn_as, sort_as, canon, canon_arms, HasRole, HasTurn, HasNames, HasNamesArms}
+use Rattle.rs_bodies.proofs.CanonSame.{Inv, InvAll, inv_rec, inv_head, inv_all, canon_acts}
+use Rattle.rs_bodies.proofs.Fitting.{Recs, RecsArms, Leads, Fine, FineArms}
+use Rattle.rs_bodies.proofs.NamesLead.{Low, low_rec, low_up}
+use Rattle.rs_bodies.proofs.Wrapped.{scene, offered, opened_for, wrapped_fits, wrapped_labels, offered_labels}
+use Rattle.rs_bodies.specs.Shapes.{deeper}
 
 -- ---- nesting, names and limits of the canonical form
-
-abbrev pub scene : List (List ℕ) → Bound → (depth count : ℕ) → List (List ℕ) → Scene
-scene roles bound depth count labels = record { roles = roles; bound = bound; depth = depth; acts = count; labels = labels }
-
--- one deeper where that is so
-abbrev pub deeper : Bool → ℕ → ℕ
-deeper true depth = suc depth
-deeper false depth = depth
 
 deeper_within : (c here : Bool) (inner d : ℕ) → (c ≡ true → here ≡ true) → inner ≤ d → (here ≡ true → inner < d) → deeper c inner ≤ d
 deeper_within true here inner d f le lt = let h = lt (f refl) in omega arith
 deeper_within false here inner d f le lt = le
-
-wrapped_fits : {dia : Dialect} (c : Bool) (k : ℕ) (b : Body dia) (roles : List (List ℕ)) (named : Bound) (d : ℕ) (ls : List (List ℕ)) → (c ≡ true → d < 200) → body_fits dia b (scene roles (opened_for c k named) (deeper c d) k ls) ≡ true → body_fits dia (wrapped c k b) (scene roles named d k ls) ≡ true
-wrapped_fits {dia} true k b roles named d ls lt h = two_true (nat_lt d 200) (body_fits dia b (scene roles ((name_of_place k, k) ∷ named) (suc d) k ls)) (lt-ltb d 200 (lt refl)) h
-wrapped_fits {dia} false k b roles named d ls lt h = h
 
 -- the roles that are written are known
 abbrev pub RolesKnown : Writing → List (List ℕ) → Type 0

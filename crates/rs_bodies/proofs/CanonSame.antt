@@ -1,13 +1,10 @@
 -- The canonical form of a body has the same places.
 use Rattle.std.proofs.Common.{◌≡◌, ◌≢◌, ℕ, suc, ◌+◌, ◌^◌, ◌<◌, ◌≤◌, List, [], ◌∷◌, ◌++◌, length, map, Bool, true, false, ◌||◌, if◌then◌else◌, Option, Some, None, refl, sym, ap, ◌∙◌, arith, slice_get, append_assoc, length-append}
-use Rattle.std.specs.Fmt.{decimal}
 use Rattle.std.specs.Str.{bytes_eq}
 use Rattle.std.proofs.lemmas.Bool.{ltb-true}
 use Rattle.std.proofs.lemmas.List.{map-append}
 use Rattle.std.proofs.lemmas.Slice.Eq.{bytes_eq-Decides}
-use Rattle.rs_text.proofs.Values.{decimal_reads}
 use Rattle.rs_text.specs.Arms.{sort_or_unit}
-use Rattle.rs_text.specs.Lexemes.{value_of}
 use Rattle.rs_text.proofs.Arms.{sort_same}
 use Rattle.rs_model.specs.declared.graph.Arm.{Arm}
 use Rattle.rs_model.specs.declared.values.Sort.{Sort}
@@ -25,17 +22,13 @@ use Rattle.rs_bodies.specs.Places.{choice, name_of_place}
 use Rattle.rs_bodies.specs.Points.{head_of}
 use Rattle.rs_bodies.specs.Trees.{Body, ends, again, binds, acts, offers, Branches, one, more}
 use Rattle.rs_bodies.proofs.BackFlags.{goes_back, is_back}
-use Rattle.rs_bodies.proofs.CanonForms.{Writing, role_as, label_as, turn_as, sort_as, wrapped, offered, canon, canon_arms, Low, low_rec, low_up, Ins, ins_rec, HasRole, HasTurn, HasNames, HasNamesArms}
+use Rattle.rs_bodies.proofs.CanonForms.{Writing, role_as, label_as, turn_as, sort_as, canon, canon_arms, HasRole, HasTurn, HasNames, HasNamesArms}
 use Rattle.rs_bodies.proofs.Fitting.{Leads, Fine, FineArms, Named, NamedArms}
+use Rattle.rs_bodies.proofs.NamesLead.{Low, low_rec, low_up, Ins, ins_rec}
+use Rattle.rs_bodies.proofs.Wrapped.{place_name_is, offered, opened_for, wrapped_acts, offered_acts, wrapped_end, offered_end, wrapped_labels, offered_labels, wrapped_places, wrapped_first, offered_places, offered_first}
 use Rattle.rs_bodies.proofs.PlacesIn.{point_at, places_in, places_in_arms, places_length, one_longer, at_seam}
 
 -- ---- the names of places differ
-
-tails : (a b : ℕ) (xs ys : List ℕ) → a ∷ xs ≡ b ∷ ys → xs ≡ ys
-tails a b xs ys h = cc
-
-pub place_name_is : (n k : ℕ) → n < 2 ^ 64 → k < 2 ^ 64 → name_of_place n ≡ name_of_place k → n ≡ k
-place_name_is n k a b h = sym (decimal_reads n a).0 ∙ ap value_of (tails 88 88 (decimal n) (decimal k) h) ∙ (decimal_reads k b).0
 
 picked : (c : Bool) (k : ℕ) (found : Option ℕ) (m : ℕ) → (c ≡ true → k ≡ m) → (c ≡ false → found ≡ Some m) → (if c then Some k else found) ≡ Some m
 picked true k found m h f = ap Some (h refl)
@@ -52,11 +45,6 @@ inv_pick false k found m lt e f = f e
 
 pub inv_rec : (back : ℕ → Bool) (bound named : Bound) (k : ℕ) (x : List ℕ) → Inv back bound named k → Inv back ((x, k) ∷ bound) named k
 inv_rec back bound named k x inv y m e b lt = inv_pick (bytes_eq x y) k (bound_to y bound) m lt e (λ h. inv y m h b lt)
-
--- behind the head k
-abbrev pub opened_for : Bool → ℕ → Bound → Bound
-opened_for true k named = (name_of_place k, k) ∷ named
-opened_for false k named = named
 
 place_named : (k m : ℕ) → k < 2 ^ 64 → m < 2 ^ 64 → bytes_eq (name_of_place k) (name_of_place m) ≡ true → k ≡ m
 place_named k m a b h = place_name_is k m a b ((bytes_eq-Decides (name_of_place k) (name_of_place m)).0 h)
@@ -80,14 +68,6 @@ inv_all back bound named k low inv x m e b = let lt : m < k + 1 = low x m e in i
 
 -- ---- counts and shapes
 
-pub wrapped_acts : {dia : Dialect} (c : Bool) (k : ℕ) (b : Body dia) → acts_in dia (wrapped c k b) ≡ acts_in dia b
-wrapped_acts {dia} true k b = refl
-wrapped_acts {dia} false k b = refl
-
-pub offered_acts : {dia : Dialect} (s : List ℕ) (r : Turn dia) (arms : Branches dia) → acts_in dia (offered s r arms) ≡ suc (acts_in_arms dia arms)
-offered_acts {dia} s r (one l sort b) = refl
-offered_acts {dia} s r (more l sort b arms) = refl
-
 mutual
   pub canon_acts : {dia : Dialect} (w : Writing) (t : Body dia) (bound : Bound) (k : ℕ) → acts_in dia (canon w t bound k) ≡ acts_in dia t
   canon_acts {dia} w ends bound k = refl
@@ -100,14 +80,6 @@ mutual
   canon_arms_acts {dia} w (one l sort b) bound k = canon_acts w b bound k
   canon_arms_acts {dia} w (more l sort b arms) bound k = ap (λ z. z + acts_in_arms dia (canon_arms w arms bound (k + acts_in dia b))) (canon_acts w b bound k) ∙ ap (λ z. acts_in dia b + z) (canon_arms_acts w arms bound (k + acts_in dia b))
 
-pub wrapped_end : {dia : Dialect} (c : Bool) (k : ℕ) (b : Body dia) → has_end dia (wrapped c k b) ≡ has_end dia b
-wrapped_end {dia} true k b = refl
-wrapped_end {dia} false k b = refl
-
-pub offered_end : {dia : Dialect} (s : List ℕ) (r : Turn dia) (arms : Branches dia) → has_end dia (offered s r arms) ≡ has_end_arms dia arms
-offered_end {dia} s r (one l sort b) = refl
-offered_end {dia} s r (more l sort b arms) = refl
-
 mutual
   pub canon_end : {dia : Dialect} (w : Writing) (t : Body dia) (bound : Bound) (k : ℕ) → has_end dia (canon w t bound k) ≡ has_end dia t
   canon_end {dia} w ends bound k = refl
@@ -119,14 +91,6 @@ mutual
   canon_arms_end : {dia : Dialect} (w : Writing) (arms : Branches dia) (bound : Bound) (k : ℕ) → has_end_arms dia (canon_arms w arms bound k) ≡ has_end_arms dia arms
   canon_arms_end {dia} w (one l sort b) bound k = canon_end w b bound k
   canon_arms_end {dia} w (more l sort b arms) bound k = ap (λ z. z || has_end_arms dia (canon_arms w arms bound (k + acts_in dia b))) (canon_end w b bound k) ∙ ap (λ z. has_end dia b || z) (canon_arms_end w arms bound (k + acts_in dia b))
-
-pub wrapped_labels : {dia : Dialect} (c : Bool) (k : ℕ) (b : Body dia) → labels_of dia (wrapped c k b) ≡ labels_of dia b
-wrapped_labels {dia} true k b = refl
-wrapped_labels {dia} false k b = refl
-
-pub offered_labels : {dia : Dialect} (s : List ℕ) (r : Turn dia) (arms : Branches dia) → labels_of dia (offered s r arms) ≡ labels_of_arms dia arms
-offered_labels {dia} s r (one l sort b) = refl
-offered_labels {dia} s r (more l sort b arms) = refl
 
 mutual
   pub canon_labels : {dia : Dialect} (w : Writing) (t : Body dia) (bound : Bound) (k : ℕ) → labels_of dia (canon w t bound k) ≡ map (label_as w) (labels_of dia t)
@@ -144,22 +108,6 @@ mutual
       ∙ ap (λ z. label_as w l ∷ z) (sym (map-append (label_as w) (labels_of dia b) (labels_of_arms dia arms)))
 
 -- ---- the same places
-
-pub wrapped_places : {dia : Dialect} (m : Numbering) (c : Bool) (k : ℕ) (b : Body dia) (named : Bound) → places_in m (wrapped c k b) named k ≡ places_in m b (opened_for c k named) k
-wrapped_places {dia} m true k b named = refl
-wrapped_places {dia} m false k b named = refl
-
-pub wrapped_first : {dia : Dialect} (last : ℕ) (c : Bool) (k : ℕ) (b : Body dia) (named : Bound) → first_of dia (wrapped c k b) named k last ≡ first_of dia b (opened_for c k named) k last
-wrapped_first {dia} last true k b named = refl
-wrapped_first {dia} last false k b named = refl
-
-pub offered_places : {dia : Dialect} (m : Numbering) (s : List ℕ) (r : Turn dia) (arms : Branches dia) (named : Bound) (k : ℕ) → places_in m (offered s r arms) named k ≡ places_in m (offers s r arms) named k
-offered_places {dia} m s r (one l sort b) named k = refl
-offered_places {dia} m s r (more l sort b arms) named k = refl
-
-pub offered_first : {dia : Dialect} (last : ℕ) (s : List ℕ) (r : Turn dia) (arms : Branches dia) (named : Bound) (k : ℕ) → first_of dia (offered s r arms) named k last ≡ k
-offered_first {dia} last s r (one l sort b) named k = refl
-offered_first {dia} last s r (more l sort b arms) named k = refl
 
 -- the names that are written have the numbers of those that were read
 pub record SameNumbers (P : List ℕ → Type 0) (w : Writing) (m : Numbering) : Type 0 where

@@ -1,7 +1,8 @@
 -- What the canonical form of a body that spells a graph is: it is the graph's canonical body, of the same places, and its
 -- names can be written.
-use Rattle.std.proofs.Common.{◌≡◌, ℕ, suc, ◌+◌, ◌<◌, ◌≤◌, List, [], ◌∷◌, ◌++◌, Bool, true, false, Option, Some, None, refl, sym, ap, ◌∙◌, subst, arith, slice_get}
+use Rattle.std.proofs.Common.{◌≡◌, ℕ, suc, ◌+◌, ◌<◌, ◌≤◌, List, [], ◌∷◌, ◌++◌, true, false, Option, Some, None, refl, sym, ap, ◌∙◌, subst, arith, slice_get}
 use Rattle.rs_model.specs.Data.{Names_data}
+use Rattle.rs_model.specs.declared.limits.TheConstants.{MOST_TALKS}
 use Rattle.rs_text.proofs.PlainNames.{numbered_word}
 use Rattle.rs_text.specs.Names.{Bound, bound_to, number_or}
 use Rattle.rs_text.specs.Words.{is_word, is_role_word}
@@ -21,11 +22,14 @@ use Rattle.rs_bodies.specs.Trees.{Body, ends, again, binds, acts, offers, Branch
 use Rattle.rs_bodies.specs.Writable.{IsWordInTurn, AreWordsIn, AreWordsInArms}
 use Rattle.rs_bodies.proofs.BackFlags.{goes_back}
 use Rattle.rs_bodies.proofs.CanonDraws.{draws, has_names}
-use Rattle.rs_bodies.proofs.CanonForms.{Writing, role_as, label_as, turn_as, sort_as, wrapped, canon, canon_arms, Low, low_rec, low_up, HasRole, HasLabel, HasTurn, HasNames, HasNamesArms}
-use Rattle.rs_bodies.proofs.CanonNest.{tree_recs, RolesKnown, Carries, canon_fits}
+use Rattle.rs_bodies.proofs.CanonForms.{Writing, role_as, label_as, turn_as, sort_as, canon, canon_arms, HasRole, HasLabel, HasTurn, HasNames, HasNamesArms}
+use Rattle.rs_bodies.proofs.CanonNest.{RolesKnown, Carries, canon_fits}
+use Rattle.rs_bodies.proofs.Recs.{tree_recs}
 use Rattle.rs_bodies.proofs.CanonOne.{drawn_once}
 use Rattle.rs_bodies.proofs.CanonSame.{fine, Same, same, SameNumbers, canon_end}
 use Rattle.rs_bodies.proofs.Fitting.{Named, fits_named, fits_heads, Fine}
+use Rattle.rs_bodies.proofs.NamesLead.{Low, low_rec, low_up}
+use Rattle.rs_bodies.proofs.Wrapped.{one_words}
 use Rattle.rs_bodies.proofs.PlacesIn.{places_in, places_are, places_length, at_seam}
 
 -- ---- a body that spells a graph
@@ -109,7 +113,7 @@ canon_within {dia} P R roles labels known now m p root t names g has rs cs rel =
 
 -- ---- its names are words
 
-pub place_name_law : (n : ℕ) → n ≤ 1024 → is_role_word (name_of_place n) ≡ true
+pub place_name_law : (n : ℕ) → n ≤ MOST_TALKS → is_role_word (name_of_place n) ≡ true
 place_name_law n h = numbered_word n (omega arith)
 
 most_small : (dia : Dialect) → most dia ≤ 1024
@@ -119,10 +123,6 @@ most_small Acts = omega arith
 below_all : (found : Option ℕ) (n : ℕ) → ((m : ℕ) → found ≡ Some m → m < n + 1) → number_or found ≤ n
 below_all None n f = omega arith
 below_all (Some m) n f = let lt : m < n + 1 = f m refl in omega arith
-
-one_words : {dia : Dialect} (c : Bool) (k : ℕ) (b : Body dia) → k ≤ 1024 → AreWordsIn dia b → AreWordsIn dia (wrapped c k b)
-one_words true k b small h = (place_name_law k small, h)
-one_words false k b small h = h
 
 abbrev RoleWords : Writing → Type 0
 RoleWords w = (s : List ℕ) → HasRole w s → is_role_word (role_as w s) ≡ true

@@ -1,5 +1,6 @@
 -- A graph that a part spells has few places.
 use Rattle.std.proofs.Common.{◌≡◌, ℕ, ◌+◌, ◌≤◌, List, [], ◌++◌, length, map, Bool, true, false, ap, ◌∙◌, arith, length-append}
+use Rattle.rs_model.specs.declared.limits.TheConstants.{MOST_TALKS}
 use Rattle.rs_bodies.specs.declared.dialects.Dialect.{Dialect}
 use Rattle.rs_bodies.specs.declared.dialects.Dialect.TheVariants.{Talks, Acts}
 use Rattle.rs_bodies.specs.declared.places.Place.{Place}
@@ -19,11 +20,11 @@ end_small : (end : Bool) → length (end_of end) ≤ 1
 end_small true = omega arith
 end_small false = omega arith
 
-most_small : (dia : Dialect) → most dia ≤ 1024
+most_small : (dia : Dialect) → most dia ≤ MOST_TALKS
 most_small Talks = omega arith
 most_small Acts = omega arith
 
-pub spelt_few : (dia : Dialect) (p : List Place) (root : ℕ) → IsSpelt dia p root → length p ≤ 1025
+pub spelt_few : (dia : Dialect) (p : List Place) (root : ℕ) → IsSpelt dia p root → length p ≤ MOST_TALKS + 1
 spelt_few dia p root s =
     let t = s.spells.tree in
     let m = numbering dia s.old t in

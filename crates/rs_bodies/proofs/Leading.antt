@@ -1,5 +1,5 @@
 -- What a text spells leads to its own places.
-use Rattle.std.proofs.Common.{◌≡◌, ◌≢◌, ℕ, zero, suc, ◌+◌, ◌<◌, ◌≤◌, List, [], ◌∷◌, ◌++◌, length, Bool, true, false, ◌&&◌, ◌||◌, nat_lt, Option, Some, None, slice_get, refl, sym, ap, ◌∙◌, subst, arith, length-append}
+use Rattle.std.proofs.Common.{◌≡◌, ◌≢◌, ℕ, zero, suc, ◌+◌, ◌<◌, ◌≤◌, List, [], ◌∷◌, ◌++◌, length, Bool, true, false, ◌&&◌, ◌||◌, nat_lt, Option, Some, None, slice_get, refl, sym, ap, ◌∙◌, subst, arith}
 use Rattle.std.proofs.lemmas.Bool.{ltb-true}
 use Rattle.rs_model.specs.Data.{Names_data}
 use Rattle.rs_model.specs.declared.graph.Arm.{Arm}
@@ -12,7 +12,8 @@ use Rattle.rs_bodies.specs.Fits.{is_guarded, has_room_for, head_fits, body_fits,
 use Rattle.rs_bodies.specs.Graph.{acts_in, acts_in_arms, has_end, has_end_arms, Numbering, first_of, arm_of, arms_of}
 use Rattle.rs_bodies.specs.Leads.{KnowsRoles, LeadsInside, PointLeads, ends_in, places_in}
 use Rattle.rs_bodies.specs.Openings.{roles_in}
-use Rattle.rs_bodies.specs.Points.{head_of, points_of, points_of_arms}
+use Rattle.rs_bodies.specs.Points.{head_of, point_of, points_of, points_of_arms}
+use Rattle.rs_bodies.proofs.Heads.{heads_length}
 use Rattle.rs_bodies.specs.Scenes.{Scene, with_label, in_act, in_braces, in_rec, behind, first_scene}
 use Rattle.rs_bodies.specs.Spells.{Fits, Spells, Tree, names_of, numbering, spelling_of}
 use Rattle.rs_bodies.specs.Trees.{Body, ends, again, binds, acts, offers, Branches, one, more}
@@ -142,18 +143,6 @@ mutual
       (points_lead d body m (with_label l s) places r g.1 (λ e. h (or_left (has_end d body) (has_end_arms d arms) e)) (omega arith) k)
       (arm_points_lead d arms m (behind d body (with_label l s)) places r f.1 (λ e. h (or_right (has_end d body) (has_end_arms d arms) e)) (omega arith) k)
 
-mutual
-  points_count : (d : Dialect) (m : Numbering) (b : Body d) (bound : Bound) (count : ℕ) → length (points_of d m b bound count) ≡ acts_in d b
-  points_count d m ends bound count = refl
-  points_count d m (again name) bound count = refl
-  points_count d m (binds name body) bound count = points_count d m body ((name, count) ∷ bound) count
-  points_count d m (acts p t l sort body) bound count = ap (λ z. suc z) (points_count d m body bound (suc count))
-  points_count d m (offers p t arms) bound count = ap (λ z. suc z) (arm_points_count d m arms bound (suc count))
-
-  arm_points_count : (d : Dialect) (m : Numbering) (arms : Branches d) (bound : Bound) (count : ℕ) → length (points_of_arms d m arms bound count) ≡ acts_in_arms d arms
-  arm_points_count d m (one l sort body) bound count = points_count d m body bound count
-  arm_points_count d m (more l sort body arms) bound count = length-append (points_of d m body bound count) _ ∙ ap (λ z. z + length (points_of_arms d m arms bound (count + acts_in d body))) (points_count d m body bound count) ∙ ap (λ z. acts_in d body + z) (arm_points_count d m arms bound (count + acts_in d body))
-
 -- ---- whole parts
 
 one_more : (c : Bool) (last : ℕ) → c ≡ true → last < last + ends_in c
@@ -166,7 +155,7 @@ tree_leads d old t fits =
     let roles : List (List ℕ) = roles_in d old t.opening in
     let start : Scene = first_scene roles old.labels in
     let places : ℕ = places_in (spelling_of d old t) in
-    let size : places ≡ acts_in d t.body + ends_in (has_end d t.body) = ap (λ z. z + ends_in (has_end d t.body)) (points_count d m t.body [] 0) in
+    let size : places ≡ acts_in d t.body + ends_in (has_end d t.body) = ap (λ z. z + ends_in (has_end d t.body)) (heads_length d (point_of d m) m t.body [] 0) in
     let more : has_end d t.body ≡ true → acts_in d t.body < places = λ e. subst (λ (z : ℕ). acts_in d t.body < z) (sym size) (one_more (has_end d t.body) (acts_in d t.body) e) in
     let within : acts_in d t.body ≤ places = omega arith in
     let all : AllLead (length roles) places (points_of d m t.body [] 0) = points_lead d t.body m start places refl fits.body more (omega arith) within in

@@ -25,7 +25,10 @@ use Rattle.rs_bodies.specs.Scenes.{Scene}
 use Rattle.rs_bodies.specs.Shapes.{place_leads, leads_from, last_of, labelled, met, or_none, arms_met, closed, deeper, are_more, is_none, nested, is_known, is_fit, one_more, Outline, place_met, visited}
 use Rattle.rs_bodies.specs.Trees.{Body, ends, again, binds, acts, offers, Branches, one, more}
 use Rattle.rs_bodies.proofs.Fitting.{Named, NamedArms, Recs, RecsArms, few_labels, fits_labels}
-use Rattle.rs_bodies.proofs.ShapeForms.{scene, head_place, places_in, places_in_arms, places_length, arms_length, one_longer, at_seam, Low, low_rec, low_up, Ins, ins_rec, low_unbound, name_from, arm_places_else}
+use Rattle.rs_bodies.proofs.NamesLead.{Low, low_rec, low_up, Ins, ins_rec}
+use Rattle.rs_bodies.proofs.PlacesIn.{point_at, places_in, places_in_arms, places_length, arms_length, one_longer, at_seam}
+use Rattle.rs_bodies.proofs.ShapeForms.{low_unbound, name_from, arm_places_else}
+use Rattle.rs_bodies.proofs.Wrapped.{scene}
 
 abbrev walk : ℕ → ℕ → Bool → Walk
 walk count labels ended = record { count = count; labels = labels; ended = ended }
@@ -169,20 +172,20 @@ head_known Acts m p x (with_mark y) s g same h = role_fits m p x g (ap (λ z. is
 
 -- the head k with the arms that are met from there
 head_goes : (dia : Dialect) (m : Numbering) (p : Outline) (g : IsOutlineBy m p) (s : List ℕ) (r : Turn dia) (arms : List Arm) (xs : List Place) (from k inner fuel count labels labels' : ℕ) (ended ended' : Bool) (pre post : List Place)
-    → p.places ≡ pre ++ ((head_place dia m s r arms ∷ xs) ++ post) → length pre ≡ k → from ≤ k → k < m.last → is_known dia p.roles (head_of dia m s r) ≡ true → nested p.places inner k arms ≤ MOST_NESTING → is_none arms ≡ false → count ≡ suc k + length xs
+    → p.places ≡ pre ++ ((point_at dia m s r arms ∷ xs) ++ post) → length pre ≡ k → from ≤ k → k < m.last → is_known dia p.roles (head_of dia m s r) ≡ true → nested p.places inner k arms ≤ MOST_NESTING → is_none arms ≡ false → count ≡ suc k + length xs
     → arms_met (visited fuel dia p (nested p.places inner k arms)) m.last (suc k) arms (walk (suc k) labels ended) ≡ Some (walk count labels' ended') → list_any (place_leads k) post ≡ false
     → met (visited (suc fuel) dia p inner) m.last from k (walk k labels ended) ≡ Some (walk count labels' ended')
 head_goes dia m p g s r arms xs from k inner fuel count labels labels' ended ended' pre post e h le lt known shallow some size goes free =
-    let there : slice_get p.places k ≡ Some (head_place dia m s r arms) = at_seam p.places pre (head_place dia m s r arms) (xs ++ post) k e h in
+    let there : slice_get p.places k ≡ Some (point_at dia m s r arms) = at_seam p.places pre (point_at dia m s r arms) (xs ++ post) k e h in
     met_new (visited (suc fuel) dia p inner) m.last from k labels ended le lt
     ∙ visit_goes dia p fuel inner k (head_of dia m s r) arms (walk k labels ended) (walk count labels' ended') there
     (fit_is dia p.roles (nested p.places inner k arms) (head_of dia m s r) arms known shallow some)
     (ap (λ z. arms_met (visited fuel dia p (nested p.places inner k arms)) z (suc k) arms (walk (suc k) labels ended)) g.last ∙ goes)
-    (ap (list_any (place_leads k)) (drop_post p.places pre (head_place dia m s r arms ∷ xs) post count e (size ∙ (let z : length pre ≡ k = h in omega arith))) ∙ free)
+    (ap (list_any (place_leads k)) (drop_post p.places pre (point_at dia m s r arms ∷ xs) post count e (size ∙ (let z : length pre ≡ k = h in omega arith))) ∙ free)
 
 mutual
   pub goes : (dia : Dialect) (m : Numbering) (p : Outline) (g : IsOutlineBy m p) (base : ℕ) (b : Body dia) (fuel : ℕ) (bound : Bound) (here : Bool) (from k d inner : ℕ) (ended : Bool) (ls rest : List (List ℕ)) (pre post : List Place)
-      → p.places ≡ pre ++ (places_in dia m b bound k ++ post) → length pre ≡ k → from ≤ k → k + acts_in dia b ≤ m.last → acts_in dia b < fuel → d ≤ MOST_NESTING → inner ≤ d → (here ≡ true → inner < d) → body_fits dia b (scene m.names.roles bound d k ls) ≡ true → length ls ≤ MOST_LABELS
+      → p.places ≡ pre ++ (places_in m b bound k ++ post) → length pre ≡ k → from ≤ k → k + acts_in dia b ≤ m.last → acts_in dia b < fuel → d ≤ MOST_NESTING → inner ≤ d → (here ≡ true → inner < d) → body_fits dia b (scene m.names.roles bound d k ls) ≡ true → length ls ≤ MOST_LABELS
       → Recs dia (λ v. leads_from p.places v v) b here k → Named dia b bound k → Low bound k → Ins bound from k → m.names.labels ≡ grown (grown ls (labels_of dia b)) rest → ((v : ℕ) → k ≤ v → v < k + acts_in dia b → list_any (place_leads v) post ≡ false)
       → met (visited fuel dia p inner) m.last from (first_of dia b bound k m.last) (walk k (top base (length ls)) ended) ≡ Some (walk (k + acts_in dia b) (top base (length (grown ls (labels_of dia b)))) (ended || has_end dia b))
   goes dia m p g base ends fuel bound here from k d inner ended ls rest pre post e h le few fl du di dh fits room recs named low ins labels free =
@@ -202,12 +205,12 @@ mutual
       let depth : deeper (leads_from p.places k k) inner ≤ d = deeper_within (leads_from p.places k k) here inner d recs.0 di dh in
       let inner' : ℕ = deeper (leads_from p.places k k) inner in
       let all : List (List ℕ) = grown ls (l ∷ []) in
-      let x : Place = head_place dia m s r (a ∷ []) in
-      let size : length (places_in dia m b bound (suc k)) ≡ acts_in dia b = places_length dia m b bound (suc k) in
+      let x : Place = point_at dia m s r (a ∷ []) in
+      let size : length (places_in m b bound (suc k)) ≡ acts_in dia b = places_length m b bound (suc k) in
       let here_goes : met (visited f dia p inner') m.last (suc k) a.next (walk (suc k) (top base (length all)) ended) ≡ Some (walk (suc k + acts_in dia b) (top base (length (grown all (labels_of dia b)))) (ended || has_end dia b)) =
-      goes dia m p g base b f bound false (suc k) (suc k) d inner' ended all rest (pre ++ x ∷ []) post (e ∙ sym (append_assoc pre (x ∷ []) (places_in dia m b bound (suc k) ++ post))) (one_longer pre x k h) (omega arith) (omega arith) (omega arith) du depth (λ z. absurd (cc z)) q.1 more_room recs.1 named (low_up bound k (suc k) (omega arith) low) (λ x v i j. j) labels
+      goes dia m p g base b f bound false (suc k) (suc k) d inner' ended all rest (pre ++ x ∷ []) post (e ∙ sym (append_assoc pre (x ∷ []) (places_in m b bound (suc k) ++ post))) (one_longer pre x k h) (omega arith) (omega arith) (omega arith) du depth (λ z. absurd (cc z)) q.1 more_room recs.1 named (low_up bound k (suc k) (omega arith) low) (λ x v i j. j) labels
       (λ v lo hi. free v (omega arith) (omega arith)) in
-      head_goes dia m p g s r (a ∷ []) (places_in dia m b bound (suc k)) from k inner f (suc k + acts_in dia b) (top base (length ls)) (top base (length (grown all (labels_of dia b)))) ended (ended || has_end dia b) pre post e h le (omega arith) (head_known dia m p s r (scene m.names.roles bound d k ls) g refl q2.0) (omega arith) refl (omega arith)
+      head_goes dia m p g s r (a ∷ []) (places_in m b bound (suc k)) from k inner f (suc k + acts_in dia b) (top base (length ls)) (top base (length (grown all (labels_of dia b)))) ended (ended || has_end dia b) pre post e h le (omega arith) (head_known dia m p s r (scene m.names.roles bound d k ls) g refl q2.0) (omega arith) refl (omega arith)
       (one_goes (visited f dia p inner') m.last (suc k) a [] (walk (suc k) (top base (length ls)) ended) (walk (suc k) (top base (length all)) ended) (walk (suc k + acts_in dia b) (top base (length (grown all (labels_of dia b)))) (ended || has_end dia b))
       (label_goes base m.names.labels ls (labels_of dia b ++ rest) l (suc k) ended (labels ∙ sym (grown_append (labels_of dia b) rest all)) more_room) here_goes)
       (free k (omega arith) (omega arith))
@@ -221,17 +224,17 @@ mutual
       let depth : deeper (leads_from p.places k k) inner ≤ d = deeper_within (leads_from p.places k k) here inner d recs.0 di dh in
       let inner' : ℕ = nested p.places inner k ours in
       let deep : inner' ≤ suc d = braces_within (are_more ours) (deeper (leads_from p.places k k) inner) d depth in
-      let x : Place = head_place dia m s r ours in
-      let size : length (places_in_arms dia m arms bound (suc k)) ≡ acts_in_arms dia arms = arms_length dia m arms bound (suc k) in
+      let x : Place = point_at dia m s r ours in
+      let size : length (places_in_arms m arms bound (suc k)) ≡ acts_in_arms dia arms = arms_length m arms bound (suc k) in
       let here_goes : arms_met (visited f dia p inner') m.last (suc k) ours (walk (suc k) (top base (length ls)) ended) ≡ Some (walk (suc k + acts_in_arms dia arms) (top base (length (grown ls (labels_of_arms dia arms)))) (ended || has_end_arms dia arms)) =
-      arms_go dia m p g base arms f bound k (suc k) (suc d) inner' ended ls rest (pre ++ x ∷ []) post (e ∙ sym (append_assoc pre (x ∷ []) (places_in_arms dia m arms bound (suc k) ++ post))) (one_longer pre x k h) (omega arith) (omega arith) (omega arith) (omega arith) deep q.1 room recs.1 named low labels
+      arms_go dia m p g base arms f bound k (suc k) (suc d) inner' ended ls rest (pre ++ x ∷ []) post (e ∙ sym (append_assoc pre (x ∷ []) (places_in_arms m arms bound (suc k) ++ post))) (one_longer pre x k h) (omega arith) (omega arith) (omega arith) (omega arith) deep q.1 room recs.1 named low labels
       (λ v lo hi. free v (omega arith) (omega arith)) in
-      head_goes dia m p g s r ours (places_in_arms dia m arms bound (suc k)) from k inner f (suc k + acts_in_arms dia arms) (top base (length ls)) (top base (length (grown ls (labels_of_arms dia arms)))) ended (ended || has_end_arms dia arms) pre post e h le (omega arith) (head_known dia m p s r (scene m.names.roles bound d k ls) g refl q2.0) (omega arith) (some_arms dia m arms bound (suc k)) (omega arith) here_goes
+      head_goes dia m p g s r ours (places_in_arms m arms bound (suc k)) from k inner f (suc k + acts_in_arms dia arms) (top base (length ls)) (top base (length (grown ls (labels_of_arms dia arms)))) ended (ended || has_end_arms dia arms) pre post e h le (omega arith) (head_known dia m p s r (scene m.names.roles bound d k ls) g refl q2.0) (omega arith) (some_arms dia m arms bound (suc k)) (omega arith) here_goes
       (free k (omega arith) (omega arith))
       ∙ walk_is (suc k + acts_in_arms dia arms) (k + suc (acts_in_arms dia arms)) (top base (length (grown ls (labels_of_arms dia arms)))) (top base (length (grown ls (labels_of_arms dia arms)))) (ended || has_end_arms dia arms) (ended || has_end_arms dia arms) (omega arith) refl refl
 
   arms_go : (dia : Dialect) (m : Numbering) (p : Outline) (g : IsOutlineBy m p) (base : ℕ) (arms : Branches dia) (fuel : ℕ) (bound : Bound) (n k d inner : ℕ) (ended : Bool) (ls rest : List (List ℕ)) (pre post : List Place)
-      → p.places ≡ pre ++ (places_in_arms dia m arms bound k ++ post) → length pre ≡ k → n < k → k + acts_in_arms dia arms ≤ m.last → acts_in_arms dia arms < fuel → d ≤ MOST_NESTING → inner ≤ d → arms_fit dia arms (scene m.names.roles bound d k ls) ≡ true → length ls ≤ MOST_LABELS
+      → p.places ≡ pre ++ (places_in_arms m arms bound k ++ post) → length pre ≡ k → n < k → k + acts_in_arms dia arms ≤ m.last → acts_in_arms dia arms < fuel → d ≤ MOST_NESTING → inner ≤ d → arms_fit dia arms (scene m.names.roles bound d k ls) ≡ true → length ls ≤ MOST_LABELS
       → RecsArms dia (λ v. leads_from p.places v v) arms k → NamedArms dia arms bound k → Low bound n → m.names.labels ≡ grown (grown ls (labels_of_arms dia arms)) rest → ((v : ℕ) → k ≤ v → v < k + acts_in_arms dia arms → list_any (place_leads v) post ≡ false)
       → arms_met (visited fuel dia p inner) m.last (suc n) (arms_of dia m arms bound k) (walk k (top base (length ls)) ended) ≡ Some (walk (k + acts_in_arms dia arms) (top base (length (grown ls (labels_of_arms dia arms)))) (ended || has_end_arms dia arms))
   arms_go dia m p g base (one l sort b) fuel bound n k d inner ended ls rest pre post e h lt few fl du di fits room recs named low labels free =
@@ -255,8 +258,8 @@ mutual
       let first : m.names.labels ≡ grown later (labels_of_arms dia arms ++ rest) = parts ∙ sym (grown_append (labels_of_arms dia arms) rest later) in
       one_goes (visited fuel dia p inner) m.last (suc n) a (arms_of dia m arms bound j) (walk k (top base (length ls)) ended) (walk k (top base (length all)) ended) (walk j (top base (length later)) (ended || has_end dia b))
       (label_goes base m.names.labels ls (labels_of dia b ++ (labels_of_arms dia arms ++ rest)) l k ended (first ∙ sym (grown_append (labels_of dia b) (labels_of_arms dia arms ++ rest) all)) more_room)
-      (goes dia m p g base b fuel bound false (suc n) k d inner ended all (labels_of_arms dia arms ++ rest) pre (places_in_arms dia m arms bound j ++ post) (e ∙ ap (λ z. pre ++ z) (append_assoc (places_in dia m b bound k) (places_in_arms dia m arms bound j) post)) h (omega arith) (omega arith) (omega arith) du di (λ z. absurd (cc z)) q.1 more_room recs.0 named.0 (low_up bound n k (omega arith) low) (λ x v i c. let z : v < n + 1 = low x v i in omega arith) first
-      (λ v lo hi. list_any-append (place_leads v) (places_in_arms dia m arms bound j) post ∙ false_or (list_any (place_leads v) (places_in_arms dia m arms bound j)) (list_any (place_leads v) post) (arm_places_else dia m arms bound j v named.1 (low_unbound bound n v low (omega arith)) hi (omega arith)) (free v lo (omega arith))))
-      ∙ arms_go dia m p g base arms fuel bound n j d inner (ended || has_end dia b) later rest (pre ++ places_in dia m b bound k) post (e ∙ ap (λ z. pre ++ z) (append_assoc (places_in dia m b bound k) (places_in_arms dia m arms bound j) post) ∙ sym (append_assoc pre (places_in dia m b bound k) (places_in_arms dia m arms bound j ++ post)))
-      (length-append pre (places_in dia m b bound k) ∙ ap (λ z. z + length (places_in dia m b bound k)) h ∙ ap (λ z. k + z) (places_length dia m b bound k)) (omega arith) (omega arith) (omega arith) du di q0.1 later_room recs.1 named.1 low parts (λ v lo hi. free v (omega arith) (omega arith))
+      (goes dia m p g base b fuel bound false (suc n) k d inner ended all (labels_of_arms dia arms ++ rest) pre (places_in_arms m arms bound j ++ post) (e ∙ ap (λ z. pre ++ z) (append_assoc (places_in m b bound k) (places_in_arms m arms bound j) post)) h (omega arith) (omega arith) (omega arith) du di (λ z. absurd (cc z)) q.1 more_room recs.0 named.0 (low_up bound n k (omega arith) low) (λ x v i c. let z : v < n + 1 = low x v i in omega arith) first
+      (λ v lo hi. list_any-append (place_leads v) (places_in_arms m arms bound j) post ∙ false_or (list_any (place_leads v) (places_in_arms m arms bound j)) (list_any (place_leads v) post) (arm_places_else dia m arms bound j v named.1 (low_unbound bound n v low (omega arith)) hi (omega arith)) (free v lo (omega arith))))
+      ∙ arms_go dia m p g base arms fuel bound n j d inner (ended || has_end dia b) later rest (pre ++ places_in m b bound k) post (e ∙ ap (λ z. pre ++ z) (append_assoc (places_in m b bound k) (places_in_arms m arms bound j) post) ∙ sym (append_assoc pre (places_in m b bound k) (places_in_arms m arms bound j ++ post)))
+      (length-append pre (places_in m b bound k) ∙ ap (λ z. z + length (places_in m b bound k)) h ∙ ap (λ z. k + z) (places_length m b bound k)) (omega arith) (omega arith) (omega arith) du di q0.1 later_room recs.1 named.1 low parts (λ v lo hi. free v (omega arith) (omega arith))
       ∙ walk_is (j + acts_in_arms dia arms) (k + (acts_in dia b + acts_in_arms dia arms)) (top base (length (grown later (labels_of_arms dia arms)))) (top base (length (grown all (labels_of dia b ++ labels_of_arms dia arms)))) ((ended || has_end dia b) || has_end_arms dia arms) (ended || (has_end dia b || has_end_arms dia arms)) (omega arith) (ap (λ z. top base (length z)) (sym (grown_append (labels_of dia b) (labels_of_arms dia arms) all))) (or_assoc ended (has_end dia b) (has_end_arms dia arms))

@@ -32,8 +32,8 @@ use Rattle.rs_bodies.specs.Points.{head_of}
 use Rattle.rs_bodies.specs.Shapes.{leads_to, place_leads, leads_from, last_of, labelled, met, or_none, arms_met, closed, deeper, are_more, nested, is_known, is_fit, one_more, Outline, place_met, visited, to_end}
 use Rattle.rs_bodies.specs.Trees.{Body, again, ends, Branches, one, more}
 use Rattle.rs_bodies.specs.Writable.{IsWordInTurn, AreWordsIn, AreWordsInArms}
-use Rattle.rs_bodies.proofs.ShapeForms.{scene, places_in, places_in_arms}
-use Rattle.rs_bodies.proofs.ShapeTrees.{place_name_is, wrapped, offered, opened_for, wrapped_fits, wrapped_heads, offered_heads, wrapped_end, offered_end, wrapped_labels, offered_labels, wrapped_places, wrapped_first, offered_places, offered_first, one_words}
+use Rattle.rs_bodies.proofs.PlacesIn.{places_in, places_in_arms}
+use Rattle.rs_bodies.proofs.Wrapped.{scene, place_name_is, wrapped, offered, opened_for, wrapped_fits, wrapped_acts, offered_acts, wrapped_end, offered_end, wrapped_labels, offered_labels, wrapped_places, wrapped_first, offered_places, offered_first, one_words}
 
 -- ---- cases of options
 
@@ -92,7 +92,7 @@ Closed p from count = (v : ℕ) → from ≤ v → v < count → leads_from p.pl
 pub record Grown (dia : Dialect) (p : Outline) (bound : Bound) (depth : ℕ) (w u : Walk) (to : ℕ) : Type 0 where
   pub body : Body dia
   pub first : first_of dia body bound w.count (last_of p.places) ≡ to
-  pub parts : (n : ℕ) → u.labels ≤ n → n ≤ MOST_LABELS → drop w.count p.places ≡ places_in dia (numbers p n) body bound w.count ++ drop u.count p.places
+  pub parts : (n : ℕ) → u.labels ≤ n → n ≤ MOST_LABELS → drop w.count p.places ≡ places_in (numbers p n) body bound w.count ++ drop u.count p.places
   pub counts : w.count + acts_in dia body ≡ u.count
   pub labels : grown (plain_names 108 w.labels) (labels_of dia body) ≡ plain_names 108 u.labels
   pub ended : u.ended ≡ (w.ended || has_end dia body)
@@ -110,7 +110,7 @@ two dia (more l sort b arms) = true
 record GrownArms (dia : Dialect) (p : Outline) (bound : Bound) (depth : ℕ) (w u : Walk) (arms : List Arm) : Type 0 where
   branches : Branches dia
   are : (n : ℕ) → u.labels ≤ n → n ≤ MOST_LABELS → arms_of dia (numbers p n) branches bound w.count ≡ arms
-  parts : (n : ℕ) → u.labels ≤ n → n ≤ MOST_LABELS → drop w.count p.places ≡ places_in_arms dia (numbers p n) branches bound w.count ++ drop u.count p.places
+  parts : (n : ℕ) → u.labels ≤ n → n ≤ MOST_LABELS → drop w.count p.places ≡ places_in_arms (numbers p n) branches bound w.count ++ drop u.count p.places
   counts : w.count + acts_in_arms dia branches ≡ u.count
   labels : grown (plain_names 108 w.labels) (labels_of_arms dia branches) ≡ plain_names 108 u.labels
   ended : u.ended ≡ (w.ended || has_end_arms dia branches)
@@ -319,8 +319,8 @@ more_grown dia p bound depth a b bs w v x u l g r =
           ap (λ z. z ∷ arms_of dia (numbers p n) r.branches bound (w.count + acts_in dia g.body)) (arm_is p n a (first_of dia g.body bound w.count (last_of p.places)) (omega arith) small g.first)
           ∙ ap (λ z. a ∷ arms_of dia (numbers p n) r.branches bound z) counts ∙ ap (λ z. a ∷ z) (r.are n le small);
       parts = λ n le small.
-          g.parts n (omega arith) small ∙ ap (λ z. places_in dia (numbers p n) g.body bound w.count ++ z) (r.parts n le small ∙ ap (λ z. places_in_arms dia (numbers p n) r.branches bound z ++ drop u.count p.places) (sym counts))
-          ∙ sym (append_assoc (places_in dia (numbers p n) g.body bound w.count) (places_in_arms dia (numbers p n) r.branches bound (w.count + acts_in dia g.body)) (drop u.count p.places));
+          g.parts n (omega arith) small ∙ ap (λ z. places_in (numbers p n) g.body bound w.count ++ z) (r.parts n le small ∙ ap (λ z. places_in_arms (numbers p n) r.branches bound z ++ drop u.count p.places) (sym counts))
+          ∙ sym (append_assoc (places_in (numbers p n) g.body bound w.count) (places_in_arms (numbers p n) r.branches bound (w.count + acts_in dia g.body)) (drop u.count p.places));
       counts = omega arith;
       labels = grown_append (labels_of dia g.body) (labels_of_arms dia r.branches) (grown (plain_names 108 w.labels) (plain_name 108 a.label.0 ∷ [])) ∙ ap (λ z. grown z (labels_of_arms dia r.branches)) labels ∙ r.labels;
       ended = r.ended ∙ ap (λ z. z || has_end_arms dia r.branches) g.ended ∙ or_assoc w.ended (has_end dia g.body) (has_end_arms dia r.branches);
@@ -369,7 +369,7 @@ opened_names true n v bound a b f g = elim (true_or_false (bytes_eq (name_of_pla
 ]
 opened_names false n v bound a b f g = f (λ same. cc (g same))
 
-offered_fits : (dia : Dialect) (b : Branches dia) (s : List ℕ) (r : Turn dia) (roles : List (List ℕ)) (bound : Bound) (d k : ℕ) (ls : List (List ℕ)) → head_fits dia s r (scene roles bound d k ls) ≡ true → deeper (two dia b) d ≤ MOST_NESTING → arms_fit dia b (scene roles bound (deeper (two dia b) d) (suc k) ls) ≡ true → body_fits dia (offered dia s r b) (scene roles bound d k ls) ≡ true
+offered_fits : (dia : Dialect) (b : Branches dia) (s : List ℕ) (r : Turn dia) (roles : List (List ℕ)) (bound : Bound) (d k : ℕ) (ls : List (List ℕ)) → head_fits dia s r (scene roles bound d k ls) ≡ true → deeper (two dia b) d ≤ MOST_NESTING → arms_fit dia b (scene roles bound (deeper (two dia b) d) (suc k) ls) ≡ true → body_fits dia (offered s r b) (scene roles bound d k ls) ≡ true
 offered_fits dia (one l sort b) s r roles bound d k ls known low h =
     let q = both (has_room_for l (scene roles bound d (suc k) ls)) (body_fits dia b (scene roles bound d (suc k) (grown ls (l ∷ [])))) h in
     two_true (head_fits dia s r (scene roles bound d k ls) && has_room_for l (scene roles bound d k ls)) (body_fits dia b (scene roles bound d (suc k) (grown ls (l ∷ []))))
@@ -378,7 +378,7 @@ offered_fits dia (more l sort b arms) s r roles bound d k ls known low h =
     two_true (head_fits dia s r (scene roles bound d k ls) && nat_lt d MOST_NESTING) (arms_fit dia (more l sort b arms) (scene roles bound (suc d) (suc k) ls))
     (two_true (head_fits dia s r (scene roles bound d k ls)) (nat_lt d MOST_NESTING) known (lt-ltb d MOST_NESTING (omega arith))) h
 
-offered_words : (dia : Dialect) (b : Branches dia) (s : List ℕ) (r : Turn dia) → is_role_word s ≡ true → IsWordInTurn dia r → AreWordsInArms dia b → AreWordsIn dia (offered dia s r b)
+offered_words : (dia : Dialect) (b : Branches dia) (s : List ℕ) (r : Turn dia) → is_role_word s ≡ true → IsWordInTurn dia r → AreWordsInArms dia b → AreWordsIn dia (offered s r b)
 offered_words dia (one l sort b) s r x y h = (x, y, h.0, h.1)
 offered_words dia (more l sort b arms) s r x y h = (x, y, h)
 
@@ -442,23 +442,23 @@ head_grown dia p bound depth h a arms w u small there known lt low free g =
     let within : last_of p.places ≤ most dia = small.last in
     let x : Headed dia p h = headed dia p h small.roles known in
     let roles : List (List ℕ) = plain_names 82 p.roles in
-    let whole : Body dia = offered dia x.first x.turn g.branches in
+    let whole : Body dia = offered x.first x.turn g.branches in
     let counts : suc w.count + acts_in_arms dia g.branches ≡ u.count = g.counts in
-    let size : acts_in dia (wrapped dia c n whole) ≡ suc (acts_in_arms dia g.branches) = wrapped_heads dia c n whole ∙ offered_heads dia x.first x.turn g.branches in
+    let size : acts_in dia (wrapped c n whole) ≡ suc (acts_in_arms dia g.branches) = wrapped_acts c n whole ∙ offered_acts x.first x.turn g.branches in
     record {
-      body = wrapped dia c n whole;
-      first = wrapped_first dia (last_of p.places) c n whole bound ∙ offered_first dia (last_of p.places) x.first x.turn g.branches inner n;
+      body = wrapped c n whole;
+      first = wrapped_first (last_of p.places) c n whole bound ∙ offered_first (last_of p.places) x.first x.turn g.branches inner n;
       parts = λ k le small'.
           drop_at p.places n (choice h (a ∷ arms)) there ∙ ap (λ z. choice h (a ∷ arms) ∷ z) (g.parts k le small')
-          ∙ ap (λ z. z ++ drop u.count p.places) (sym (wrapped_places dia (numbers p k) c n whole bound ∙ offered_places dia (numbers p k) x.first x.turn g.branches inner n
-          ∙ ap (λ z. z ∷ places_in_arms dia (numbers p k) g.branches inner (suc n)) (ap (λ z. choice z (arms_of dia (numbers p k) g.branches inner (suc n))) (x.is k) ∙ ap (choice h) (g.are k le small'))));
+          ∙ ap (λ z. z ++ drop u.count p.places) (sym (wrapped_places (numbers p k) c n whole bound ∙ offered_places (numbers p k) x.first x.turn g.branches inner n
+          ∙ ap (λ z. z ∷ places_in_arms (numbers p k) g.branches inner (suc n)) (ap (λ z. choice z (arms_of dia (numbers p k) g.branches inner (suc n))) (x.is k) ∙ ap (choice h) (g.are k le small'))));
       counts = omega arith;
-      labels = ap (λ z. grown (plain_names 108 w.labels) z) (wrapped_labels dia c n whole ∙ offered_labels dia x.first x.turn g.branches) ∙ g.labels;
-      ended = g.ended ∙ ap (λ z. w.ended || z) (sym (wrapped_end dia c n whole ∙ offered_end dia x.first x.turn g.branches));
-      fits = wrapped_fits dia c n whole roles bound depth (plain_names 108 w.labels) (shallower c (are_more (a ∷ arms)) depth low)
+      labels = ap (λ z. grown (plain_names 108 w.labels) z) (wrapped_labels c n whole ∙ offered_labels x.first x.turn g.branches) ∙ g.labels;
+      ended = g.ended ∙ ap (λ z. w.ended || z) (sym (wrapped_end c n whole ∙ offered_end x.first x.turn g.branches));
+      fits = wrapped_fits c n whole roles bound depth (plain_names 108 w.labels) (shallower c (are_more (a ∷ arms)) depth low)
           (offered_fits dia g.branches x.first x.turn roles inner (deeper c depth) n (plain_names 108 w.labels) (x.fits inner (deeper c depth) n (plain_names 108 w.labels) (omega arith))
           (subst (λ (z : Bool). deeper z (deeper c depth) ≤ MOST_NESTING) (sym g.shape) low) (subst (λ (z : Bool). arms_fit dia g.branches (scene roles inner (deeper z (deeper c depth)) (suc n) (plain_names 108 w.labels)) ≡ true) (sym g.shape) g.fits));
-      words = one_words dia c n whole (omega arith) (offered_words dia g.branches x.first x.turn x.word x.turn_word g.words);
+      words = one_words c n whole (omega arith) (offered_words dia g.branches x.first x.turn x.word x.turn_word g.words);
       shut = λ v lo hi. elim (eqb_tells v n) [
         | inl e ↦ ap (λ z. leads_from p.places u.count z) e.1 ∙ free
         | inr e ↦ (let ne : v ≢ n = e.1 in g.shut v (omega arith) hi)

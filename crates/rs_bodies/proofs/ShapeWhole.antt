@@ -29,10 +29,10 @@ use Rattle.rs_bodies.specs.Scenes.{first_scene}
 use Rattle.rs_bodies.specs.Shapes.{place_leads, leads_from, is_end_at, ends_last, last_of, met, Outline, visited, same_bool, is_whole, begin, walk_from, is_walked}
 use Rattle.rs_bodies.specs.Trees.{Body}
 use Rattle.rs_bodies.proofs.Fitting.{fits_named, Recs, fits_heads, Named}
-use Rattle.rs_bodies.proofs.ShapeForms.{places_in, places_are, places_length}
+use Rattle.rs_bodies.proofs.PlacesIn.{places_in, places_are, places_length}
 use Rattle.rs_bodies.proofs.ShapeGoes.{top, top_base, goes}
 use Rattle.rs_bodies.proofs.ShapeGrown.{Small, Grown, numbers, met_grown, visited_grown}
-use Rattle.rs_bodies.proofs.ShapeRecs.{body_recs}
+use Rattle.rs_bodies.proofs.Recs.{body_recs}
 
 -- ---- the end of a graph
 
@@ -101,9 +101,9 @@ body_walked dia old b roles labels places fits few_roles few_labels room e =
     let p : Outline = outlined roles places in
     let c : Bool = has_end dia b in
     let points : List Point_data = points_of dia m b [] 0 in
-    let same : map place.Point points ≡ places_in dia m b [] 0 = places_are dia m b [] 0 in
-    let all : places ≡ places_in dia m b [] 0 ++ end_of c = e ∙ ap (λ z. z ++ end_of c) same in
-    let size : length (map place.Point points) ≡ acts_in dia b = ap length same ∙ places_length dia m b [] 0 in
+    let same : map place.Point points ≡ places_in m b [] 0 = places_are m b [] 0 in
+    let all : places ≡ places_in m b [] 0 ++ end_of c = e ∙ ap (λ z. z ++ end_of c) same in
+    let size : length (map place.Point points) ≡ acts_in dia b = ap length same ∙ places_length m b [] 0 in
     let last : last_of places ≡ acts_in dia b = ap last_of e ∙ last_as points c ∙ size in
     let few : 0 + acts_in dia b ≤ most dia = fits_heads dia b (first_scene old.roles old.labels) fits (omega arith) in
     let named : Named dia b [] 0 = fits_named dia b (first_scene old.roles old.labels) fits in
@@ -192,9 +192,9 @@ walked_body dia p start labels few room w =
       spells = record {
         fits = g.fits;
         places_are = g.parts w.end.labels (omega arith) g.room
-            ∙ ap (λ z. places_in dia (numbers p w.end.labels) g.body [] 0 ++ z) (ap (λ z. drop z p.places) count ∙ drop_last p.places ∙ ap end_of (sym end))
-            ∙ ap (λ z. places_in dia z g.body [] 0 ++ end_of (has_end dia g.body)) (sym same)
-            ∙ ap (λ z. z ++ end_of (has_end dia g.body)) (sym (places_are dia (numbered dia old g.body) g.body [] 0));
+            ∙ ap (λ z. places_in (numbers p w.end.labels) g.body [] 0 ++ z) (ap (λ z. drop z p.places) count ∙ drop_last p.places ∙ ap end_of (sym end))
+            ∙ ap (λ z. places_in z g.body [] 0 ++ end_of (has_end dia g.body)) (sym same)
+            ∙ ap (λ z. z ++ end_of (has_end dia g.body)) (sym (places_are (numbered dia old g.body) g.body [] 0));
         start_is = sym g.first ∙ ap (λ z. first_of dia g.body [] 0 z) (sym heads_are);
       };
     }

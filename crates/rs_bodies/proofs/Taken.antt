@@ -1,18 +1,15 @@
 -- The reader of a machine has the labels of the tokens that it took.
-use Rattle.std.proofs.Common.{◌≡◌, ◌∙◌, ℕ, ◌≤◌, List, [], ◌∷◌, ◌++◌, length, true, false, Ok, refl, sym, ap, subst, append_assoc, append-nil}
+use Rattle.std.proofs.Common.{◌≡◌, ◌∙◌, ℕ, ◌≤◌, List, [], ◌∷◌, ◌++◌, length, false, Ok, refl, sym, ap, subst, append_assoc}
 use Rattle.std.proofs.lemmas.List.{map-append}
-use Rattle.rs_model.specs.Data.{Names_data}
 use Rattle.rs_text.specs.Data.{Lexer_data}
 use Rattle.rs_text.specs.Lexemes.{Lexeme, Lexed, next_lexeme, lexeme_of, sign_of, signs_of, text_of, is_last}
-use Rattle.rs_text.specs.Names.{grown}
 use Rattle.rs_text.specs.Readings.{feed_sign}
 use Rattle.rs_text.specs.Signs.{Sign}
 use Rattle.rs_text.specs.declared.tokens.Token.{Token}
 use Rattle.rs_text.proofs.Keeping.{tokens}
-use Rattle.rs_text.proofs.Standing.{StopsAtEnd, more_if, whole}
+use Rattle.rs_text.proofs.Standing.{more_if, whole}
 use Rattle.rs_bodies.specs.Data.{Reader_data}
 use Rattle.rs_bodies.specs.Drafts.{names_read}
-use Rattle.rs_bodies.specs.Faults.{labels_among}
 use Rattle.rs_bodies.specs.Feeding.{HasLabels, begin, feeding}
 use Rattle.rs_bodies.specs.declared.dialects.Dialect.{Dialect}
 use Rattle.rs_bodies.specs.declared.dialects.Dialect.TheVariants.{Talks, Acts}

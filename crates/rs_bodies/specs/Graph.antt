@@ -8,6 +8,7 @@ use Rattle.rs_model.specs.declared.values.Sort.{Sort}
 use Rattle.rs_text.specs.Arms.{sort_or_unit}
 use Rattle.rs_text.specs.Names.{number_or, place_of, Bound, bound_to}
 use Rattle.rs_bodies.specs.declared.dialects.Dialect.{Dialect}
+use Rattle.rs_bodies.specs.Dialects.{Turn}
 use Rattle.rs_bodies.specs.Trees.{Body, ends, again, binds, acts, offers, Branches, one, more}
 
 -- the labels of a body, in order of text
@@ -79,3 +80,16 @@ arm_of n l sort next = record { label = label_of n l; sort = sort_or_unit sort; 
 abbrev pub arms_of : (d : Dialect) → Numbering → Branches d → Bound → ℕ → List Arm
 arms_of d n (one l sort body) bound count = arm_of n l sort (first_of d body bound count n.last) ∷ []
 arms_of d n (more l sort body arms) bound count = arm_of n l sort (first_of d body bound count n.last) ∷ arms_of d n arms bound (count + acts_in d body)
+
+-- what is made of the heads of a body, in order of text, each of its first word, its turn and its arms
+abbrev mutual
+  pub heads_of : {X : Type 0} (d : Dialect) → (made : List ℕ → Turn d → List Arm → X) → Numbering → Body d → Bound → ℕ → List X
+  heads_of d made n ends bound count = []
+  heads_of d made n (again name) bound count = []
+  heads_of d made n (binds name body) bound count = heads_of d made n body ((name, count) ∷ bound) count
+  heads_of d made n (acts p t l sort body) bound count = made p t (arm_of n l sort (first_of d body bound (suc count) n.last) ∷ []) ∷ heads_of d made n body bound (suc count)
+  heads_of d made n (offers p t arms) bound count = made p t (arms_of d n arms bound (suc count)) ∷ heads_in d made n arms bound (suc count)
+
+  pub heads_in : {X : Type 0} (d : Dialect) → (made : List ℕ → Turn d → List Arm → X) → Numbering → Branches d → Bound → ℕ → List X
+  heads_in d made n (one l sort body) bound count = heads_of d made n body bound count
+  heads_in d made n (more l sort body arms) bound count = heads_of d made n body bound count ++ heads_in d made n arms bound (count + acts_in d body)

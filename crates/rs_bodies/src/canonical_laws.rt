@@ -1,6 +1,7 @@
 // What the definitions of canonical bodies say together, in either dialect. The functions do nothing: each states a law.
 ghost use Rattle.std.specs.Prelude.{◌≡◌, ◌<◌, ◌≤◌, ◌+◌, ◌++◌, ℕ, List, Some, drop, length, slice_get, true};
 ghost use Rattle.rs_model.specs.Data.{Names_data};
+ghost use Rattle.rs_model.specs.declared.limits.TheConstants.{MOST_TALKS};
 ghost use Rattle.rs_text.specs.Lexemes.{next_lexeme};
 ghost use Rattle.rs_text.specs.Names.{is_among};
 ghost use Rattle.rs_text.specs.Words.{is_role_word};
@@ -38,7 +39,7 @@ pub fn text_of_a_part_spells_it()
 
 /// The name of a place can be a recursion name.
 pub fn place_name_is_a_word()
-    ensures { (n : ℕ) → n ≤ 1024 → is_role_word (name_of_place n) ≡ true }
+    ensures { (n : ℕ) → n ≤ MOST_TALKS → is_role_word (name_of_place n) ≡ true }
 {}
 
 /// A canonical body is one by names with other labels too, where its labels have the numbers that they had.

@@ -1,4 +1,5 @@
 ghost use Rattle.std.specs.Prelude.{◌≡◌, ◌<◌, ◌≤◌, ◌^◌, ◌+◌, ◌++◌, ◌∷◌, [], List, ℕ, drop, false, get_or, length, replicate, slice_get, IfNone, IfOk, IfSome, None, OnOk};
+ghost use Rattle.rs_model.specs.declared.limits.TheConstants.{MOST_TALKS};
 ghost use Rattle.rs_text.specs.Names.{name_at};
 ghost use Rattle.rs_text.specs.Arms.{shown_sort, shown_text};
 ghost use Rattle.rs_bodies.specs.Canonical.{Draws, IsSpelt};
@@ -40,7 +41,7 @@ impl<'a> Model for Brace<'a> {
 
 /// For each place whether an arm of it or of a later one leads to it.
 fn gone_back_to<G: Numbered>(alloc: Global, graph: &G) -> Result<Vec<bool>, NoMemory>
-    requires { length (G.places graph.now) ≤ 1025 }
+    requires { length (G.places graph.now) ≤ MOST_TALKS + 1 }
     ensures { IfOk result (λ flags. flags.items ≡ spec.back_flags (G.places graph.now)) }
 {
     let mut flags = vec![in alloc; false; graph.size()]?;
@@ -49,7 +50,7 @@ fn gone_back_to<G: Numbered>(alloc: Global, graph: &G) -> Result<Vec<bool>, NoMe
 }
 
 fn mark_all<G: Numbered>(flags: &mut [bool], graph: &G)
-    requires { length (G.places graph.now) ≤ 1025 }
+    requires { length (G.places graph.now) ≤ MOST_TALKS + 1 }
     ensures { flags.new ≡ marked_all 0 (G.places graph.now) flags.old }
 {
     let size = graph.size();

@@ -1,4 +1,4 @@
--- The names of a canonical tree have the numbers of those that were read.
+-- The names that are written instead have the numbers of those that were read, and sound names are words that differ.
 use Rattle.std.proofs.Common.{◌≡◌, ℕ, List, true, ◌&&◌, Some}
 use Rattle.std.specs.List.{list_all}
 use Rattle.rs_model.specs.Data.{Names_data}

@@ -9,11 +9,13 @@ use Rattle.rs_bodies.specs.declared.dialects.Dialect.{Dialect}
 use Rattle.rs_bodies.specs.declared.places.Place.{Place}
 use Rattle.rs_bodies.specs.declared.places.Place.TheVariants as place
 use Rattle.rs_bodies.specs.Graph.{acts_in, acts_in_arms, Numbering, first_of, arm_of, arms_of}
-use Rattle.rs_bodies.specs.Places.{end_of}
+use Rattle.rs_bodies.specs.Places.{choice, end_of, IsGoneBackTo}
 use Rattle.rs_bodies.specs.Shapes.{leads_to, place_leads, leads_from}
 use Rattle.rs_bodies.specs.Trees.{Body, ends, again, binds, acts, offers, Branches, one, more}
 use Rattle.rs_bodies.proofs.Fitting.{good_behind, rec_at, recs_at, Recs, at_self, at_later, in_first, in_rest, recs_stand, NamesGood, same_name, lead_good, Named, NamedArms}
-use Rattle.rs_bodies.proofs.ShapeForms.{places_in, places_in_arms, places_length, Low, low_rec, low_up}
+use Rattle.rs_bodies.proofs.BackFlags.{goes_back, back_is}
+use Rattle.rs_bodies.proofs.NamesLead.{Low, low_rec, low_up}
+use Rattle.rs_bodies.proofs.PlacesIn.{places_in, places_in_arms, places_length}
 
 -- ---- an arm that goes back leads to such a head
 
@@ -51,7 +53,7 @@ more_good good n a arms f g (suc index) arm e le = g index arm e le
 
 mutual
   backs : (dia : Dialect) (m : Numbering) (good : ℕ → Bool) (t : Body dia) (bound : Bound) (here : Bool) (k : ℕ) → k + acts_in dia t ≤ m.last → Named dia t bound k → Low bound k → ((v : ℕ) → k ≤ v → v < k + acts_in dia t → rec_at dia t here k v ≡ true → good v ≡ true)
-      → ((x : List ℕ) (v : ℕ) → bound_to x bound ≡ Some v → v < k → good v ≡ true) → ((x : List ℕ) (v : ℕ) → bound_to x bound ≡ Some v → v ≡ k → here ≡ true) → Backs good k (places_in dia m t bound k)
+      → ((x : List ℕ) (v : ℕ) → bound_to x bound ≡ Some v → v < k → good v ≡ true) → ((x : List ℕ) (v : ℕ) → bound_to x bound ≡ Some v → v ≡ k → here ≡ true) → Backs good k (places_in m t bound k)
   backs dia m good ends bound here k end named low f before at = tt
   backs dia m good (again x) bound here k end named low f before at = tt
   backs dia m good (binds x b) bound here k end named low f before at =
@@ -75,11 +77,11 @@ mutual
       more_good good n (arm_of m l sort (first_of dia b bound j m.last)) (arms_of dia m arms bound (j + acts_in dia b)) (lead_good dia good b bound n j m.last named.0 names lt (omega arith)) (arms_good dia m good arms bound n (j + acts_in dia b) (omega arith) (omega arith) named.1 names)
 
   backs_arms : (dia : Dialect) (m : Numbering) (good : ℕ → Bool) (arms : Branches dia) (bound : Bound) (n j : ℕ) → n < j → j + acts_in_arms dia arms ≤ m.last → NamedArms dia arms bound j → Low bound n → ((v : ℕ) → j ≤ v → v < j + acts_in_arms dia arms → recs_at dia arms j v ≡ true → good v ≡ true) → NamesGood good bound n
-      → Backs good j (places_in_arms dia m arms bound j)
+      → Backs good j (places_in_arms m arms bound j)
   backs_arms dia m good (one l sort b) bound n j lt end named low f names =
       backs dia m good b bound false j end named (low_up bound n j (omega arith) low) f (λ x v e i. let le : v < n + 1 = low x v e in names x v e (omega arith)) (λ x v e same. let le : v < n + 1 = low x v e in absurd (omega arith))
   backs_arms dia m good (more l sort b arms) bound n j lt end named low f names =
-      backs_append good (places_in dia m b bound j) (places_in_arms dia m arms bound (j + acts_in dia b)) j (j + acts_in dia b) (ap (λ z. j + z) (places_length dia m b bound j))
+      backs_append good (places_in m b bound j) (places_in_arms m arms bound (j + acts_in dia b)) j (j + acts_in dia b) (ap (λ z. j + z) (places_length m b bound j))
       (backs dia m good b bound false j (omega arith) named.0 (low_up bound n j (omega arith) low) (λ v le i h. f v le (omega arith) (in_first v (j + acts_in dia b) (rec_at dia b false j v) (recs_at dia arms (j + acts_in dia b) v) i ∙ h)) (λ x v e i. let le : v < n + 1 = low x v e in names x v e (omega arith)) (λ x v e same. let le : v < n + 1 = low x v e in absurd (omega arith)))
       (backs_arms dia m good arms bound n (j + acts_in dia b) (omega arith) (omega arith) named.1 low (λ v le i h. f v (omega arith) (omega arith) (in_rest v (j + acts_in dia b) (rec_at dia b false j v) (recs_at dia arms (j + acts_in dia b) v) le ∙ h)) names)
 
@@ -94,13 +96,31 @@ led_good good n v (place.Point p) le h k =
     let same : f.1.next ≡ v = eqb-true f.1.next v f.3 in
     subst (λ (z : ℕ). good z ≡ true) same (k f.0 f.1 f.2 (subst (λ (z : ℕ). z ≤ n) (sym same) le))
 
+-- the places of a body, and its end
+all_back : (dia : Dialect) (m : Numbering) (t : Body dia) (c : Bool) → m.last ≡ acts_in dia t → Named dia t [] 0 → Backs (rec_at dia t false 0) 0 (places_in m t [] 0 ++ end_of c)
+all_back dia m t c last named =
+    let good : ℕ → Bool = rec_at dia t false 0 in
+    backs_append good (places_in m t [] 0) (end_of c) 0 (0 + length (places_in m t [] 0)) refl
+    (backs dia m good t [] false 0 (omega arith) named (λ x v h. absurd (cc h)) (λ v le lt h. h) (λ x v h lt. absurd (cc h)) (λ x v h same. absurd (cc h))) (end_backs good (0 + length (places_in m t [] 0)) c)
+
 -- a rec stands in front of each head of the body that is gone back to among its places
-pub body_recs : (dia : Dialect) (m : Numbering) (places : List Place) (t : Body dia) (c : Bool) → places ≡ places_in dia m t [] 0 ++ end_of c → m.last ≡ acts_in dia t → Named dia t [] 0 → Recs dia (λ v. leads_from places v v) t false 0
+pub body_recs : (dia : Dialect) (m : Numbering) (places : List Place) (t : Body dia) (c : Bool) → places ≡ places_in m t [] 0 ++ end_of c → m.last ≡ acts_in dia t → Named dia t [] 0 → Recs dia (λ v. leads_from places v v) t false 0
 body_recs dia m places t c e last named =
     let good : ℕ → Bool = rec_at dia t false 0 in
-    let all : Backs good 0 (places_in dia m t [] 0 ++ end_of c) = backs_append good (places_in dia m t [] 0) (end_of c) 0 (0 + length (places_in dia m t [] 0)) refl
-    (backs dia m good t [] false 0 (omega arith) named (λ x v h. absurd (cc h)) (λ v le lt h. h) (λ x v h lt. absurd (cc h)) (λ x v h same. absurd (cc h))) (end_backs good (0 + length (places_in dia m t [] 0)) c) in
+    let all : Backs good 0 (places_in m t [] 0 ++ end_of c) = all_back dia m t c last named in
     recs_stand dia (λ v. leads_from places v v) t false 0 (λ v h le lt.
     let f = any_stands Place (place_leads v) (drop v places) h in
     let there : slice_get places (v + f.0) ≡ Some f.1 = sym (drop_get Place v places f.0) ∙ f.2 in
-    led_good good (0 + (v + f.0)) v f.1 (omega arith) f.3 (backs_at good (places_in dia m t [] 0 ++ end_of c) 0 (v + f.0) f.1 all (ap (λ z. slice_get z (v + f.0)) (sym e) ∙ there)))
+    led_good good (0 + (v + f.0)) v f.1 (omega arith) f.3 (backs_at good (places_in m t [] 0 ++ end_of c) 0 (v + f.0) f.1 all (ap (λ z. slice_get z (v + f.0)) (sym e) ∙ there)))
+
+-- .. and by the flags of its places
+pub tree_recs : {dia : Dialect} (m : Numbering) (p : List Place) (t : Body dia) (c : Bool) → p ≡ places_in m t [] 0 ++ end_of c → m.last ≡ acts_in dia t → Named dia t [] 0 → Recs dia (goes_back p) t false 0
+tree_recs {dia} m p t c e last named =
+    let good : ℕ → Bool = rec_at dia t false 0 in
+    let all : Backs good 0 (places_in m t [] 0 ++ end_of c) = all_back dia m t c last named in
+    recs_stand dia (goes_back p) t false 0 (λ v h le lt.
+    let b : IsGoneBackTo p v = back_is p v h in
+    let here : BackGood good (0 + b.number) b.arms = backs_at good (places_in m t [] 0 ++ end_of c) 0 b.number (choice b.head b.arms) all (ap (λ z. slice_get z b.number) (sym e) ∙ b.stands) in
+    let to : b.arm.next ≡ v = b.leads in
+    let behind : v ≤ b.number = b.behind in
+    subst (λ (z : ℕ). good z ≡ true) to (here b.index b.arm b.holds (omega arith)))
