@@ -1,17 +1,15 @@
 -- The labels of a canonical tree are the first of the names, in order of first places.
-use Rattle.std.proofs.Common.{◌≡◌, ℕ, zero, suc, List, [], ◌∷◌, ◌++◌, length, map, take, Bool, true, false, ◌&&◌, ◌||◌, nat_lt, if◌then◌else◌, Some, inl, inr, refl, sym, ap, ◌∙◌, subst, slice_get}
+use Rattle.std.proofs.Common.{◌≡◌, ℕ, zero, suc, List, [], ◌∷◌, ◌++◌, length, map, take, Bool, true, false, ◌||◌, nat_lt, if◌then◌else◌, Some, inl, inr, refl, sym, ap, ◌∙◌, subst, slice_get}
 use Rattle.std.proofs.lemmas.List.{length-map, map-append}
 use Rattle.std.proofs.lemmas.List.Folds.{list_any-append}
 use Rattle.std.proofs.lemmas.Slice.Eq.{bytes_eq-Decides}
 use Rattle.std.specs.Str.{bytes_eq}
-use Rattle.std.specs.List.{list_all}
 use Rattle.rs_model.specs.Data.{Names_data}
-use Rattle.rs_text.proofs.Basics.{some_is, both, or_first, or_cases}
+use Rattle.rs_text.proofs.Basics.{some_is, or_first, or_cases}
 use Rattle.rs_text.proofs.Gaps.{true_or_false}
-use Rattle.rs_text.proofs.Naming.{grown_among, grown_differ, place_stands, placed_by, decides_sound, bytes_same, at_among, among_at, place_at}
+use Rattle.rs_text.proofs.Naming.{grown_among, grown_differ, place_stands, placed_by, bytes_same, at_among, among_at, place_at}
 use Rattle.rs_text.specs.Names.{number_or, grown, is_among, place_of}
-use Rattle.rs_text.specs.Sound.{differ, IsSound}
-use Rattle.rs_text.specs.Words.{is_word, is_role_word}
+use Rattle.rs_text.specs.Sound.{differ}
 use Rattle.rs_bodies.specs.declared.dialects.Dialect.TheVariants.{Talks}
 use Rattle.rs_bodies.specs.Graph.{labels_of, label_of}
 use Rattle.rs_bodies.proofs.CanonForms.{Writing, label_as, HasLabel, label_stands}
@@ -148,19 +146,3 @@ carries t names has d =
             (λ b. or_cases (is_among y (labels_read t) ≡ true) (bytes_eq l y) false b (λ c. subst (λ (z : List ℕ). is_among z (labels_read t) ≡ true) ((bytes_eq-Decides l y).0 c) (among_read t l p)) (λ c. absurd (cc c)))),
       );
     }
-
--- ---- sound names
-
-pub record Sound (names : Names_data) : Type 0 where
-  pub roles_differ : differ names.roles ≡ true
-  pub roles_are_words : list_all is_role_word names.roles ≡ true
-  pub labels_differ : differ names.labels ≡ true
-  pub labels_are_words : list_all is_word names.labels ≡ true
-
-pub sound_parts : (names : Names_data) → IsSound names → Sound names
-sound_parts names s =
-    let h = (decides_sound names).1 s in
-    let a = both (differ names.roles && list_all is_role_word names.roles) (differ names.labels && list_all is_word names.labels) h in
-    let r = both (differ names.roles) (list_all is_role_word names.roles) a.0 in
-    let l = both (differ names.labels) (list_all is_word names.labels) a.1 in
-    record { roles_differ = r.0; roles_are_words = r.1; labels_differ = l.0; labels_are_words = l.1 }

@@ -5,32 +5,32 @@ use Rattle.std.specs.List.{All}
 use Rattle.rs_model.specs.Data.{Protocol_data, Names_data}
 use Rattle.rs_model.specs.declared.graph.Node.{Node}
 use Rattle.rs_text.proofs.Basics.{some_is}
-use Rattle.rs_text.proofs.Naming.{grown_among, among_at, at_among, place_at, all_at}
+use Rattle.rs_text.proofs.Naming.{grown_among, among_at, place_at, all_at}
 use Rattle.rs_text.specs.Names.{number_or, grown, is_among, place_of}
 use Rattle.rs_text.specs.Sound.{differ, IsSound}
 use Rattle.rs_text.specs.Words.{is_word, is_role_word}
 use Rattle.rs_bodies.specs.declared.dialects.Dialect.TheVariants.{Talks}
 use Rattle.rs_bodies.specs.Graph.{labels_of, acts_in, has_end, role_of, label_of, first_of}
 use Rattle.rs_bodies.specs.Places.{end_of, places_of_protocol}
-use Rattle.rs_bodies.specs.Trees.{Body}
-use Rattle.rs_bodies.proofs.CanonForms.{role_as, label_as, HasRole, HasLabel, HasNames, role_stands, label_stands}
+use Rattle.rs_bodies.proofs.CanonForms.{role_as, label_as, HasLabel, HasNames, role_stands, label_stands}
 use Rattle.rs_bodies.proofs.CanonNest.{carried}
 use Rattle.rs_bodies.proofs.CanonSame.{SameNumbers, canon_acts}
 use Rattle.rs_bodies.proofs.CanonWhole.{tree_has_names, canon_same, canon_within, canon_words}
 use Rattle.rs_bodies.proofs.LabelsHave.{among_has, has_instead}
 use Rattle.rs_bodies.proofs.Moved.{draws_stays}
 use Rattle.rs_bodies.proofs.PlacesIn.{places_are}
+use Rattle.rs_bodies.proofs.WrittenNames.{role_known, Sound, sound_parts}
 use Rattle.rs_global.specs.Enough.{AreEnough}
 use Rattle.rs_global.specs.Texts.{protocol_text}
 use Rattle.rs_global.specs.Trees.{ProtocolTree, roles_of}
 use Rattle.rs_global.specs.Graph.{numbering, graph_of, names_of}
 use Rattle.rs_global.specs.Spells.{Fits, SpellsProtocol}
 use Rattle.rs_global.specs.Writable.{AreWords}
-use Rattle.rs_global.specs.Canonical.{IsTextShaped, Draws, IsCanonical, IsCanonicalText, with_labels}
-use Rattle.rs_global.proofs.CanonNumbers.{writing_of, HasLabels, labels_read, labels_taken, label_number, Mapped, IsRead, carries, Sound, sound_parts}
+use Rattle.rs_global.specs.Canonical.{IsTextShaped, IsCanonical, IsCanonicalText, with_labels}
+use Rattle.rs_global.proofs.CanonNumbers.{writing_of, HasLabels, labels_read, labels_taken, label_number, Mapped, IsRead, carries}
 use Rattle.rs_global.proofs.CanonOne.{canonical_tree_is_one}
 use Rattle.rs_global.proofs.Existence.{places_of, tree_of, have_names, same_roles, canonical_tree, canonical_of}
-use Rattle.rs_global.proofs.Places.{whole_are, same_nodes, drawn_as, drawn_in}
+use Rattle.rs_global.proofs.Places.{whole_are, same_nodes}
 use Rattle.rs_global.proofs.PrintedTrees.{lone_tree_spelt}
 use Rattle.rs_global.proofs.Spelt.{one_spelling}
 
@@ -78,9 +78,6 @@ written_graph t names r =
     (same_nodes (graph_of c).nodes (graph_of t).nodes (whole_are (numbering c) c.body (has_end Talks c.body) ∙ ap (λ z. z ++ end_of (has_end Talks c.body)) (places_are (numbering c) c.body [] 0) ∙ sym same.0))
     (sym same.1)
 
-role_known : (t : ProtocolTree) (names : Names_data) (s : List ℕ) → HasRole (writing_of t names) s → is_among (role_as (writing_of t names) s) names.roles ≡ true
-role_known t names s has = at_among names.roles (role_of (numbering t) s).0 (role_as (writing_of t names) s) (role_stands (writing_of t names) s has)
-
 written_fits : (t : ProtocolTree) (names : Names_data) → Ready t names → Fits (canonical_tree t names)
 written_fits t names r =
     let w = writing_of t names in
@@ -92,7 +89,7 @@ written_fits t names r =
       roles_differ = ap differ roles ∙ r.sound.roles_differ;
       few_roles = omega arith;
       body = canon_within (IsRead t) (Mapped t names) (roles_of t) [] (roles_of c) [] (numbering t) (places_of t) (graph_of t).root t.body names (tree_of t r.fits) (are_read t names r)
-          (λ s has. ap (λ z. is_among (role_as w s) z) roles ∙ role_known t names s has) (carries t names (has_labels t names r) r.sound.labels_differ) (refl, (λ y h. absurd (cc h)));
+          (λ s has. ap (λ z. is_among (role_as w s) z) roles ∙ role_known w s has) (carries t names (has_labels t names r) r.sound.labels_differ) (refl, (λ y h. absurd (cc h)));
     }
 
 written_names : (t : ProtocolTree) (names : Names_data) → Ready t names → names_of (canonical_tree t names) ≡ with_labels (length (names_of (canonical_tree t names)).labels) names
@@ -165,9 +162,6 @@ printed_text_is_read_again names protocol text shaped sound enough c =
 abbrev AreFirst : Names_data → ℕ → List (List ℕ) → Type 0
 AreFirst names n labels = (l : List ℕ) (i : ℕ) → is_among l labels ≡ true → slice_get names.labels i ≡ Some l → slice_get (take n names.labels) i ≡ Some l
 
-pub draws_by : (b : Body Talks) (names : Names_data) (labels : List (List ℕ)) (p : Protocol_data) → ((l : List ℕ) (i : ℕ) → is_among l (labels_of Talks b) ≡ true → slice_get names.labels i ≡ Some l → slice_get labels i ≡ Some l) → Draws names p 0 p.root b → Draws (record { roles = names.roles; labels = labels }) p 0 p.root b
-draws_by b names labels p f h = drawn_in b (record { roles = names.roles; labels = labels }) p 0 p.root (draws_stays b names labels (places_of_protocol p) 0 p.root f (drawn_as b names p 0 p.root h))
-
 taken_stands : (xs : List (List ℕ)) (n i : ℕ) (x : List ℕ) → slice_get (take n xs) i ≡ Some x → slice_get xs i ≡ Some x
 taken_stands xs zero i x e = absurd (cc e)
 taken_stands [] (suc n) i x e = absurd (cc e)
@@ -195,5 +189,5 @@ printed_text_is_printed_again names others protocol other text until shaped soun
     let n : ℕ = length (names_of c.tree).labels in
     let read : SpellsProtocol text 0 (with_labels n names) protocol (length text) = subst (λ (z : List ℕ). SpellsProtocol z 0 (with_labels n names) protocol (length z)) (sym c.is) (text_spells names protocol c.tree w) in
     let one = one_spelling text 0 (with_labels n names) others protocol other (length text) until read s in
-    let again : IsCanonical (with_labels n names) protocol c.tree = record { roles = c.canonical.roles; body = draws_by c.tree.body names (take n names.labels) protocol (labels_first names protocol c.tree w (sound_parts names sound).labels_differ) c.canonical.body } in
+    let again : IsCanonical (with_labels n names) protocol c.tree = record { roles = c.canonical.roles; body = draws_stays c.tree.body names (take n names.labels) (places_of_protocol protocol) 0 protocol.root (labels_first names protocol c.tree w (sound_parts names sound).labels_differ) c.canonical.body } in
     subst (λ (z : Names_data). IsCanonicalText z other text) one.0 (subst (λ (z : Protocol_data). IsCanonicalText (with_labels n names) z text) one.1 (record { tree = c.tree; canonical = again; is = c.is }))

@@ -21,7 +21,7 @@ use Rattle.rs_global.specs.Enough.{AreEnough}
 use Rattle.rs_global.specs.Graph.{numbering, graph_of}
 use Rattle.rs_global.specs.Spells.{Fits}
 use Rattle.rs_global.specs.Trees.{ProtocolTree, roles_of}
-use Rattle.rs_global.proofs.Places.{whole_are, is_talk, drawn_in}
+use Rattle.rs_global.proofs.Places.{whole_are, is_talk}
 
 -- ---- the graph of a tree
 
@@ -76,7 +76,7 @@ same_roles t names e =
 pub canonical_of : (t : ProtocolTree) (names : Names_data) → Fits t → AreEnough names (graph_of t) → IsCanonical names (graph_of t) (canonical_tree t names)
 canonical_of t names fits enough = record {
   roles = same_roles t names enough.roles;
-  body = drawn_in (canon_of (numbering t) names (places_of t) t.body) names (graph_of t) 0 (graph_of t).root (canon_draws (roles_of t) [] (numbering t) (places_of t) (graph_of t).root t.body names (tree_of t fits) (have_names t names fits enough));
+  body = canon_draws (roles_of t) [] (numbering t) (places_of t) (graph_of t).root t.body names (tree_of t fits) (have_names t names fits enough);
 }
 
 pub canonical_is_there : (names : Names_data) (protocol : Protocol_data) → IsTextShaped protocol → length names.roles ≡ protocol.roles

@@ -6,7 +6,6 @@ pub mod CanonNumbers
 pub mod CanonWhole
 pub mod ShapeWhole
 pub mod PrintedTrees
-pub mod NodeNames
 pub mod Printed
 pub mod EnoughNames
 pub mod Spelt

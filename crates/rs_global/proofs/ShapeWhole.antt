@@ -79,11 +79,11 @@ body_text p two few h =
     let size : length (roles_of t) ≡ p.roles = ap length roles ∙ count in
     let named : numbered Talks h.old h.body ≡ numbering t =
     ap (λ z. numbered Talks (names_by h.old.roles z) h.body) labels ∙ ap (λ z. numbered Talks (names_by z []) h.body) (sym roles) in
-    let nodes : nodes_of (numbering t) h.body [] 0 ++ finish_of (has_end Talks h.body) ≡ p.nodes =
-    same_nodes (nodes_of (numbering t) h.body [] 0 ++ finish_of (has_end Talks h.body)) p.nodes
+    let nodes : nodes_of (numbering t) h.body ++ finish_of (has_end Talks h.body) ≡ p.nodes =
+    same_nodes (nodes_of (numbering t) h.body ++ finish_of (has_end Talks h.body)) p.nodes
     (whole_are (numbering t) h.body (has_end Talks h.body) ∙ ap (λ z. map place.Point (points_of Talks z h.body [] 0) ++ end_of (has_end Talks h.body)) (sym named) ∙ sym h.spells.places_are) in
     let graph_is : graph_of t ≡ p =
-    ap (λ z. graph z (nodes_of (numbering t) h.body [] 0 ++ finish_of (has_end Talks h.body)) (first_of Talks h.body [] 0 (acts_in Talks h.body))) size
+    ap (λ z. graph z (nodes_of (numbering t) h.body ++ finish_of (has_end Talks h.body)) (first_of Talks h.body [] 0 (acts_in Talks h.body))) size
     ∙ ap (λ z. graph p.roles z (first_of Talks h.body [] 0 (acts_in Talks h.body))) nodes ∙ ap (λ z. graph p.roles p.nodes z) (sym h.spells.start_is) in
     let fits : Fits t = record {
       roles_differ = ap differ roles ∙ (both _ _ (both _ _ ((decides_sound h.old).1 h.sound)).0).0;

@@ -1,26 +1,25 @@
 -- What a text spells as a protocol, and its first fault, by the laws of bodies.
-use Rattle.std.proofs.Common.{◌≡◌, ℕ, suc, ◌+◌, ◌≤◌, ◌⊎◌, List, [], ◌∷◌, ◌++◌, length, map, true, Result, Ok, Err, inl, inr, refl, sym, ap, ◌∙◌, subst, append_assoc, codes}
-use Rattle.std.proofs.lemmas.List.{map-append}
+use Rattle.std.proofs.Common.{◌≡◌, ℕ, ◌≤◌, ◌⊎◌, List, [], ◌∷◌, ◌++◌, length, map, true, Result, Ok, Err, inl, inr, refl, sym, ap, ◌∙◌, subst, append_assoc, codes}
 use Rattle.rs_model.specs.Data.{Protocol_data, Names_data}
-use Rattle.rs_model.specs.declared.graph.Node.{Node}
 use Rattle.rs_text.specs.declared.faults.TextFault.{TextFault}
 use Rattle.rs_text.specs.declared.faults.TextKind.{TextKind}
 use Rattle.rs_text.specs.declared.faults.TextKind.TheVariants as kind
 use Rattle.rs_text.specs.declared.faults.Wanted.{Wanted}
 use Rattle.rs_text.specs.Lexemes.{signs_of}
-use Rattle.rs_text.specs.Names.{Bound}
 use Rattle.rs_text.specs.Signs.{plain}
 use Rattle.rs_bodies.specs.declared.dialects.Dialect.TheVariants.{Talks}
-use Rattle.rs_bodies.specs.Data.{Point_data, Spelling_data}
-use Rattle.rs_bodies.specs.Dialects.{sends_to}
+use Rattle.rs_bodies.specs.Data.{Spelling_data}
+use Rattle.rs_model.specs.declared.graph.Arm.{Arm}
+use Rattle.rs_bodies.specs.Dialects.{Turn, sends_to}
 use Rattle.rs_bodies.specs.Faults.{Begins, IsUnexpected}
 use Rattle.rs_bodies.specs.Feeding as bodies
-use Rattle.rs_bodies.specs.Graph.{acts_in, has_end, first_of, Numbering, arm_of, arms_of}
-use Rattle.rs_bodies.specs.Points.{points_of, points_of_arms}
+use Rattle.rs_bodies.specs.Graph.{acts_in, has_end, first_of, Numbering}
+use Rattle.rs_bodies.specs.Points.{point_of, points_of}
+use Rattle.rs_bodies.proofs.Heads.{heads_mapped}
 use Rattle.rs_bodies.specs.Openings.{Opening, of_roles, line_signs}
 use Rattle.rs_bodies.specs.Spells as parts
 use Rattle.rs_bodies.specs.Spells.{Tree, Spells, spelling_of, tree_signs}
-use Rattle.rs_bodies.specs.Trees.{Body, ends, again, binds, acts, offers, Branches, one, more, body_signs, ends_by_name, ends_a_name}
+use Rattle.rs_bodies.specs.Trees.{Body, body_signs, ends_by_name, ends_a_name}
 use Rattle.rs_text.proofs.Keeping.{tokens}
 use Rattle.rs_text.specs.Sound.{IsSound}
 use Rattle.rs_text.proofs.Naming.{decides_sound}
@@ -31,32 +30,22 @@ use Rattle.rs_bodies.proofs.SpeltLaws as laws
 use Rattle.rs_bodies.proofs.SpeltRuns as runs
 use Rattle.rs_global.specs.Answers.{Answer, of_protocol, ReadsAs}
 use Rattle.rs_global.specs.Faults.{FirstFault, no_names}
-use Rattle.rs_global.specs.Graph.{talk_of, nodes_of, nodes_of_arms, numbering, finish_of, graph_of, names_of}
+use Rattle.rs_global.specs.Graph.{talk_of, nodes_of, numbering, finish_of, graph_of, names_of}
 use Rattle.rs_global.specs.Parts.{node_at, graph_spelt}
 use Rattle.rs_global.specs.Spells.{SpellsProtocol}
 use Rattle.rs_global.specs.Trees.{ProtocolTree, protocol_signs, roles_of}
 use Rattle.rs_global.specs.Parts.{part_of}
 
--- ---- heads are states
+-- ---- heads are talks
 
-abbrev nodes : List Point_data → List Node
-nodes points = map node_at points
+talk_is : (n : Numbering) (p : List ℕ) (t : Turn Talks) (arms : List Arm) → node_at (point_of Talks n p t arms) ≡ talk_of n p t arms
+talk_is n p (sends_to r) arms = refl
 
-mutual
-  nodes_are : (n : Numbering) (b : Body Talks) (bound : Bound) (count : ℕ) → nodes (points_of Talks n b bound count) ≡ nodes_of n b bound count
-  nodes_are n ends bound count = refl
-  nodes_are n (again x) bound count = refl
-  nodes_are n (binds x body) bound count = nodes_are n body ((x, count) ∷ bound) count
-  nodes_are n (acts p (sends_to r) l s body) bound count = ap (λ z. talk_of n p r (arm_of n l s (first_of Talks body bound (suc count) n.last) ∷ []) ∷ z) (nodes_are n body bound (suc count))
-  nodes_are n (offers p (sends_to r) arms) bound count = ap (λ z. talk_of n p r (arms_of Talks n arms bound (suc count)) ∷ z) (arm_nodes_are n arms bound (suc count))
-
-  arm_nodes_are : (n : Numbering) (arms : Branches Talks) (bound : Bound) (count : ℕ) → nodes (points_of_arms Talks n arms bound count) ≡ nodes_of_arms n arms bound count
-  arm_nodes_are n (one l s body) bound count = nodes_are n body bound count
-  arm_nodes_are n (more l s body arms) bound count = map-append node_at (points_of Talks n body bound count) (points_of_arms Talks n arms bound (count + acts_in Talks body))
-      ∙ ap (λ z. z ++ nodes (points_of_arms Talks n arms bound (count + acts_in Talks body))) (nodes_are n body bound count) ∙ ap (λ z. nodes_of n body bound count ++ z) (arm_nodes_are n arms bound (count + acts_in Talks body))
+nodes_are : (n : Numbering) (b : Body Talks) → map node_at (points_of Talks n b [] 0) ≡ nodes_of n b
+nodes_are n b = heads_mapped Talks node_at (point_of Talks n) (talk_of n) (talk_is n) n b [] 0
 
 pub graph_is : (t : ProtocolTree) → graph_spelt (length (roles_of t)) (spelling_of Talks no_names (part_of t)) ≡ graph_of t
-graph_is t = ap (λ z. record { roles = length (roles_of t); nodes = z ++ finish_of (has_end Talks t.body); root = first_of Talks t.body [] 0 (acts_in Talks t.body) }) (nodes_are (numbering t) t.body [] 0)
+graph_is t = ap (λ z. record { roles = length (roles_of t); nodes = z ++ finish_of (has_end Talks t.body); root = first_of Talks t.body [] 0 (acts_in Talks t.body) }) (nodes_are (numbering t) t.body)
 
 -- the roles line and the body, together or apart
 pub signs_are : (t : ProtocolTree) → tree_signs Talks (part_of t) ≡ protocol_signs t

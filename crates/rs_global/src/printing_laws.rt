@@ -5,13 +5,14 @@ ghost use Rattle.rs_model.specs.Data.{Names_data, Protocol_data};
 ghost use Rattle.rs_text.specs.Lexemes.{next_lexeme};
 ghost use Rattle.rs_text.specs.Words.{is_role_word};
 ghost use Rattle.rs_text.specs.Writing.{IsWritten};
-ghost use Rattle.rs_global.specs.Canonical.{IsTextShaped, name_of_node};
+ghost use Rattle.rs_global.specs.Canonical.{IsTextShaped};
 ghost use Rattle.rs_global.specs.Enough.{AreEnough};
 ghost use Rattle.rs_global.specs.Graph.{graph_of, names_of};
 ghost use Rattle.rs_global.specs.Spells.{Fits, SpellsProtocol};
 ghost use Rattle.rs_global.specs.Texts.{protocol_text};
 ghost use Rattle.rs_global.specs.Trees.{ProtocolTree, protocol_signs};
 ghost use Rattle.rs_bodies.specs.declared.dialects.Dialect.TheVariants.{Talks};
+ghost use Rattle.rs_bodies.specs.Places.{name_of_place};
 ghost use Rattle.rs_bodies.specs.Trees.{ends_a_name, ends_by_name};
 ghost use Rattle.rs_global.specs.Writable.{AreWords};
 
@@ -33,7 +34,7 @@ pub fn lone_text_of_a_tree_spells_it()
 
 /// The name of a node can be a recursion name.
 pub fn node_name_is_a_word()
-    ensures { (n : ℕ) → n ≤ MOST_TALKS → is_role_word (name_of_node n) ≡ true }
+    ensures { (n : ℕ) → n ≤ MOST_TALKS → is_role_word (name_of_place n) ≡ true }
 {}
 
 /// A protocol that a text spells is text-shaped ..
