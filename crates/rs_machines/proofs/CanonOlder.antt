@@ -21,7 +21,7 @@ use Rattle.rs_machines.specs.Machines.{states_of, numbering, machine_of, names_o
 use Rattle.rs_machines.specs.Spells.{Fits, SpellsMachine}
 use Rattle.rs_machines.specs.Texts.{machine_text}
 use Rattle.rs_machines.specs.Trees.{MachineTree}
-use Rattle.rs_machines.proofs.CanonNumbers.{role_known}
+use Rattle.rs_bodies.proofs.WrittenNames.{role_known}
 use Rattle.rs_machines.proofs.CanonOne.{spelt_tree_is_one}
 use Rattle.rs_machines.proofs.CanonWhole.{spelt_readable}
 use Rattle.rs_machines.proofs.EnoughNames.{spelt_enough}
@@ -74,7 +74,7 @@ kept_one w (x ∷ xs) h l a =
 abbrev machine_by : Names_data → MachineTree → Machine_data
 machine_by names t = record {
   role = role_of (record { names = names; last = acts_in Acts t.body }) t.role;
-  states = states_of (record { names = names; last = acts_in Acts t.body }) t.body [] 0 ++ done_of (has_end Acts t.body);
+  states = states_of (record { names = names; last = acts_in Acts t.body }) t.body ++ done_of (has_end Acts t.body);
   start = first_of Acts t.body [] 0 (acts_in Acts t.body);
 }
 

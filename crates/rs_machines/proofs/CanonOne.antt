@@ -9,7 +9,7 @@ use Rattle.rs_machines.specs.Canonical.{IsMachineTextShaped, IsCanonical, IsCano
 use Rattle.rs_machines.specs.Spells.{SpellsMachine}
 use Rattle.rs_machines.specs.Texts.{machine_text}
 use Rattle.rs_machines.specs.Trees.{MachineTree}
-use Rattle.rs_machines.proofs.Places.{spelt_places, drawn_as}
+use Rattle.rs_machines.proofs.Places.{spelt_places}
 
 tree_is : (x y : MachineTree) → x.role ≡ y.role → x.body ≡ y.body → x ≡ y
 tree_is x y e f = ap (λ z. record { role = z; body = x.body }) e ∙ ap (λ z. record { role = y.role; body = z }) f
@@ -17,7 +17,7 @@ tree_is x y e f = ap (λ z. record { role = z; body = x.body }) e ∙ ap (λ z. 
 pub spelt_tree_is_one : (bytes : List ℕ) (at : ℕ) (old new names : Names_data) (machine : Machine_data) (until : ℕ) (x y : MachineTree) → SpellsMachine bytes at old new machine until → IsCanonical names machine x → IsCanonical names machine y → x ≡ y
 spelt_tree_is_one bytes at old new names machine until x y s h k =
     tree_is x y (some_is x.role y.role (sym h.role ∙ k.role))
-    (drawn_once Acts names (places_of_machine machine) machine.start x.body y.body (spelt_places bytes at old new machine until s) (drawn_as x.body names machine 0 machine.start h.body) (drawn_as y.body names machine 0 machine.start k.body))
+    (drawn_once Acts names (places_of_machine machine) machine.start x.body y.body (spelt_places bytes at old new machine until s) h.body k.body)
 
 pub canonical_tree_is_one : (names : Names_data) (machine : Machine_data) (x y : MachineTree) → IsMachineTextShaped machine → IsCanonical names machine x → IsCanonical names machine y → x ≡ y
 canonical_tree_is_one names machine x y shaped h k = spelt_tree_is_one shaped.bytes shaped.at shaped.old shaped.new names machine shaped.until x y shaped.spells h k

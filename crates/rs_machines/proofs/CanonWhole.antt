@@ -25,7 +25,7 @@ use Rattle.rs_machines.specs.Spells.{Fits, SpellsMachine}
 use Rattle.rs_machines.specs.Texts.{machine_text}
 use Rattle.rs_machines.specs.Trees.{MachineTree}
 use Rattle.rs_machines.specs.Writable.{AreWords}
-use Rattle.rs_machines.proofs.CanonNumbers.{role_place, label_place, role_known, label_known, Sound, sound_parts}
+use Rattle.rs_bodies.proofs.WrittenNames.{role_place, label_place, role_known, label_known, Sound, sound_parts}
 use Rattle.rs_machines.proofs.CanonOne.{spelt_tree_is_one}
 use Rattle.rs_machines.proofs.Existence.{places_of, tree_of, have_names, has_names, writing_of, canonical_tree, canonical_of}
 use Rattle.rs_machines.proofs.Places.{whole_are, same_states}

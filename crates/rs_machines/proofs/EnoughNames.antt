@@ -11,7 +11,7 @@ use Rattle.rs_machines.specs.Spells.{Fits, SpellsMachine}
 use Rattle.rs_machines.specs.Trees.{MachineTree}
 use Rattle.rs_machines.proofs.Existence.{places_of, tree_of}
 use Rattle.rs_machines.proofs.Places.{act_stands}
-use Rattle.rs_machines.proofs.SpeltShapes.{known_by}
+use Rattle.rs_bodies.proofs.Leading.{known_by}
 
 tree_enough : (old : Names_data) (t : MachineTree) → Fits old t → AreEnoughFor (names_of old t) (machine_of old t)
 tree_enough old t fits =

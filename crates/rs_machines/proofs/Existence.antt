@@ -16,7 +16,7 @@ use Rattle.rs_machines.specs.Machines.{numbering, machine_of}
 use Rattle.rs_machines.specs.Spells.{Fits}
 use Rattle.rs_machines.specs.Texts.{machine_text}
 use Rattle.rs_machines.specs.Trees.{MachineTree}
-use Rattle.rs_machines.proofs.Places.{whole_are, is_act, drawn_in}
+use Rattle.rs_machines.proofs.Places.{whole_are, is_act}
 
 -- ---- the machine of a tree
 
@@ -53,8 +53,7 @@ has_names old t names fits enough = tree_has_names old.roles old.labels (numberi
 pub canonical_of : (old : Names_data) (t : MachineTree) (names : Names_data) → Fits old t → AreEnoughFor names (machine_of old t) → IsCanonical names (machine_of old t) (canonical_tree old t names)
 canonical_of old t names fits enough = record {
   role = role_stands (writing_of old t names) t.role enough.role;
-  body = drawn_in (canon_of (numbering old t) names (places_of old t) t.body) names (machine_of old t) 0 (machine_of old t).start
-      (canon_draws old.roles old.labels (numbering old t) (places_of old t) (machine_of old t).start t.body names (tree_of old t fits) (have_names (machine_of old t) names enough));
+  body = canon_draws old.roles old.labels (numbering old t) (places_of old t) (machine_of old t).start t.body names (tree_of old t fits) (have_names (machine_of old t) names enough);
 }
 
 pub canonical_is_there : (names : Names_data) (machine : Machine_data) → IsMachineTextShaped machine → AreEnoughFor names machine → (tree : MachineTree) × IsCanonical names machine tree

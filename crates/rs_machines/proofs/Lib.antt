@@ -2,15 +2,11 @@ pub mod Examples
 pub mod TreeLabels
 pub mod NamedStates
 pub mod SpeltShapes
-pub mod Acts
-pub mod CanonForms
 pub mod Places
 pub mod Existence
 pub mod CanonOne
-pub mod StateNames
 pub mod EnoughNames
 pub mod PrintedTrees
-pub mod CanonNumbers
 pub mod CanonWhole
 pub mod Printed
 pub mod ShapeWhole

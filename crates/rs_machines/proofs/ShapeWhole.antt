@@ -28,7 +28,7 @@ use Rattle.rs_machines.specs.Trees.{MachineTree}
 use Rattle.rs_machines.specs.Writable.{AreWords}
 use Rattle.rs_machines.proofs.Places.{whole_are, same_states}
 use Rattle.rs_machines.proofs.PrintedTrees.{lone_tree_spelt}
-use Rattle.rs_machines.proofs.SpeltShapes.{known_by}
+use Rattle.rs_bodies.proofs.Leading.{known_by}
 
 -- ---- from a text to a body
 
@@ -75,10 +75,10 @@ body_text p few h =
     let labels : length old.labels ≡ MOST_LABELS = h.labels_are in
     let r : Named old p.role = named old p.role h.sound (omega arith) in
     let t : MachineTree = record { role = r.name; body = h.body } in
-    let states : states_of (numbering old t) h.body [] 0 ++ done_of (has_end Acts h.body) ≡ p.states =
-    same_states (states_of (numbering old t) h.body [] 0 ++ done_of (has_end Acts h.body)) p.states (whole_are (numbering old t) h.body (has_end Acts h.body) ∙ sym h.spells.places_are) in
+    let states : states_of (numbering old t) h.body ++ done_of (has_end Acts h.body) ≡ p.states =
+    same_states (states_of (numbering old t) h.body ++ done_of (has_end Acts h.body)) p.states (whole_are (numbering old t) h.body (has_end Acts h.body) ∙ sym h.spells.places_are) in
     let machine_is : machine_of old t ≡ p =
-    ap (λ z. machine (role_number (number_or z)) (states_of (numbering old t) h.body [] 0 ++ done_of (has_end Acts h.body)) (first_of Acts h.body [] 0 (acts_in Acts h.body))) r.place
+    ap (λ z. machine (role_number (number_or z)) (states_of (numbering old t) h.body ++ done_of (has_end Acts h.body)) (first_of Acts h.body [] 0 (acts_in Acts h.body))) r.place
     ∙ ap (λ z. machine p.role z (first_of Acts h.body [] 0 (acts_in Acts h.body))) states ∙ ap (λ z. machine p.role p.states z) (sym h.spells.start_is) in
     let fits : Fits old t = record { role = r.there; body = h.spells.fits } in
     let words : AreWords t = record { opening = r.word; body = h.words } in

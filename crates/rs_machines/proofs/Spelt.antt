@@ -1,25 +1,24 @@
 -- What a text spells as a machine, and its first fault, by the laws of bodies.
-use Rattle.std.proofs.Common.{◌≡◌, ℕ, suc, ◌+◌, ◌≤◌, ◌⊎◌, List, [], ◌∷◌, ◌++◌, length, map, true, Result, Ok, Err, inl, inr, refl, sym, ap, ◌∙◌, subst}
-use Rattle.std.proofs.lemmas.List.{map-append}
+use Rattle.std.proofs.Common.{◌≡◌, ℕ, ◌≤◌, ◌⊎◌, List, [], ◌∷◌, ◌++◌, length, map, true, Result, Ok, Err, inl, inr, refl, sym, ap, ◌∙◌, subst}
+use Rattle.rs_model.specs.declared.graph.Arm.{Arm}
 use Rattle.rs_model.specs.Data.{Machine_data, Names_data}
-use Rattle.rs_model.specs.declared.machines.State.{State}
 use Rattle.rs_text.specs.declared.faults.TextFault.{TextFault}
 use Rattle.rs_text.specs.declared.faults.TextKind.{TextKind}
 use Rattle.rs_text.specs.declared.faults.TextKind.TheVariants as kind
 use Rattle.rs_text.specs.declared.faults.Wanted.{Wanted}
 use Rattle.rs_text.specs.Lexemes.{signs_of}
-use Rattle.rs_text.specs.Names.{Bound}
 use Rattle.rs_bodies.specs.declared.dialects.Dialect.TheVariants.{Acts}
-use Rattle.rs_bodies.specs.Data.{Point_data, Spelling_data}
-use Rattle.rs_bodies.specs.Dialects.{with_mark}
+use Rattle.rs_bodies.specs.Data.{Spelling_data}
+use Rattle.rs_bodies.specs.Dialects.{Turn, with_mark}
 use Rattle.rs_bodies.specs.Faults.{Begins, IsUnexpected}
 use Rattle.rs_bodies.specs.Feeding as bodies
-use Rattle.rs_bodies.specs.Graph.{acts_in, has_end, first_of, Numbering, role_of, arm_of, arms_of}
-use Rattle.rs_bodies.specs.Points.{points_of, points_of_arms}
+use Rattle.rs_bodies.specs.Graph.{acts_in, has_end, first_of, Numbering, role_of}
+use Rattle.rs_bodies.specs.Points.{point_of, points_of}
+use Rattle.rs_bodies.proofs.Heads.{heads_mapped}
 use Rattle.rs_bodies.specs.Openings.{Opening, of_role}
 use Rattle.rs_bodies.specs.Spells as parts
 use Rattle.rs_bodies.specs.Spells.{Tree, Spells, spelling_of, tree_signs}
-use Rattle.rs_bodies.specs.Trees.{Body, ends, again, binds, acts, offers, Branches, one, more, ends_by_name, ends_a_name}
+use Rattle.rs_bodies.specs.Trees.{Body, ends_by_name, ends_a_name}
 use Rattle.rs_text.proofs.Keeping.{tokens}
 use Rattle.rs_bodies.proofs.Answers as answers
 use Rattle.rs_bodies.proofs.OneFault as faults
@@ -27,7 +26,7 @@ use Rattle.rs_bodies.proofs.SpeltLaws as laws
 use Rattle.rs_bodies.proofs.SpeltRuns as runs
 use Rattle.rs_machines.specs.Answers.{Answer, of_machine, ReadsAs}
 use Rattle.rs_machines.specs.Faults.{FirstFault}
-use Rattle.rs_machines.specs.Machines.{act_of, states_of, states_of_arms, numbering, done_of, machine_of}
+use Rattle.rs_machines.specs.Machines.{act_of, states_of, numbering, done_of, machine_of}
 use Rattle.rs_machines.specs.Parts.{state_at, machine_spelt}
 use Rattle.rs_machines.specs.Spells.{SpellsMachine}
 use Rattle.rs_machines.specs.Trees.{MachineTree}
@@ -35,24 +34,14 @@ use Rattle.rs_machines.specs.Parts.{part_of}
 
 -- ---- heads are states
 
-abbrev states : List Point_data → List State
-states points = map state_at points
+act_is : (n : Numbering) (p : List ℕ) (t : Turn Acts) (arms : List Arm) → state_at (point_of Acts n p t arms) ≡ act_of n p t arms
+act_is n p (with_mark m) arms = refl
 
-mutual
-  states_are : (n : Numbering) (b : Body Acts) (bound : Bound) (count : ℕ) → states (points_of Acts n b bound count) ≡ states_of n b bound count
-  states_are n ends bound count = refl
-  states_are n (again x) bound count = refl
-  states_are n (binds x body) bound count = states_are n body ((x, count) ∷ bound) count
-  states_are n (acts p (with_mark m) l s body) bound count = ap (λ z. act_of n p m (arm_of n l s (first_of Acts body bound (suc count) n.last) ∷ []) ∷ z) (states_are n body bound (suc count))
-  states_are n (offers p (with_mark m) arms) bound count = ap (λ z. act_of n p m (arms_of Acts n arms bound (suc count)) ∷ z) (arm_states_are n arms bound (suc count))
-
-  arm_states_are : (n : Numbering) (arms : Branches Acts) (bound : Bound) (count : ℕ) → states (points_of_arms Acts n arms bound count) ≡ states_of_arms n arms bound count
-  arm_states_are n (one l s body) bound count = states_are n body bound count
-  arm_states_are n (more l s body arms) bound count = map-append state_at (points_of Acts n body bound count) (points_of_arms Acts n arms bound (count + acts_in Acts body))
-      ∙ ap (λ z. z ++ states (points_of_arms Acts n arms bound (count + acts_in Acts body))) (states_are n body bound count) ∙ ap (λ z. states_of n body bound count ++ z) (arm_states_are n arms bound (count + acts_in Acts body))
+states_are : (n : Numbering) (b : Body Acts) → map state_at (points_of Acts n b [] 0) ≡ states_of n b
+states_are n b = heads_mapped Acts state_at (point_of Acts n) (act_of n) (act_is n) n b [] 0
 
 pub machine_is : (old : Names_data) (t : MachineTree) → machine_spelt (spelling_of Acts old (part_of t)) ≡ machine_of old t
-machine_is old t = ap (λ z. record { role = role_of (numbering old t) t.role; states = z ++ done_of (has_end Acts t.body); start = first_of Acts t.body [] 0 (acts_in Acts t.body) }) (states_are (numbering old t) t.body [] 0)
+machine_is old t = ap (λ z. record { role = role_of (numbering old t) t.role; states = z ++ done_of (has_end Acts t.body); start = first_of Acts t.body [] 0 (acts_in Acts t.body) }) (states_are (numbering old t) t.body)
 
 -- ---- a machine is spelt where its part is
 

@@ -1,17 +1,17 @@
 -- Believed: the names and the machine that a tree spells.
-use Rattle.std.specs.Prelude.{ℕ, suc, ◌+◌, List, [], ◌∷◌, ◌++◌, Bool, true, false}
+use Rattle.std.specs.Prelude.{ℕ, List, [], ◌∷◌, ◌++◌, Bool, true, false}
 use Rattle.rs_model.specs.Data.{Machine_data, Names_data}
 use Rattle.rs_model.specs.declared.graph.Arm.{Arm}
 use Rattle.rs_model.specs.declared.machines.State.{State}
 use Rattle.rs_model.specs.declared.machines.State.TheVariants as state
 use Rattle.rs_model.specs.declared.graph.Role.{Role}
-use Rattle.rs_text.specs.Names.{grown, Bound}
+use Rattle.rs_text.specs.Names.{grown}
 use Rattle.rs_bodies.specs.declared.dialects.Dialect.TheVariants.{Acts}
 use Rattle.rs_bodies.specs.declared.dialects.Mark.{Mark}
 use Rattle.rs_bodies.specs.declared.dialects.Mark.TheVariants as mark
-use Rattle.rs_bodies.specs.Dialects.{with_mark}
-use Rattle.rs_bodies.specs.Graph.{labels_of, acts_in, has_end, first_of, Numbering, role_of, arm_of, arms_of}
-use Rattle.rs_bodies.specs.Trees.{Body, ends, again, binds, acts, offers, Branches, one, more}
+use Rattle.rs_bodies.specs.Dialects.{Turn, with_mark}
+use Rattle.rs_bodies.specs.Graph.{labels_of, acts_in, has_end, first_of, heads_of, Numbering, role_of}
+use Rattle.rs_bodies.specs.Trees.{Body}
 use Rattle.rs_machines.specs.Trees.{MachineTree}
 
 -- the names that were there, with the labels that are new behind them in order of their first places
@@ -23,22 +23,13 @@ abbrev pub state_of : Mark → Role → List Arm → State
 state_of mark.Puts peer arms = state.Puts peer arms
 state_of mark.Takes peer arms = state.Takes peer arms
 
--- the state that does the act with the peer p by these arms
-abbrev pub act_of : Numbering → List ℕ → Mark → List Arm → State
-act_of n p m arms = state_of m (role_of n p) arms
+-- the act with the peer p by these arms
+abbrev pub act_of : Numbering → List ℕ → Turn Acts → List Arm → State
+act_of n p (with_mark m) arms = state_of m (role_of n p) arms
 
 -- the acts of a body, in order of text
-abbrev mutual
-  pub states_of : Numbering → Body Acts → Bound → ℕ → List State
-  states_of n ends bound count = []
-  states_of n (again name) bound count = []
-  states_of n (binds name body) bound count = states_of n body ((name, count) ∷ bound) count
-  states_of n (acts p (with_mark m) l sort body) bound count = act_of n p m (arm_of n l sort (first_of Acts body bound (suc count) n.last) ∷ []) ∷ states_of n body bound (suc count)
-  states_of n (offers p (with_mark m) arms) bound count = act_of n p m (arms_of Acts n arms bound (suc count)) ∷ states_of_arms n arms bound (suc count)
-
-  pub states_of_arms : Numbering → Branches Acts → Bound → ℕ → List State
-  states_of_arms n (one l sort body) bound count = states_of n body bound count
-  states_of_arms n (more l sort body arms) bound count = states_of n body bound count ++ states_of_arms n arms bound (count + acts_in Acts body)
+abbrev pub states_of : Numbering → Body Acts → List State
+states_of n b = heads_of Acts (act_of n) n b [] 0
 
 -- the names that are there behind a tree, and the number of its end
 abbrev pub numbering : Names_data → MachineTree → Numbering
@@ -53,6 +44,6 @@ done_of false = []
 abbrev pub machine_of : Names_data → MachineTree → Machine_data
 machine_of old t = record {
   role = role_of (numbering old t) t.role;
-  states = states_of (numbering old t) t.body [] 0 ++ done_of (has_end Acts t.body);
+  states = states_of (numbering old t) t.body ++ done_of (has_end Acts t.body);
   start = first_of Acts t.body [] 0 (acts_in Acts t.body);
 }

@@ -5,13 +5,14 @@ ghost use Rattle.rs_model.specs.declared.limits.TheConstants.{MOST_ACTS, MOST_LA
 ghost use Rattle.rs_text.specs.Lexemes.{next_lexeme};
 ghost use Rattle.rs_text.specs.Words.{is_role_word};
 ghost use Rattle.rs_text.specs.Writing.{IsWritten};
-ghost use Rattle.rs_machines.specs.Canonical.{IsMachineTextShaped, name_of_state};
+ghost use Rattle.rs_machines.specs.Canonical.{IsMachineTextShaped};
 ghost use Rattle.rs_machines.specs.Enough.{AreEnoughFor};
 ghost use Rattle.rs_machines.specs.Machines.{machine_of, names_of};
 ghost use Rattle.rs_machines.specs.Spells.{Fits, SpellsMachine};
 ghost use Rattle.rs_machines.specs.Texts.{machine_text};
 ghost use Rattle.rs_machines.specs.Trees.{MachineTree, machine_signs};
 ghost use Rattle.rs_bodies.specs.declared.dialects.Dialect.TheVariants.{Acts};
+ghost use Rattle.rs_bodies.specs.Places.{name_of_place};
 ghost use Rattle.rs_bodies.specs.Trees.{ends_a_name, ends_by_name};
 ghost use Rattle.rs_machines.specs.Writable.{AreWords};
 
@@ -33,7 +34,7 @@ pub fn lone_text_of_a_tree_spells_it()
 
 /// The name of a state can be a recursion name.
 pub fn state_name_is_a_word()
-    ensures { (n : ℕ) → n ≤ MOST_ACTS → is_role_word (name_of_state n) ≡ true }
+    ensures { (n : ℕ) → n ≤ MOST_ACTS → is_role_word (name_of_place n) ≡ true }
 {}
 
 /// A machine that a text spells with 16 roles and 256 labels at most is text-shaped ..

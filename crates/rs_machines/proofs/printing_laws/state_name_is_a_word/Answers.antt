@@ -1,5 +1,6 @@
-use Rattle.rs_machines.proofs.StateNames as proof
+use Rattle.std.proofs.Common.{arith}
+use Rattle.rs_bodies.proofs.CanonWhole.{place_name_law}
 use Rattle.rs_machines.proofs.printing_laws.state_name_is_a_word.Goals as goal
 
 pub returns : goal.returns
-returns c = proof.state_name_law
+returns c = λ n h. place_name_law n (omega arith)
