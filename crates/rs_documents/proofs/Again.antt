@@ -17,7 +17,8 @@ use Rattle.rs_documents.specs.Documents.{SpellsDocument}
 use Rattle.rs_documents.specs.Parts.{GoesOn, Row, derivation_parts, machine_parts, no_parts}
 use Rattle.rs_documents.proofs.DerivationsAgain.{IsNamedAlike, derivation_again, derivation_printed_again}
 use Rattle.rs_documents.proofs.FewLabels.{longer}
-use Rattle.rs_documents.proofs.MachinesAgain.{Moves, Renumbers, fits_again, machine_again, machine_printed_again}
+use Rattle.rs_bodies.proofs.Moved.{Moves}
+use Rattle.rs_documents.proofs.MachinesAgain.{Renumbers, fits_again, machine_again, machine_printed_again}
 use Rattle.rs_documents.proofs.MoreNames.{AreAmong, back_among, either_among, first_among, front_among, grown_either, grown_new, later_among, name_there, no_more, number_at, number_kept, number_known, number_there}
 use Rattle.rs_documents.proofs.OneCanonical.{some_text}
 use Rattle.rs_documents.proofs.OneDocument.{one_document}

@@ -1,16 +1,15 @@
 -- The front of a document, its roles line and its protocol, is read again and printed again.
 use Rattle.std.proofs.Common.{◌≡◌, ℕ, zero, suc, ◌+◌, ◌<◌, ◌≤◌, List, [], ◌∷◌, ◌++◌, length, take, drop, true, Option, Some, refl, sym, ap, ◌∙◌, subst, arith, slice_get}
-use Rattle.rs_documents.proofs.MoreNames.{AreAmong, first_among, later_among, front_among, back_among, grown_new}
+use Rattle.rs_documents.proofs.MoreNames.{AreAmong, grown_new}
 use Rattle.rs_documents.specs.Again.{HasAllLabels}
-use Rattle.rs_global.proofs.CanonWhole.{written}
+use Rattle.rs_global.proofs.CanonWhole.{taken_stands, written}
 use Rattle.rs_global.proofs.EnoughNames.{spelt_enough}
 use Rattle.rs_global.proofs.PrintedTrees.{lone_tree_spelt, tree_spelt}
-use Rattle.rs_global.specs.Canonical.{Draws, DrawsArms, DrawsTalk, AreArms, IsCanonicalText, IsOneArm, IsTalkOf, IsTextShaped}
+use Rattle.rs_global.specs.Canonical.{IsCanonicalText, IsTextShaped}
 use Rattle.rs_global.specs.Enough.{AreEnough}
 use Rattle.rs_global.specs.Graph.{names_of}
 use Rattle.rs_global.specs.Spells.{SpellsProtocol}
 use Rattle.rs_global.specs.Texts.{protocol_text}
-use Rattle.rs_machines.proofs.CanonNumbers.{sound_parts}
 use Rattle.rs_model.specs.Data.{Names_data, Protocol_data}
 use Rattle.rs_model.specs.declared.graph.Arm.{Arm}
 use Rattle.rs_model.specs.declared.values.Sort.{Sort}
@@ -21,11 +20,11 @@ use Rattle.rs_text.specs.Names.{grown, is_among, place_of}
 use Rattle.rs_text.specs.Sound.{IsSound, differ}
 use Rattle.rs_bodies.specs.Dialects.{sends_to}
 use Rattle.rs_bodies.specs.declared.dialects.Dialect.TheVariants.{Talks}
-use Rattle.rs_bodies.specs.Graph.{labels_of, labels_of_arms}
+use Rattle.rs_bodies.specs.Graph.{labels_of}
+use Rattle.rs_bodies.specs.Places.{places_of_protocol}
+use Rattle.rs_bodies.proofs.Moved.{draws_stays}
+use Rattle.rs_bodies.proofs.WrittenNames.{sound_parts}
 use Rattle.rs_bodies.specs.Trees.{Body, ends, again, binds, acts, offers, Branches, one, more, ends_a_name}
-
-abbrev with_others : Names_data → List (List ℕ) → Names_data
-with_others names others = record { roles = names.roles; labels = others }
 
 -- ---- read again
 
@@ -42,17 +41,11 @@ front_again names protocol text shaped sound enough c bytes rest parts ended =
 
 -- ---- its labels are the first of the names
 
-taken_at : (xs : List (List ℕ)) (n i : ℕ) (x : List ℕ) → slice_get (take n xs) i ≡ Some x → slice_get xs i ≡ Some x
-taken_at xs zero i x e = absurd (cc e)
-taken_at [] (suc n) i x e = absurd (cc e)
-taken_at (y ∷ xs) (suc n) zero x e = e
-taken_at (y ∷ xs) (suc n) (suc i) x e = taken_at xs n i x e
-
 pub labels_are_first : (names : Names_data) (protocol : Protocol_data) (text : List ℕ) → IsTextShaped protocol → IsSound names → AreEnough names protocol → (c : IsCanonicalText names protocol text) → grown [] (labels_of Talks c.tree.body) ≡ take (length (grown [] (labels_of Talks c.tree.body))) names.labels
 labels_are_first names protocol text shaped sound enough c = let w = written names protocol c.tree shaped sound enough c.canonical in ap (λ (z : Names_data). z.labels) w.names_are
 
 stands_there : (labels first : List (List ℕ)) → first ≡ take (length first) labels → (k : ℕ) (l : List ℕ) → slice_get first k ≡ Some l → slice_get labels k ≡ Some l
-stands_there labels first e k l h = taken_at labels (length first) k l (subst (λ (z : List (List ℕ)). slice_get z k ≡ Some l) e h)
+stands_there labels first e k l h = taken_stands labels (length first) k l (subst (λ (z : List (List ℕ)). slice_get z k ≡ Some l) e h)
 
 pub labels_known : (names : Names_data) (protocol : Protocol_data) (text : List ℕ) → IsTextShaped protocol → IsSound names → AreEnough names protocol → (c : IsCanonicalText names protocol text) → AreAmong (labels_of Talks c.tree.body) names.labels
 labels_known names protocol text shaped sound enough c l h =
@@ -62,53 +55,12 @@ labels_known names protocol text shaped sound enough c l h =
 
 -- ---- printed again
 
--- each of the labels stands among the others where it stood
-abbrev Stay : (these those labels : List (List ℕ)) → Type 0
-Stay these those labels = (l : List ℕ) (i : ℕ) → is_among l labels ≡ true → slice_get these i ≡ Some l → slice_get those i ≡ Some l
-
 stay : (labels first further : List (List ℕ)) → differ labels ≡ true → first ≡ take (length first) labels → (l : List ℕ) (i : ℕ) → is_among l first ≡ true → slice_get labels i ≡ Some l → slice_get (grown first further) i ≡ Some l
 stay labels first further d e l i a h =
     let p = placed_by (place_of l first) l first refl a in
     let there : slice_get labels p.0 ≡ Some l = stands_there labels first e p.0 l (place_stands first l p.0 p.1).there in
     let same : p.0 ≡ i = some_is p.0 i (sym (place_at labels p.0 l d there) ∙ place_at labels i l d h) in
     subst (λ (z : ℕ). slice_get (grown first further) z ≡ Some l) same (place_stands (grown first further) l p.0 (grown_stays further first l p.0 p.1)).there
-
-talk_again : (names : Names_data) (others : List (List ℕ)) (p : Protocol_data) (n : ℕ) (s r : List ℕ) (arms : List Arm) → IsTalkOf names p n s r arms → IsTalkOf (with_others names others) p n s r arms
-talk_again names others p n s r arms t = record { sender = t.sender; receiver = t.receiver; talks = t.talks; sends = t.sends; receives = t.receives }
-
-one_again : (names : Names_data) (others : List (List ℕ)) (p : Protocol_data) (n : ℕ) (s r l : List ℕ) (sort : Option Sort) (b : Body Talks) → Stay names.labels others (l ∷ labels_of Talks b) → ((next : ℕ) → Draws names p (n + 1) next b → Draws (with_others names others) p (n + 1) next b)
-    → IsOneArm names p n s r l sort (λ next. Draws names p (n + 1) next b) → IsOneArm (with_others names others) p n s r l sort (λ next. Draws (with_others names others) p (n + 1) next b)
-one_again names others p n s r l sort b f go x = (x.0, talk_again names others p n s r (x.0 ∷ []) x.1, (f l x.0.label.0 (first_among l (labels_of Talks b)) x.2.0, x.2.1), go x.0.next x.3)
-
-more_again : (names : Names_data) (others : List (List ℕ)) (p : Protocol_data) (n : ℕ) (s r : List ℕ) (arms : Branches Talks) → ((ours : List Arm) → DrawsArms names p (n + 1) ours arms → DrawsArms (with_others names others) p (n + 1) ours arms)
-    → AreArms names p n s r (λ ours. DrawsArms names p (n + 1) ours arms) → AreArms (with_others names others) p n s r (λ ours. DrawsArms (with_others names others) p (n + 1) ours arms)
-more_again names others p n s r arms go x = (x.0, x.1, x.2, talk_again names others p n s r (x.0 ∷ x.1 ∷ x.2) x.3, go (x.0 ∷ x.1 ∷ x.2) x.4)
-
-mutual
-  draws_again : (b : Body Talks) (names : Names_data) (others : List (List ℕ)) (p : Protocol_data) (from n : ℕ) → Stay names.labels others (labels_of Talks b) → Draws names p from n b → Draws (with_others names others) p from n b
-  draws_again ends names others p from n f h = h
-  draws_again (again x) names others p from n f h = h
-  draws_again (binds x b) names others p from n f h = (h.0, h.1, h.2, talk_draws_again b names others p n f h.3)
-  draws_again (acts s (sends_to r) l sort b) names others p from n f h = (h.0, h.1, one_again names others p n s r l sort b f (λ next d. draws_again b names others p (n + 1) next (λ y i a. f y i (later_among y l (labels_of Talks b) a)) d) h.2)
-  draws_again (offers s (sends_to r) arms) names others p from n f h = (h.0, h.1, more_again names others p n s r arms (λ ours d. arms_draw_again arms ours names others p (n + 1) f d) h.2)
-
-  talk_draws_again : (b : Body Talks) (names : Names_data) (others : List (List ℕ)) (p : Protocol_data) (n : ℕ) → Stay names.labels others (labels_of Talks b) → DrawsTalk names p n b → DrawsTalk (with_others names others) p n b
-  talk_draws_again ends names others p n f h = h
-  talk_draws_again (again x) names others p n f h = h
-  talk_draws_again (binds x b) names others p n f h = h
-  talk_draws_again (acts s (sends_to r) l sort b) names others p n f h = one_again names others p n s r l sort b f (λ next d. draws_again b names others p (n + 1) next (λ y i a. f y i (later_among y l (labels_of Talks b) a)) d) h
-  talk_draws_again (offers s (sends_to r) arms) names others p n f h = more_again names others p n s r arms (λ ours d. arms_draw_again arms ours names others p (n + 1) f d) h
-
-  arms_draw_again : (arms : Branches Talks) (ours : List Arm) (names : Names_data) (others : List (List ℕ)) (p : Protocol_data) (from : ℕ) → Stay names.labels others (labels_of_arms Talks arms) → DrawsArms names p from ours arms → DrawsArms (with_others names others) p from ours arms
-  arms_draw_again arms [] names others p from f h = absurd h
-  arms_draw_again (one l sort b) (o ∷ []) names others p from f h = ((f l o.label.0 (first_among l (labels_of Talks b)) h.0.0, h.0.1), draws_again b names others p from o.next (λ y i a. f y i (later_among y l (labels_of Talks b) a)) h.1)
-  arms_draw_again (one l sort b) (o ∷ c ∷ cs) names others p from f h = absurd h
-  arms_draw_again (more l sort b arms) (o ∷ []) names others p from f h = absurd h.2
-  arms_draw_again (more l sort b arms) (o ∷ c ∷ cs) names others p from f h = (
-    (f l o.label.0 (first_among l (labels_of Talks b ++ labels_of_arms Talks arms)) h.0.0, h.0.1),
-    draws_again b names others p from o.next (λ y i a. f y i (later_among y l (labels_of Talks b ++ labels_of_arms Talks arms) (front_among y (labels_of Talks b) (labels_of_arms Talks arms) a))) h.1,
-    arms_draw_again arms (c ∷ cs) names others p from (λ y i a. f y i (later_among y l (labels_of Talks b ++ labels_of_arms Talks arms) (back_among y (labels_of Talks b) (labels_of_arms Talks arms) a))) h.2,
-  )
 
 pub front_printed_again : (names : Names_data) (protocol : Protocol_data) (text : List ℕ) → IsTextShaped protocol → IsSound names → AreEnough names protocol → (c : IsCanonicalText names protocol text) → (further : List (List ℕ))
     → IsCanonicalText (record { roles = names.roles; labels = grown (grown [] (labels_of Talks c.tree.body)) further }) protocol text
@@ -120,7 +72,7 @@ front_printed_again names protocol text shaped sound enough c further =
       tree = c.tree;
       canonical = record {
         roles = c.canonical.roles;
-        body = draws_again c.tree.body names (grown first further) protocol 0 protocol.root (λ l i a h. stay names.labels first further d e l i (grown_new l (labels_of Talks c.tree.body) [] a) h) c.canonical.body;
+        body = draws_stays c.tree.body names (grown first further) (places_of_protocol protocol) 0 protocol.root (λ l i a h. stay names.labels first further d e l i (grown_new l (labels_of Talks c.tree.body) [] a) h) c.canonical.body;
       };
       is = c.is;
     }

@@ -21,7 +21,7 @@ use Rattle.rs_documents.proofs.CanShow.{can_show, kept}
 use Rattle.rs_documents.proofs.OneDocument.{front_few}
 use Rattle.rs_documents.proofs.PartKinds.{of_derivations, of_machines}
 use Rattle.rs_documents.proofs.Parts.{good, keeps, keeps_few, none_there, row_of, size_of_none}
-use Rattle.rs_machines.proofs.CanonNumbers.{sound_parts}
+use Rattle.rs_bodies.proofs.WrittenNames.{sound_parts}
 use Rattle.rs_machines.specs.Spells.{SpellsMachine}
 use Rattle.rs_machines.specs.Trees.{machine_signs}
 use Rattle.rs_model.specs.Data.{Names_data, Machine_data}

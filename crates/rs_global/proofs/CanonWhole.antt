@@ -162,7 +162,7 @@ printed_text_is_read_again names protocol text shaped sound enough c =
 abbrev AreFirst : Names_data → ℕ → List (List ℕ) → Type 0
 AreFirst names n labels = (l : List ℕ) (i : ℕ) → is_among l labels ≡ true → slice_get names.labels i ≡ Some l → slice_get (take n names.labels) i ≡ Some l
 
-taken_stands : (xs : List (List ℕ)) (n i : ℕ) (x : List ℕ) → slice_get (take n xs) i ≡ Some x → slice_get xs i ≡ Some x
+pub taken_stands : (xs : List (List ℕ)) (n i : ℕ) (x : List ℕ) → slice_get (take n xs) i ≡ Some x → slice_get xs i ≡ Some x
 taken_stands xs zero i x e = absurd (cc e)
 taken_stands [] (suc n) i x e = absurd (cc e)
 taken_stands (y ∷ xs) (suc n) zero x e = e
