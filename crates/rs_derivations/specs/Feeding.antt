@@ -13,9 +13,9 @@ use Rattle.rs_text.specs.declared.faults.TextFault.{TextFault}
 use Rattle.rs_text.specs.declared.faults.TextKind.TheVariants as kind
 use Rattle.rs_text.specs.declared.faults.Wanted.{Wanted}
 use Rattle.rs_text.specs.declared.faults.Wanted.TheVariants as wanted
-use Rattle.rs_text.specs.Lexemes.{Lexeme}
 use Rattle.rs_text.specs.Names.{place_of}
-use Rattle.rs_text.specs.Readings.{Automaton, fault, expected}
+use Rattle.rs_text.specs.Readings.{Automaton, fault, expected, Fails}
+use Rattle.rs_text.specs.declared.reading.Stop.{Stop}
 use Rattle.rs_text.specs.Seen.{is_text, plain_text, word_text, sort_named}
 use Rattle.rs_text.specs.Signs.{Sign, number, bang, question, colon, comma, open_brace, close_brace, open_paren, close_paren, open_bracket, close_bracket}
 use Rattle.rs_derivations.specs.declared.reading.Mode.{Mode}
@@ -272,3 +272,8 @@ names_read r = record { roles = r.roles; labels = r.labels }
 -- .. as a derivation
 abbrev pub derivation_read : Reader_data → Derivation_data
 derivation_read r = record { role = r.role; bound = r.bound; nodes = r.nodes }
+
+-- a method takes one step of the reader; where it stops the names are as before
+abbrev pub Feeds : Result (Unit {0}) Stop → Fed → (old new : Reader_data) → Type 0
+Feeds (Ok done) fed old new = fed ≡ Ok new
+Feeds (Err stop) fed old new = Fails stop fed × (names_read new ≡ names_read old)

@@ -2,7 +2,6 @@ ghost use Rattle.std.specs.Prelude.{◌≡◌, ◌≤◌, ◌++◌, ◌∷◌, [
 ghost use Rattle.std.specs.Option.{option_map};
 ghost use Rattle.rs_model.specs.declared.limits.TheConstants.{MOST_LABELS, MOST_ROLES};
 ghost use Rattle.rs_text.specs.Lexemes.{sign_of, text_of};
-ghost use Rattle.rs_text.specs.Readings.{Fails};
 ghost use Rattle.rs_text.specs.Seen.{plain_text, word_text, is_text};
 ghost use Rattle.rs_derivations.specs.Derivations.{act_of_kind};
 ghost use Rattle.rs_derivations.specs.Faults.{number_value};
@@ -311,9 +310,7 @@ impl<'a> Reader<'a> {
 
     /// Passes the right token.
     fn pass(&mut self, right: bool, wanted: Wanted, mode: Mode, at: usize) -> Result<(), Stop>
-        ensures ok { OnOk result (spec.passes right wanted mode at self.old ≡ Ok self.new) }
-        ensures err { IfErr result (λ e. Fails e (spec.passes right wanted mode at self.old)) }
-        ensures kept { OnErr result (names_read self.new ≡ names_read self.old) }
+        ensures { spec.Feeds result (spec.passes right wanted mode at self.old) self.old self.new }
     {
         if right {
             self.mode = mode;
@@ -326,9 +323,7 @@ impl<'a> Reader<'a> {
     fn own_role(&mut self, bytes: &[u8], token: Token) -> Result<(), Stop>
         requires ordered { token.from ≤ token.until }
         requires within { token.until ≤ length bytes.now }
-        ensures ok { OnOk result (spec.feed_role (plain_text (sign_of token.kind (text_of bytes.now token))) token.from self.old ≡ Ok self.new) }
-        ensures err { IfErr result (λ e. Fails e (spec.feed_role (plain_text (sign_of token.kind (text_of bytes.now token))) token.from self.old)) }
-        ensures kept { OnErr result (names_read self.new ≡ names_read self.old) }
+        ensures { spec.Feeds result (spec.feed_role (plain_text (sign_of token.kind (text_of bytes.now token))) token.from self.old) self.old self.new }
     {
         let Some(word) = seen::plain(bytes, token) else {
             return expected(Wanted::Role, token.from);
@@ -338,9 +333,7 @@ impl<'a> Reader<'a> {
     }
 
     fn played_by(&mut self, role: Option<Role>, at: usize) -> Result<(), Stop>
-        ensures ok { OnOk result (spec.played_by (option_map (λ role. role.0) role) at self.old ≡ Ok self.new) }
-        ensures err { IfErr result (λ e. Fails e (spec.played_by (option_map (λ role. role.0) role) at self.old)) }
-        ensures kept { OnErr result (names_read self.new ≡ names_read self.old) }
+        ensures { spec.Feeds result (spec.played_by (option_map (λ role. role.0) role) at self.old) self.old self.new }
     {
         let Some(role) = role else {
             return fault(TextKind::UnknownRole, at);
@@ -351,9 +344,7 @@ impl<'a> Reader<'a> {
     }
 
     fn bound(&mut self, number: Option<u32>, at: usize) -> Result<(), Stop>
-        ensures ok { OnOk result (spec.feed_bound number at self.old ≡ Ok self.new) }
-        ensures err { IfErr result (λ e. Fails e (spec.feed_bound number at self.old)) }
-        ensures kept { OnErr result (names_read self.new ≡ names_read self.old) }
+        ensures { spec.Feeds result (spec.feed_bound number at self.old) self.old self.new }
     {
         let Some(number) = number else {
             return expected(Wanted::BoundNumber, at);
@@ -368,9 +359,7 @@ impl<'a> Reader<'a> {
 
     /// A further node, by its number, or the end.
     fn node(&mut self, number: Option<u32>, closes: bool, at: usize) -> Result<(), Stop>
-        ensures ok { OnOk result (spec.feed_node number closes at self.old ≡ Ok self.new) }
-        ensures err { IfErr result (λ e. Fails e (spec.feed_node number closes at self.old)) }
-        ensures kept { OnErr result (names_read self.new ≡ names_read self.old) }
+        ensures { spec.Feeds result (spec.feed_node number closes at self.old) self.old self.new }
     {
         let wanted = node_wanted(self.nodes.as_slice());
         let Some(number) = number else {
@@ -388,9 +377,7 @@ impl<'a> Reader<'a> {
     }
 
     fn state(&mut self, number: Option<u32>, at: usize) -> Result<(), Stop>
-        ensures ok { OnOk result (spec.feed_state number at self.old ≡ Ok self.new) }
-        ensures err { IfErr result (λ e. Fails e (spec.feed_state number at self.old)) }
-        ensures kept { OnErr result (names_read self.new ≡ names_read self.old) }
+        ensures { spec.Feeds result (spec.feed_state number at self.old) self.old self.new }
     {
         let Some(number) = number else {
             return expected(Wanted::Number, at);
@@ -404,9 +391,7 @@ impl<'a> Reader<'a> {
     fn act(&mut self, bytes: &[u8], token: Token) -> Result<(), Stop>
         requires ordered { token.from ≤ token.until }
         requires within { token.until ≤ length bytes.now }
-        ensures ok { OnOk result (spec.feed_act (plain_text (sign_of token.kind (text_of bytes.now token))) (spec.is_close_bracket (sign_of token.kind (text_of bytes.now token))) token.from self.old ≡ Ok self.new) }
-        ensures err { IfErr result (λ e. Fails e (spec.feed_act (plain_text (sign_of token.kind (text_of bytes.now token))) (spec.is_close_bracket (sign_of token.kind (text_of bytes.now token))) token.from self.old)) }
-        ensures kept { OnErr result (names_read self.new ≡ names_read self.old) }
+        ensures { spec.Feeds result (spec.feed_act (plain_text (sign_of token.kind (text_of bytes.now token))) (spec.is_close_bracket (sign_of token.kind (text_of bytes.now token))) token.from self.old) self.old self.new }
     {
         let Some(word) = seen::plain(bytes, token) else {
             let acts = self.node.pending.as_slice();
@@ -419,9 +404,7 @@ impl<'a> Reader<'a> {
     }
 
     fn met_by(&mut self, peer: Option<Role>, at: usize) -> Result<(), Stop>
-        ensures ok { OnOk result (spec.met_by (option_map (λ role. role.0) peer) at self.old ≡ Ok self.new) }
-        ensures err { IfErr result (λ e. Fails e (spec.met_by (option_map (λ role. role.0) peer) at self.old)) }
-        ensures kept { OnErr result (names_read self.new ≡ names_read self.old) }
+        ensures { spec.Feeds result (spec.met_by (option_map (λ role. role.0) peer) at self.old) self.old self.new }
     {
         let Some(peer) = peer else {
             return fault(TextKind::UnknownRole, at);
@@ -431,9 +414,7 @@ impl<'a> Reader<'a> {
     }
 
     fn mark(&mut self, peer: Role, kind: Option<Kind>, at: usize) -> Result<(), Stop>
-        ensures ok { OnOk result (spec.feed_mark peer kind at self.old ≡ Ok self.new) }
-        ensures err { IfErr result (λ e. Fails e (spec.feed_mark peer kind at self.old)) }
-        ensures kept { OnErr result (names_read self.new ≡ names_read self.old) }
+        ensures { spec.Feeds result (spec.feed_mark peer kind at self.old) self.old self.new }
     {
         let Some(kind) = kind else {
             return expected(Wanted::Mark, at);
@@ -445,9 +426,7 @@ impl<'a> Reader<'a> {
     fn label(&mut self, peer: Role, kind: Kind, bytes: &[u8], token: Token) -> Result<(), Stop>
         requires ordered { token.from ≤ token.until }
         requires within { token.until ≤ length bytes.now }
-        ensures ok { OnOk result (spec.feed_label peer kind (word_text (sign_of token.kind (text_of bytes.now token))) token.from self.old ≡ Ok self.new) }
-        ensures err { IfErr result (λ e. Fails e (spec.feed_label peer kind (word_text (sign_of token.kind (text_of bytes.now token))) token.from self.old)) }
-        ensures kept { OnErr result (names_read self.new ≡ names_read self.old) }
+        ensures { spec.Feeds result (spec.feed_label peer kind (word_text (sign_of token.kind (text_of bytes.now token))) token.from self.old) self.old self.new }
     {
         let Some(word) = seen::word(bytes, token) else {
             return expected(Wanted::Label, token.from);
@@ -464,9 +443,7 @@ impl<'a> Reader<'a> {
         word: &[u8],
         at: usize,
     ) -> Result<(), Stop>
-        ensures ok { OnOk result (spec.labelled_by (option_map (λ label. label.0) label) peer kind word.now at self.old ≡ Ok self.new) }
-        ensures err { IfErr result (λ e. Fails e (spec.labelled_by (option_map (λ label. label.0) label) peer kind word.now at self.old)) }
-        ensures kept { OnErr result (names_read self.new ≡ names_read self.old) }
+        ensures { spec.Feeds result (spec.labelled_by (option_map (λ label. label.0) label) peer kind word.now at self.old) self.old self.new }
     {
         let Some(label) = label else {
             return self.new_label(peer, kind, word, at);
@@ -476,9 +453,7 @@ impl<'a> Reader<'a> {
     }
 
     fn new_label(&mut self, peer: Role, kind: Kind, word: &[u8], at: usize) -> Result<(), Stop>
-        ensures ok { OnOk result (spec.labelled_by None peer kind word.now at self.old ≡ Ok self.new) }
-        ensures err { IfErr result (λ e. Fails e (spec.labelled_by None peer kind word.now at self.old)) }
-        ensures kept { OnErr result (names_read self.new ≡ names_read self.old) }
+        ensures { spec.Feeds result (spec.labelled_by None peer kind word.now at self.old) self.old self.new }
     {
         let place = self.labels.len();
         if place >= MOST_LABELS {
@@ -501,9 +476,7 @@ impl<'a> Reader<'a> {
     ) -> Result<(), Stop>
         requires ordered { token.from ≤ token.until }
         requires within { token.until ≤ length bytes.now }
-        ensures ok { OnOk result (spec.feed_sort peer kind label (plain_text (sign_of token.kind (text_of bytes.now token))) (spec.is_close_paren (sign_of token.kind (text_of bytes.now token))) token.from self.old ≡ Ok self.new) }
-        ensures err { IfErr result (λ e. Fails e (spec.feed_sort peer kind label (plain_text (sign_of token.kind (text_of bytes.now token))) (spec.is_close_paren (sign_of token.kind (text_of bytes.now token))) token.from self.old)) }
-        ensures kept { OnErr result (names_read self.new ≡ names_read self.old) }
+        ensures { spec.Feeds result (spec.feed_sort peer kind label (plain_text (sign_of token.kind (text_of bytes.now token))) (spec.is_close_paren (sign_of token.kind (text_of bytes.now token))) token.from self.old) self.old self.new }
     {
         let Some(word) = seen::plain(bytes, token) else {
             if is_close_paren(bytes, token) {
@@ -523,9 +496,7 @@ impl<'a> Reader<'a> {
         label: Label,
         at: usize,
     ) -> Result<(), Stop>
-        ensures ok { OnOk result (spec.sorted_by sort peer kind label at self.old ≡ Ok self.new) }
-        ensures err { IfErr result (λ e. Fails e (spec.sorted_by sort peer kind label at self.old)) }
-        ensures kept { OnErr result (names_read self.new ≡ names_read self.old) }
+        ensures { spec.Feeds result (spec.sorted_by sort peer kind label at self.old) self.old self.new }
     {
         let Some(sort) = sort else {
             return expected(Wanted::SortOrCloseParen, at);
@@ -559,9 +530,7 @@ impl<'a> Reader<'a> {
         closes: bool,
         at: usize,
     ) -> Result<(), Stop>
-        ensures ok { OnOk result (spec.feed_close_paren peer kind label sort closes at self.old ≡ Ok self.new) }
-        ensures err { IfErr result (λ e. Fails e (spec.feed_close_paren peer kind label sort closes at self.old)) }
-        ensures kept { OnErr result (names_read self.new ≡ names_read self.old) }
+        ensures { spec.Feeds result (spec.feed_close_paren peer kind label sort closes at self.old) self.old self.new }
     {
         if closes {
             self.pend(peer, kind, label, sort)
@@ -571,9 +540,7 @@ impl<'a> Reader<'a> {
     }
 
     fn behind_act(&mut self, goes: bool, closes: bool, at: usize) -> Result<(), Stop>
-        ensures ok { OnOk result (spec.feed_behind_act goes closes at self.old ≡ Ok self.new) }
-        ensures err { IfErr result (λ e. Fails e (spec.feed_behind_act goes closes at self.old)) }
-        ensures kept { OnErr result (names_read self.new ≡ names_read self.old) }
+        ensures { spec.Feeds result (spec.feed_behind_act goes closes at self.old) self.old self.new }
     {
         if goes {
             self.mode = Mode::AtAct;
@@ -583,9 +550,7 @@ impl<'a> Reader<'a> {
     }
 
     fn above(&mut self, number: Option<u32>, at: usize) -> Result<(), Stop>
-        ensures ok { OnOk result (spec.feed_above number at self.old ≡ Ok self.new) }
-        ensures err { IfErr result (λ e. Fails e (spec.feed_above number at self.old)) }
-        ensures kept { OnErr result (names_read self.new ≡ names_read self.old) }
+        ensures { spec.Feeds result (spec.feed_above number at self.old) self.old self.new }
     {
         let Some(number) = number else {
             return expected(Wanted::Number, at);
@@ -596,9 +561,7 @@ impl<'a> Reader<'a> {
     }
 
     fn rank(&mut self, number: Option<u32>, at: usize) -> Result<(), Stop>
-        ensures ok { OnOk result (spec.feed_rank number at self.old ≡ Ok self.new) }
-        ensures err { IfErr result (λ e. Fails e (spec.feed_rank number at self.old)) }
-        ensures kept { OnErr result (names_read self.new ≡ names_read self.old) }
+        ensures { spec.Feeds result (spec.feed_rank number at self.old) self.old self.new }
     {
         let Some(number) = number else {
             return expected(Wanted::Number, at);
@@ -622,9 +585,7 @@ impl<'a> Reader<'a> {
 
     /// A further next, or the end of the node.
     fn next(&mut self, number: Option<u32>, closes: bool, at: usize) -> Result<(), Stop>
-        ensures ok { OnOk result (spec.feed_next number closes at self.old ≡ Ok self.new) }
-        ensures err { IfErr result (λ e. Fails e (spec.feed_next number closes at self.old)) }
-        ensures kept { OnErr result (names_read self.new ≡ names_read self.old) }
+        ensures { spec.Feeds result (spec.feed_next number closes at self.old) self.old self.new }
     {
         let Some(number) = number else {
             if closes && has_no_numbers(self.node.next.as_slice()) {
@@ -638,9 +599,7 @@ impl<'a> Reader<'a> {
     }
 
     fn behind_next(&mut self, goes: bool, closes: bool, at: usize) -> Result<(), Stop>
-        ensures ok { OnOk result (spec.feed_behind_next goes closes at self.old ≡ Ok self.new) }
-        ensures err { IfErr result (λ e. Fails e (spec.feed_behind_next goes closes at self.old)) }
-        ensures kept { OnErr result (names_read self.new ≡ names_read self.old) }
+        ensures { spec.Feeds result (spec.feed_behind_next goes closes at self.old) self.old self.new }
     {
         if goes {
             self.mode = Mode::AtNext;
@@ -657,9 +616,7 @@ impl<'a> Reader<'a> {
         requires ordered { token.from ≤ token.until }
         requires within { token.until ≤ length bytes.now }
         requires small { IsSmall (sign_of token.kind (text_of bytes.now token)) }
-        ensures ok { OnOk result (spec.feed_of (sign_of token.kind (text_of bytes.now token)) token.from self.old ≡ Ok self.new) }
-        ensures err { IfErr result (λ e. Fails e (spec.feed_of (sign_of token.kind (text_of bytes.now token)) token.from self.old)) }
-        ensures kept { OnErr result (names_read self.new ≡ names_read self.old) }
+        ensures { spec.Feeds result (spec.feed_of (sign_of token.kind (text_of bytes.now token)) token.from self.old) self.old self.new }
     {
         let at = token.from;
         match self.mode {
@@ -723,9 +680,7 @@ impl<'a> Reader<'a> {
         requires ordered { token.from ≤ token.until }
         requires within { token.until ≤ length bytes.now }
         requires small { IsSmall (sign_of token.kind (text_of bytes.now token)) }
-        ensures ok { OnOk result (spec.feed_rest self.old.mode (sign_of token.kind (text_of bytes.now token)) token.from self.old ≡ Ok self.new) }
-        ensures err { IfErr result (λ e. Fails e (spec.feed_rest self.old.mode (sign_of token.kind (text_of bytes.now token)) token.from self.old)) }
-        ensures kept { OnErr result (names_read self.new ≡ names_read self.old) }
+        ensures { spec.Feeds result (spec.feed_rest self.old.mode (sign_of token.kind (text_of bytes.now token)) token.from self.old) self.old self.new }
     {
         let at = token.from;
         match self.mode {
