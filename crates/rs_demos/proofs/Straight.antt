@@ -6,23 +6,31 @@ use Rattle.std.proofs.lemmas.Bool.Decides.{eqb_tells}
 use Rattle.std.proofs.lemmas.Fmt.{decimal_digit}
 use Rattle.rs_model.specs.Data.{Names_data, Machine_data}
 use Rattle.rs_model.specs.declared.graph.Arm.{Arm}
-use Rattle.rs_model.specs.declared.graph.Node.TheVariants.{Talk}
+use Rattle.rs_model.specs.declared.graph.Node.TheVariants.{Finished, Talk}
 use Rattle.rs_model.specs.declared.graph.Role.{Role}
-use Rattle.rs_model.specs.declared.machines.State.TheVariants.{Puts, Takes}
+use Rattle.rs_model.specs.declared.machines.State.TheVariants.{Done, Puts, Takes}
 use Rattle.rs_model.specs.declared.values.Sort.TheVariants as sort
 use Rattle.rs_global.specs.Canonical as protocol
 use Rattle.rs_global.specs.Texts as protocol_texts
 use Rattle.rs_global.specs.Trees as protocol_trees
 use Rattle.rs_bodies.specs.Dialects.{sends_to}
+use Rattle.rs_bodies.specs.Canonical.{Draws}
+use Rattle.rs_bodies.specs.Places.{choice, place_of_node, place_of_state, places_of_protocol, places_of_machine, IsGoneBackTo}
 use Rattle.rs_bodies.specs.Trees as bodies
+use Rattle.rs_bodies.specs.declared.dialects.Head.{Head}
+use Rattle.rs_bodies.specs.declared.dialects.Head.TheVariants as head
+use Rattle.rs_bodies.specs.declared.places.Place.{Place}
+use Rattle.rs_bodies.specs.declared.places.Place.TheVariants as place
+use Rattle.rs_text.proofs.Basics.{some_is}
+use Rattle.rs_global.proofs.Places.{stands as node_stands}
+use Rattle.rs_machines.proofs.Places.{act_stands, stands as state_stands}
+use Rattle.rs_machines.specs.Machines.{state_of}
+use Rattle.rs_bodies.specs.declared.dialects.Mark.{Mark}
 use Rattle.rs_bodies.specs.declared.dialects.Dialect.TheVariants.{Talks, Acts}
 use Rattle.rs_bodies.specs.Dialects.{with_mark}
-use Rattle.rs_machines.specs.Canonical as machine'
 use Rattle.rs_machines.specs.Canonical.{IsCanonicalMachineText}
-use Rattle.rs_machines.specs.Machines.{state_of}
 use Rattle.rs_machines.specs.Texts as machine_texts
 use Rattle.rs_machines.specs.Trees as machine_trees
-use Rattle.rs_bodies.specs.declared.dialects.Mark.{Mark}
 use Rattle.rs_bodies.specs.declared.dialects.Mark.TheVariants as mark
 use Rattle.rs_demos.specs.Sessions.{demo_names, Exchange, role, arm, machine, role_name, numbers_from, nodes_from, states_from, protocol_of, has_session, ring_exchanges, ring_pairs, butterfly_exchanges, butterfly_pairs, written}
 use Rattle.rs_documents.specs.Canonical.{AreCanonicalMachines}
@@ -80,31 +88,37 @@ are_within n xs = list_all (is_within n) xs
 
 -- the protocol
 
-nodes-next : (xs : List Exchange) (k i : ℕ) (s r : Role) (arms : List Arm) → slice_get (nodes_from k xs) i ≡ Some (Talk s r arms)
-    → arms ≡ arm 0 sort.Whole (suc (k + i)) ∷ []
-nodes-next [] k zero s r arms e = absurd (cc (e))
-nodes-next [] k (suc i) s r arms e = absurd (cc (e))
-nodes-next (x ∷ xs) k zero s r arms e =
-    let f : suc k ≡ suc (k + 0) = omega arith in
-    let h : arm 0 sort.Whole (suc k) ∷ [] ≡ arms = cc (e) in
-    sym h ∙ ap (λ (z : ℕ). arm 0 sort.Whole z ∷ []) f
-nodes-next (x ∷ xs) k (suc i) s r arms e =
-    let f : suc (suc k + i) ≡ suc (k + suc i) = omega arith in
-    nodes-next xs (suc k) i s r arms e ∙ ap (λ (z : ℕ). arm 0 sort.Whole z ∷ []) f
+abbrev arms_at : Place → List Arm
+arms_at place.End = []
+arms_at (place.Point p) = p.arms
 
-free : (n : ℕ) (xs : List Exchange) (j : ℕ) → protocol.IsGoneBackTo (protocol_of n xs) j → ⊥
-free n xs j g =
-    let e = nodes-next xs 0 g.node g.sender g.receiver g.arms g.talks in
-    let there = ap (λ (z : List Arm). slice_get z g.place) (sym e) ∙ g.stands in
-    let a = only-arm (arm 0 sort.Whole (suc (0 + g.node))) g.arm g.place there in
-    let next : suc (0 + g.node) ≡ j = ap (λ (z : Arm). z.next) a ∙ g.leads in
+places-next : (xs : List Exchange) (k i : ℕ) (h : Head) (arms : List Arm) → slice_get (map place_of_node (nodes_from k xs)) i ≡ Some (choice h arms)
+    → arms ≡ arm 0 sort.Whole (suc (k + i)) ∷ []
+places-next [] k zero h arms e = absurd (cc (e))
+places-next [] k (suc i) h arms e = absurd (cc (e))
+places-next (x ∷ xs) k zero h arms e =
+    let f : suc k ≡ suc (k + 0) = omega arith in
+    sym (ap arms_at (some_is (choice (head.Talk (role x.0) (role x.1)) (arm 0 sort.Whole (suc k) ∷ [])) (choice h arms) e)) ∙ ap (λ (z : ℕ). arm 0 sort.Whole z ∷ []) f
+places-next (x ∷ xs) k (suc i) h arms e =
+    let f : suc (suc k + i) ≡ suc (k + suc i) = omega arith in
+    places-next xs (suc k) i h arms e ∙ ap (λ (z : ℕ). arm 0 sort.Whole z ∷ []) f
+
+-- where each head leads to the next place, none is gone back to
+none-back : (places : List Place) → ((i : ℕ) (h : Head) (arms : List Arm) → slice_get places i ≡ Some (choice h arms) → arms ≡ arm 0 sort.Whole (suc (0 + i)) ∷ []) → (j : ℕ) → IsGoneBackTo places j → ⊥
+none-back places next j g =
+    let there = ap (λ (z : List Arm). slice_get z g.index) (sym (next g.number g.head g.arms g.stands)) ∙ g.holds in
+    let a = only-arm (arm 0 sort.Whole (suc (0 + g.number))) g.arm g.index there in
+    let leads : suc (0 + g.number) ≡ j = ap (λ (z : Arm). z.next) a ∙ g.leads in
     let b = g.behind in
     omega arith
 
+free : (n : ℕ) (xs : List Exchange) (j : ℕ) → IsGoneBackTo (places_of_protocol (protocol_of n xs)) j → ⊥
+free n xs j g = none-back (places_of_protocol (protocol_of n xs)) (λ i h arms e. places-next xs 0 i h arms e) j g
+
 draws : (xs : List Exchange) (n : ℕ) (all : List Exchange) (from k : ℕ) → from ≤ k → are_within n xs ≡ true
     → ((i : ℕ) → slice_get (nodes_from 0 all) (k + i) ≡ slice_get (nodes_from k xs) i)
-    → protocol.Draws (names_for n) (protocol_of n all) from k (body_of xs)
-draws [] n all from k le w at = let e : k ≡ k + 0 = omega arith in ap (λ (i : ℕ). slice_get (nodes_from 0 all) i) e ∙ at 0
+    → Draws Talks (names_for n) (places_of_protocol (protocol_of n all)) from k (body_of xs)
+draws [] n all from k le w at = let e : k ≡ k + 0 = omega arith in node_stands (nodes_from 0 all) k Finished (ap (λ (i : ℕ). slice_get (nodes_from 0 all) i) e ∙ at 0)
 draws (x ∷ xs) n all from k le w at =
     let p = and_parts (is_within n x) (are_within n xs) w in
     let q = and_parts (nat_lt x.0 n) (nat_lt x.1 n) p.0 in
@@ -116,7 +130,7 @@ draws (x ∷ xs) n all from k le w at =
       free n all k,
       (
         arm 0 sort.Whole (suc k),
-        record { sender = role x.0; receiver = role x.1; talks = here; sends = name-of n x.0 (ltb-true x.0 n q.0); receives = name-of n x.1 (ltb-true x.1 n q.1) },
+        record { head = head.Talk (role x.0) (role x.1); stands = node_stands (nodes_from 0 all) k (Talk (role x.0) (role x.1) (arm 0 sort.Whole (suc k) ∷ [])) here; named = (name-of n x.0 (ltb-true x.0 n q.0), name-of n x.1 (ltb-true x.1 n q.1)) },
         (refl, refl),
         draws xs n all (k + 1) (suc k) (omega arith) p.1 later,
       ),
@@ -124,38 +138,31 @@ draws (x ∷ xs) n all from k le w at =
 
 -- a machine
 
+state-places-next : (xs : List Exchange) (k i : ℕ) (h : Head) (arms : List Arm) → slice_get (map place_of_state (states_from k xs)) i ≡ Some (choice h arms)
+    → arms ≡ arm 0 sort.Whole (suc (k + i)) ∷ []
+state-places-next [] k zero h arms e = absurd (cc (e))
+state-places-next [] k (suc i) h arms e = absurd (cc (e))
+state-places-next (x ∷ xs) k zero h arms e =
+    let f : suc k ≡ suc (k + 0) = omega arith in
+    sym (ap arms_at (some_is (choice (head.Act (role x.0) mark.Puts) (arm 0 sort.Whole (suc k) ∷ [])) (choice h arms) e)) ∙ ap (λ (z : ℕ). arm 0 sort.Whole z ∷ []) f
+state-places-next (x ∷ xs) k (suc zero) h arms e =
+    let f : suc (suc k) ≡ suc (k + 1) = omega arith in
+    sym (ap arms_at (some_is (choice (head.Act (role x.1) mark.Takes) (arm 0 sort.Whole (suc (suc k)) ∷ [])) (choice h arms) e)) ∙ ap (λ (z : ℕ). arm 0 sort.Whole z ∷ []) f
+state-places-next (x ∷ xs) k (suc (suc i)) h arms e =
+    let f : suc (suc (suc k) + i) ≡ suc (k + suc (suc i)) = omega arith in
+    state-places-next xs (suc (suc k)) i h arms e ∙ ap (λ (z : ℕ). arm 0 sort.Whole z ∷ []) f
+
 pub states-next : (xs : List Exchange) (s i : ℕ) (m : Mark) (peer : Role) (arms : List Arm) → slice_get (states_from s xs) i ≡ Some (state_of m peer arms)
     → arms ≡ arm 0 sort.Whole (suc (s + i)) ∷ []
-states-next [] s zero mark.Puts peer arms e = absurd (cc (e))
-states-next [] s zero mark.Takes peer arms e = absurd (cc (e))
-states-next [] s (suc i) m peer arms e = absurd (cc (e))
-states-next (x ∷ xs) s zero mark.Puts peer arms e =
-    let f : suc s ≡ suc (s + 0) = omega arith in
-    let h : arm 0 sort.Whole (suc s) ∷ [] ≡ arms = cc (e) in
-    sym h ∙ ap (λ (z : ℕ). arm 0 sort.Whole z ∷ []) f
-states-next (x ∷ xs) s zero mark.Takes peer arms e = absurd (cc (e))
-states-next (x ∷ xs) s (suc zero) mark.Puts peer arms e = absurd (cc (e))
-states-next (x ∷ xs) s (suc zero) mark.Takes peer arms e =
-    let f : suc (suc s) ≡ suc (s + 1) = omega arith in
-    let h : arm 0 sort.Whole (suc (suc s)) ∷ [] ≡ arms = cc (e) in
-    sym h ∙ ap (λ (z : ℕ). arm 0 sort.Whole z ∷ []) f
-states-next (x ∷ xs) s (suc (suc i)) m peer arms e =
-    let f : suc (suc (suc s) + i) ≡ suc (s + suc (suc i)) = omega arith in
-    states-next xs (suc (suc s)) i m peer arms e ∙ ap (λ (z : ℕ). arm 0 sort.Whole z ∷ []) f
+states-next xs s i m peer arms e = state-places-next xs s i (head.Act peer m) arms (act_stands (machine 0 (states_from s xs)) i m peer arms e)
 
-machine-free : (p : ℕ) (xs : List Exchange) (j : ℕ) → machine'.IsGoneBackTo (machine p (states_from 0 xs)) j → ⊥
-machine-free p xs j g =
-    let e = states-next xs 0 g.state g.mark g.peer g.arms g.acts in
-    let there = ap (λ (z : List Arm). slice_get z g.place) (sym e) ∙ g.stands in
-    let a = only-arm (arm 0 sort.Whole (suc (0 + g.state))) g.arm g.place there in
-    let next : suc (0 + g.state) ≡ j = ap (λ (z : Arm). z.next) a ∙ g.leads in
-    let b = g.behind in
-    omega arith
+machine-free : (p : ℕ) (xs : List Exchange) (j : ℕ) → IsGoneBackTo (places_of_machine (machine p (states_from 0 xs))) j → ⊥
+machine-free p xs j g = none-back (places_of_machine (machine p (states_from 0 xs))) (λ i h arms e. state-places-next xs 0 i h arms e) j g
 
 machine-draws : (xs : List Exchange) (n p : ℕ) (all : List Exchange) (from k : ℕ) → from ≤ k → are_within n xs ≡ true
     → ((i : ℕ) → slice_get (states_from 0 all) (k + i) ≡ slice_get (states_from k xs) i)
-    → machine'.Draws (names_for n) (machine p (states_from 0 all)) from k (acts_of xs)
-machine-draws [] n p all from k le w at = let e : k ≡ k + 0 = omega arith in ap (λ (i : ℕ). slice_get (states_from 0 all) i) e ∙ at 0
+    → Draws Acts (names_for n) (places_of_machine (machine p (states_from 0 all))) from k (acts_of xs)
+machine-draws [] n p all from k le w at = let e : k ≡ k + 0 = omega arith in state_stands (states_from 0 all) k Done (ap (λ (i : ℕ). slice_get (states_from 0 all) i) e ∙ at 0)
 machine-draws (x ∷ xs) n p all from k le w at =
     let c = and_parts (is_within n x) (are_within n xs) w in
     let q = and_parts (nat_lt x.0 n) (nat_lt x.1 n) c.0 in
@@ -169,14 +176,14 @@ machine-draws (x ∷ xs) n p all from k le w at =
       machine-free p all k,
       (
         arm 0 sort.Whole (suc k),
-        record { peer = role x.0; acts = here; named = name-of n x.0 (ltb-true x.0 n q.0) },
+        record { head = head.Act (role x.0) mark.Puts; stands = state_stands (states_from 0 all) k (Puts (role x.0) (arm 0 sort.Whole (suc k) ∷ [])) here; named = (name-of n x.0 (ltb-true x.0 n q.0), refl) },
         (refl, refl),
         (
           omega arith,
           machine-free p all (suc k),
           (
             arm 0 sort.Whole (suc (suc k)),
-            record { peer = role x.1; acts = second; named = name-of n x.1 (ltb-true x.1 n q.1) },
+            record { head = head.Act (role x.1) mark.Takes; stands = state_stands (states_from 0 all) (suc k) (Takes (role x.1) (arm 0 sort.Whole (suc (suc k)) ∷ [])) second; named = (name-of n x.1 (ltb-true x.1 n q.1), refl) },
             (refl, refl),
             machine-draws xs n p all (suc k + 1) (suc (suc k)) (omega arith) c.1 later,
           ),
