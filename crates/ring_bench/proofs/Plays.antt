@@ -90,6 +90,15 @@ pub stand_first : (ms machines : List Machine_data) (rings : Rings_data) (pass :
     → (r : ℕ) → r < length machines → Stands rings pass r (start_of (slice_get machines r)) 0
 stand_first ms machines rings pass same stand = subst (λ (z : List Machine_data). (r : ℕ) → r < length z → Stands rings pass r (start_of (slice_get z r)) 0) same stand
 
+-- .. of two roles both
+pub both_stand_first : (ms machines : List Machine_data) (rings : Rings_data) (pass : Pass_data) → ms ≡ machines → length machines ≡ 2 → ((r : ℕ) → r < length ms → Stands rings pass r (start_of (slice_get ms r)) 0)
+    → Stands rings pass 0 (start_of (slice_get machines 0)) 0 × Stands rings pass 1 (start_of (slice_get machines 1)) 0
+both_stand_first ms machines rings pass same two stand =
+    let all = stand_first ms machines rings pass same stand in
+    let first : 0 < length machines = omega (arith, two) in
+    let second : 1 < length machines = omega (arith, two) in
+    (all 0 first, all 1 second)
+
 -- a cut
 pub cut_own : (rings : Rings_data) (pass own : Pass_data) (r s n : ℕ) → own.table ≡ pass.table → own.view ≡ alone r pass.view → Stands rings pass r s n → Stands rings own r s n
 cut_own rings pass own r s n table view at =

@@ -1,12 +1,13 @@
 // Sessions from their start to their end.
 ghost use Rattle.std.specs.Prelude.{◌≡◌, ◌+◌, ◌*◌, ◌<◌, ◌≤◌, ◌^◌, IfOk};
 ghost use Rattle.rs_model.specs.Limits.{IsCapacity};
+ghost use Rattle.rs_model.specs.declared.limits.TheConstants.{MOST_CAPACITY};
 
 use crate::machines;
 use crate::players::{Player, begin, gather, give_up, pair_of, player_of};
 use crate::runs::{hear, in_turn};
 use crate::threads::{relay_by_two, rounds_by_two, stream_by_two};
-use rs_model::{NoMemory, Role};
+use rs_model::{MOST_CAPACITY, NoMemory, Role};
 use std::alloc::Global;
 use std::sync::Wait;
 use std::thread::Threads;
@@ -64,10 +65,10 @@ pub fn rounds<R: Threads + Wait + Sync>(
 /// how many parcels came in order.
 #[tactic(auto, using(crate::proofs::Safe::is_relay_safe, crate::proofs::Safe::is_relay_fits, crate::proofs::Plays::all_of_three))]
 pub fn held<R: Threads + Wait + Sync>(rt: &R, alloc: Global, rounds: u64) -> Result<u64, NoMemory>
-    requires few { rounds ≤ 1024 }
+    requires few { rounds ≤ MOST_CAPACITY }
 {
     let machines = machines::relay(alloc)?;
-    let (rings, pass) = begin(alloc, machines.as_slice(), 1024)?;
+    let (rings, pass) = begin(alloc, machines.as_slice(), MOST_CAPACITY as u16)?;
     let mut pass = pass;
     let mut b = player_of(&rings, &mut pass, Role(1), 0);
     let mut c = player_of(&rings, &mut pass, Role(2), 0);

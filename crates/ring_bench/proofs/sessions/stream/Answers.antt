@@ -1,11 +1,7 @@
-use Rattle.std.proofs.Common.{◌<◌, ◌∙◌, arith}
+use Rattle.std.proofs.Common.{◌∙◌, refl}
 use Rattle.ring_bench.specs.Sessions.{machines_of_stream}
-use Rattle.ring_bench.proofs.Plays.{stand_first}
+use Rattle.ring_bench.proofs.Plays.{both_stand_first}
 use Rattle.ring_bench.proofs.sessions.stream.Goals as goal
 
 pub pair_of-a-requires : goal.pair_of-a-requires
-pair_of-a-requires g c =
-    let stand = stand_first c.as_slice.result.now machines_of_stream c.in_ok-rings.rings c.in_ok-rings.pass (c.as_slice.ensures.value ∙ c.in_ok-machines.ensures) c.in_ok-rings.ensures.stand in
-    let a : 0 < 2 = omega arith in
-    let b : 1 < 2 = omega arith in
-    record { stand = (stand 0 a, stand 1 b) }
+pair_of-a-requires g c = record { stand = both_stand_first c.as_slice.result.now machines_of_stream c.in_ok-rings.rings c.in_ok-rings.pass (c.as_slice.ensures.value ∙ c.in_ok-machines.ensures) refl c.in_ok-rings.ensures.stand }
