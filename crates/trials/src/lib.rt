@@ -2,7 +2,6 @@
 #![tactic(auto)]
 
 mod rings;
-mod session;
 mod taken;
 #[cfg(test)]
 mod tests;

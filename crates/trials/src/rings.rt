@@ -1,15 +1,17 @@
 //! What rings do after two sends.
 
-ghost use Rattle.std.specs.Prelude.{◌≡◌};
+ghost use Rattle.std.specs.Prelude.{◌≡◌, length};
 ghost use Rattle.rs_model.specs.Limits.{IsCapacity};
 ghost use Rattle.rs_core.specs.Configurations.{role_of};
+ghost use Rattle.rs_documents.specs.Reading.{IsReady};
 
-use crate::session::{Session, session_of};
+use rs_answers::{DerivedSession, accept_derived, derived_session};
 use rs_core::Event;
-use rs_documents::read_document;
+use rs_documents::{Document, read_document};
 use rs_model::{Role, Value};
 use rs_room::{Bounded, BoundedFault};
-use rs_safety::{Accepted, accept};
+use rs_safety::Accepted;
+use rs_words::DEFAULT_BOUND;
 use std::alloc::Global;
 
 /// The room, who can go on after both roles have sent once by their first arms, and why the first one can't send again.
@@ -58,29 +60,35 @@ fn told_of(alloc: Global, accepted: &Accepted, capacity: u16) -> Option<RingsTol
     })
 }
 
+fn document_told(alloc: Global, document: &Document, capacity: u16) -> Option<RingsTold>
+    requires ready { IsReady document.now }
+    requires roles { length document.now.names.roles ≡ document.now.protocol.roles }
+    requires capacity { IsCapacity capacity }
+{
+    let DerivedSession {
+        projections,
+        machines,
+        derivations,
+    } = match derived_session(alloc, document, DEFAULT_BOUND) {
+        Ok(session) => session,
+        Err(_refusal) => return None,
+    };
+    let accepted = accept_derived(
+        &document.protocol,
+        projections.as_slice(),
+        machines,
+        derivations.as_slice(),
+    );
+    told_of(alloc, &accepted, capacity)
+}
+
 /// What is told of the text's session over rings of that capacity: none where it isn't accepted, the two roles can't send,
 /// or memory was refused.
 pub fn rings_of(alloc: Global, text: &[u8], capacity: u16) -> Option<RingsTold>
     requires { IsCapacity capacity }
 {
-    let Ok(document) = read_document(alloc, text) else {
-        return None;
-    };
-    let Some(session) = session_of(alloc, &document) else {
-        return None;
-    };
-    let Session {
-        projections,
-        machines,
-        derivations,
-    } = session;
-    match accept(
-        &document.protocol,
-        projections.as_slice(),
-        machines,
-        derivations.as_slice(),
-    ) {
-        Ok(accepted) => told_of(alloc, &accepted, capacity),
-        Err(_refused) => None,
+    match read_document(alloc, text) {
+        Ok(document) => document_told(alloc, &document, capacity),
+        Err(_fault) => None,
     }
 }

@@ -2,13 +2,15 @@
 
 ghost use Rattle.std.specs.Prelude.{◌≡◌, ◌≢◌, ◌<◌, ◌^◌, IfOk, IfSome, length};
 ghost use Rattle.rs_core.specs.Configurations.{role_of};
+ghost use Rattle.rs_documents.specs.Reading.{IsReady};
 
-use crate::session::{Session, session_of};
 use rs_alive::{AliveFault, taken_within};
+use rs_answers::{DerivedSession, accept_derived, derived_session};
 use rs_core::{Core, Event};
-use rs_documents::read_document;
+use rs_documents::{Document, read_document};
 use rs_model::{Machine, NoMemory, Role};
-use rs_safety::{Accepted, accept};
+use rs_safety::Accepted;
+use rs_words::DEFAULT_BOUND;
 use std::alloc::Global;
 
 fn copies_of(alloc: Global, machines: &[Machine]) -> Result<Vec<Machine>, NoMemory>
@@ -194,30 +196,36 @@ fn each_taken(alloc: Global, accepted: &Accepted, past: &[Event]) -> bool
     true
 }
 
+fn is_document_taken(alloc: Global, document: &Document, past: &[Event]) -> bool
+    requires ready { IsReady document.now }
+    requires roles { length document.now.names.roles ≡ document.now.protocol.roles }
+    requires short { length past.now < 2 ^ 32 }
+{
+    let DerivedSession {
+        projections,
+        machines,
+        derivations,
+    } = match derived_session(alloc, document, DEFAULT_BOUND) {
+        Ok(session) => session,
+        Err(_refusal) => return false,
+    };
+    let accepted = accept_derived(
+        &document.protocol,
+        projections.as_slice(),
+        machines,
+        derivations.as_slice(),
+    );
+    each_taken(alloc, &accepted, past)
+}
+
 /// Whether the text's session is accepted, and after each of the first events of the past every message in a queue is
 /// taken by what is answered.
 pub fn are_taken(alloc: Global, text: &[u8], past: &[Event]) -> bool
     requires { length past.now < 2 ^ 32 }
 {
-    let Ok(document) = read_document(alloc, text) else {
-        return false;
-    };
-    let Some(session) = session_of(alloc, &document) else {
-        return false;
-    };
-    let Session {
-        projections,
-        machines,
-        derivations,
-    } = session;
-    match accept(
-        &document.protocol,
-        projections.as_slice(),
-        machines,
-        derivations.as_slice(),
-    ) {
-        Ok(accepted) => each_taken(alloc, &accepted, past),
-        Err(_refused) => false,
+    match read_document(alloc, text) {
+        Ok(document) => is_document_taken(alloc, &document, past),
+        Err(_fault) => false,
     }
 }
 
@@ -241,6 +249,35 @@ fn answer_of(
     }
 }
 
+fn document_answer(
+    alloc: Global,
+    document: &Document,
+    past: &[Event],
+    sender: Role,
+    receiver: Role,
+    place: u32,
+) -> Option<Result<Vec<Event>, AliveFault>>
+    requires ready { IsReady document.now }
+    requires roles { length document.now.names.roles ≡ document.now.protocol.roles }
+    requires short { length past.now < 2 ^ 32 }
+{
+    let DerivedSession {
+        projections,
+        machines,
+        derivations,
+    } = match derived_session(alloc, document, DEFAULT_BOUND) {
+        Ok(session) => session,
+        Err(_refusal) => return None,
+    };
+    let accepted = accept_derived(
+        &document.protocol,
+        projections.as_slice(),
+        machines,
+        derivations.as_slice(),
+    );
+    answer_of(alloc, &accepted, past, sender, receiver, place)
+}
+
 /// What is answered for the message at the place, after the past, of the text's session: none where it isn't accepted.
 pub fn taken_of(
     alloc: Global,
@@ -252,24 +289,8 @@ pub fn taken_of(
 ) -> Option<Result<Vec<Event>, AliveFault>>
     requires { length past.now < 2 ^ 32 }
 {
-    let Ok(document) = read_document(alloc, text) else {
-        return None;
-    };
-    let Some(session) = session_of(alloc, &document) else {
-        return None;
-    };
-    let Session {
-        projections,
-        machines,
-        derivations,
-    } = session;
-    match accept(
-        &document.protocol,
-        projections.as_slice(),
-        machines,
-        derivations.as_slice(),
-    ) {
-        Ok(accepted) => answer_of(alloc, &accepted, past, sender, receiver, place),
-        Err(_refused) => None,
+    match read_document(alloc, text) {
+        Ok(document) => document_answer(alloc, &document, past, sender, receiver, place),
+        Err(_fault) => None,
     }
 }

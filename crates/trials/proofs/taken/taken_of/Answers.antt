@@ -1,5 +1,5 @@
 use Rattle.rs_documents.proofs.CanShow.{role_names}
 use Rattle.trials.proofs.taken.taken_of.Goals as goal
 
-pub session_of-requires-clause-roles : goal.session_of-requires-clause-roles
-session_of-requires-clause-roles c = let r = role_names c.args.text.now c.in-Ok.document c.in-Ok.ensures.ok in r.0
+pub document_answer-requires-clause-roles : goal.document_answer-requires-clause-roles
+document_answer-requires-clause-roles c = let r = role_names c.args.text.now c.in-Ok.document c.in-Ok.ensures.ok in r.0
