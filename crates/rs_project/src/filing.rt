@@ -31,14 +31,14 @@ impl Model for Fronts {
 }
 
 impl Fronts {
-    /// No fronts.
-    pub fn new(alloc: Global) -> Result<Fronts, NoMemory>
+    /// No fronts, with room for so many.
+    pub fn with_room(alloc: Global, room: usize) -> Result<Fronts, NoMemory>
         ensures { IfOk result (λ f. f ≡ []) }
     {
         Ok(Fronts {
-            items: Vec::new(alloc),
+            items: Vec::with_capacity(alloc, room)?,
             heads: vec![in alloc; 0; BUCKETS]?,
-            links: Vec::new(alloc),
+            links: Vec::with_capacity(alloc, room)?,
         })
     }
 
@@ -81,9 +81,10 @@ impl Fronts {
         let bucket = bucket_of(&front.talks);
         let number = self.items.len() as u32;
         let head = self.heads[bucket];
+        self.items.reserve(1)?;
         self.links.reserve(1)?;
-        self.items.push(front)?;
-        self.links.push(head).unwrap();
+        self.items.push_reserved(front);
+        self.links.push_reserved(head);
         self.heads[bucket] = number + 1;
         Ok(())
     }

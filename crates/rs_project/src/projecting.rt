@@ -125,12 +125,14 @@ fn work(
     ensures ok { IfOk result (λ p. IsNumberedProjection protocol.now survey.now.role p) }
     ensures err { IfErr result (λ e. (e ≡ ProjFault.NoMemory) ⊎ FirstRefusal protocol.now survey.now.role e) }
 {
-    let mut fronts = Fronts::new(alloc)?;
+    let room = usual_size(&survey.involved);
+    let mut fronts = Fronts::with_room(alloc, room)?;
     fronts.add(start)?;
-    let mut states: Vec<State> = Vec::new(alloc);
+    let mut states: Vec<State> = Vec::with_capacity(alloc, room)?;
     while states.len() < fronts.len() {
         let state = state_of(alloc, protocol, survey, marks, states.len(), &mut fronts)?;
-        states.push(state)?;
+        states.reserve(1)?;
+        states.push_reserved(state);
     }
     let sets = sets_of(alloc, fronts.into_items())?;
     let machine = Machine {
@@ -139,6 +141,15 @@ fn work(
         start: 0,
     };
     Ok(Projection { machine, sets })
+}
+
+// How many states most projections have: one for each talk that involves the role, and the end.
+fn usual_size(involved: &[bool]) -> usize {
+    involved
+        .iter()
+        .filter(|flag| **flag)
+        .count()
+        .saturating_add(1)
 }
 
 fn state_of(

@@ -1,4 +1,4 @@
-use Rattle.std.proofs.Common.{rules, arith, ◌≡◌, ◌⊎◌, ◌∷◌, [], ◌≤◌, ℕ, List, Vec, map, length, ap, subst, subst₂, sym, ◌∙◌}
+use Rattle.std.proofs.Common.{rules, arith, ◌≡◌, ◌⊎◌, ◌++◌, ◌∷◌, [], ◌≤◌, ℕ, List, Vec, map, length, ap, subst, subst₂, sym, ◌∙◌}
 use Rattle.rs_model.specs.declared.machines.State.{State}
 use Rattle.std.specs.declared.alloc.Global.{Global}
 use Rattle.rs_model.specs.declared.graph.Role.{Role}
@@ -16,7 +16,7 @@ pub loop-marks-init : goal.loop-marks-init
 loop-marks-init c =
     let e : c.add.new.self ≡ c.args.start ∷ [] = search (rules, c.in_ok-add.ensures.ok, c.in_ok-fronts.ensures) in
     let P : List Front_data → List State → Type 0 = λ y z. Working c.args.protocol.now c.args.survey.now.role y z in
-    subst₂ P (sym e) (sym c.new-states.ensures.items) (working-begin c.args.protocol.now c.args.survey.now.role c.args.survey.now c.args.start c.requires.survey c.requires.start)
+    subst₂ P (sym e) (sym c.in_ok-states.ensures.items) (working-begin c.args.protocol.now c.args.survey.now.role c.args.survey.now c.args.start c.requires.survey c.requires.start)
 
 pub returns-in_err-state-clause-err : goal.returns-in_err-state-clause-err
 returns-in_err-state-clause-err c =
@@ -29,8 +29,8 @@ pub loop-marks-preserved : goal.loop-marks-preserved
 loop-marks-preserved c =
     let n : c.len-in-loop-marks-2.result ≡ length c.loop-marks.states.items = search rules in
     let P : ℕ → Type 0 = λ z. WorksOn c.args.protocol.now c.args.survey.now.role c.loop-marks.fronts z c.state_of.new.fronts c.in_ok-state.state in
-    working-on c.args.protocol.now c.args.survey.now.role c.loop-marks.fronts c.state_of.new.fronts c.loop-marks.states.items c.push.new.self.items c.in_ok-state.state
-    c.in_ok-push.ensures.items c.loop-marks.invariant (subst P n c.in_ok-state.ensures.ok)
+    working-on c.args.protocol.now c.args.survey.now.role c.loop-marks.fronts c.state_of.new.fronts c.loop-marks.states.items c.push_reserved.new.self.items c.in_ok-state.state
+    (c.push_reserved.ensures.items ∙ ap (λ (z : List State). z ++ c.in_ok-state.state ∷ []) c.in_ok-reserve.ensures.items) c.loop-marks.invariant (subst P n c.in_ok-state.ensures.ok)
 
 pub returns-clause-ok : goal.returns-clause-ok
 returns-clause-ok c =

@@ -13,6 +13,7 @@ invariant_of-self-2 c =
     let number : c.len-number.result ≡ length c.self.inside.items.items = search rules in
     let head : c.index-head.result.now ≡ get_or c.self.inside.heads.items c.bucket_of-bucket.result 0 =
     c.index-head.ensures ∙ get_or_default c.self.inside.heads.items c.bucket_of-bucket.result c.index-head.result.now 0 (omega (arith, size, lt)) in
-    let links : c.push-2.new.self.items ≡ c.self.inside.links.items ++ (c.index-head.result.now ∷ []) = search (rules, c.in_ok-reserve.ensures.items) in
-    filed-on c.self.inside.items.items c.push.new.self.items c.self.inside.heads.items c.self.inside.links.items _ c.push-2.new.self.items c.args.front c.bucket_of-bucket.result c.index-head.result.now c.len-number.result
-    is lt number head c.in_ok-push.ensures.items links refl c.self.invariant
+    let links : c.push_reserved-2.new.self.items ≡ c.self.inside.links.items ++ (c.index-head.result.now ∷ []) = search (rules, c.in_ok-reserve-2.ensures.items) in
+    let items : c.push_reserved.new.self.items ≡ c.self.inside.items.items ++ (c.args.front ∷ []) = search (rules, c.in_ok-reserve.ensures.items) in
+    filed-on c.self.inside.items.items c.push_reserved.new.self.items c.self.inside.heads.items c.self.inside.links.items _ c.push_reserved-2.new.self.items c.args.front c.bucket_of-bucket.result c.index-head.result.now c.len-number.result
+    is lt number head items links refl c.self.invariant
