@@ -233,19 +233,33 @@ fn nexts_of(
     }
 }
 
+// How many nodes there are where all states are met: one for each state, and one for each arm of a receive.
+fn usual_size(states: &[State]) -> usize {
+    let mut size = states.len();
+    for state in states {
+        if let State::Takes { arms, .. } = state {
+            size = size.saturating_add(arms.as_slice().len());
+        }
+    }
+    size
+}
+
 // The nodes of the derivation of the machine from itself, within any bound that allows one act to be owed.
 fn nodes_itself(alloc: Global, machine: &Machine) -> Result<Vec<DNode>, Fault>
     requires proper { IsProper machine.now }
     ensures { IfOk result (λ v. (bound : ℕ) → 0 < bound → IsFound machine.now machine.now bound (record { role = machine.now.role; bound = bound; nodes = v.items })) }
 {
     let mut places: Vec<Option<u32>> = vec![in alloc; None; machine.states.len()]?;
-    let mut found = Vec::new(alloc);
+    let room = usual_size(&machine.states);
+    let mut found = Vec::with_capacity(alloc, room)?;
     come_to(&mut found, &mut places, machine.start)?;
-    let mut nodes = Vec::new(alloc);
+    let mut nodes = Vec::with_capacity(alloc, room)?;
     while nodes.len() < found.len() {
         let position = found[nodes.len()].copy();
         let next = nexts_of(alloc, machine, &mut found, &mut places, &position)?;
-        nodes.push(position.into_node(alloc, next)?)?;
+        let node = position.into_node(alloc, next)?;
+        nodes.reserve(1)?;
+        nodes.push_reserved(node);
     }
     Ok(nodes)
 }

@@ -1,5 +1,6 @@
-use Rattle.std.proofs.Common.{rules, arith, ◌≡◌, ◌∷◌, [], ◌∙◌, length, sym, ap}
+use Rattle.std.proofs.Common.{rules, arith, ◌≡◌, ◌++◌, List, ◌∷◌, [], ◌∙◌, length, sym, ap}
 use Rattle.rs_model.specs.Data.{Machine_data}
+use Rattle.rs_derive.specs.Data.{DNode_data}
 use Rattle.rs_graph.proofs.Growth.{in_at, reads_at}
 use Rattle.rs_search.specs.Itself.{even}
 use Rattle.rs_search.proofs.Alike.{first_spot, made_all, made_fresh, made_none, made_on, spot_in}
@@ -8,9 +9,9 @@ use Rattle.rs_search.proofs.itself.nodes_itself.Goals as goal
 pub loop-alloc-init : goal.loop-alloc-init
 loop-alloc-init c =
     let e = c.in_ok-come_to.ensures in
-    let f = first_spot c.new-found.result.items c.come_to.new.found.items (even c.machine.inside.start) c.in_ok-come_to.field-0 c.new-found.ensures.items e.adds e.at in
+    let f = first_spot c.in_ok-found.found.items c.come_to.new.found.items (even c.machine.inside.start) c.in_ok-come_to.field-0 c.in_ok-found.ensures.items e.adds e.at in
     let l : length c.in_ok-places.places.items ≡ length c.machine.inside.states.items = search (rules, c.in_ok-places.ensures.len, c.len.ensures) in (
-      made_none c.args.machine.now c.requires.proper c.come_to.new.found.items c.new-nodes.result.items (f ∙ ap (λ (z : Machine_data). even z.start ∷ []) c.machine.view_is) c.new-nodes.ensures.items,
+      made_none c.args.machine.now c.requires.proper c.come_to.new.found.items c.in_ok-nodes.nodes.items (f ∙ ap (λ (z : Machine_data). even z.start ∷ []) c.machine.view_is) c.in_ok-nodes.ensures.items,
       e.few,
       e.placed,
       e.size ∙ l ∙ ap (λ (z : Machine_data). length z.states) c.machine.view_is,
@@ -34,8 +35,8 @@ loop-alloc-preserved c =
     let e = c.in_ok-next.ensures in
     let h = reads_at c.loop-alloc.found.items (length c.loop-alloc.nodes.items) c.index.result.now c.index.result.now (grind arith) (sym (grind arith)) in
     let p = spot_in c.loop-alloc.found.items (length c.loop-alloc.nodes.items) c.index.result.now c.copy-position.result h c.copy-position.ensures in (
-      made_on c.args.machine.now c.requires.proper c.loop-alloc.found.items c.nexts_of.new.found.items c.loop-alloc.nodes.items c.push.new.self.items c.copy-position.result c.in_ok-into_node.field-0 c.in_ok-next.next.items
-          i.0 p e.named c.in_ok-into_node.ensures c.in_ok-push.ensures.items,
+      made_on c.args.machine.now c.requires.proper c.loop-alloc.found.items c.nexts_of.new.found.items c.loop-alloc.nodes.items c.push_reserved.new.self.items c.copy-position.result c.in_ok-node.node c.in_ok-next.next.items
+          i.0 p e.named c.in_ok-node.ensures (c.push_reserved.ensures.items ∙ ap (λ (z : List DNode_data). z ++ c.in_ok-node.node ∷ []) c.in_ok-reserve.ensures.items),
       e.few,
       e.placed,
       e.size ∙ i.3,
