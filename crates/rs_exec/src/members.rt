@@ -98,10 +98,11 @@ impl<A: Actor> Member<A> {
         match all.put(session, role, peer, parcel) {
             Put::Done => {
                 self.state = chosen.next;
-                self.entries.push(Entry::Sent {
+                self.entries.reserve(1)?;
+                self.entries.push_reserved(Entry::Sent {
                     peer,
                     label: chosen.label,
-                })?;
+                });
                 Ok(Went::Moved)
             }
             Put::Full { parcel, .. } => {
@@ -135,7 +136,9 @@ impl<A: Actor> Member<A> {
                 let place = place_by_label(arms, label);
                 self.actor.take(alloc, arms, place, &value)?;
                 self.state = arms[place as usize].next;
-                self.entries.push(Entry::Got { peer, label, value })?;
+                self.entries.reserve(1)?;
+                self.entries
+                    .push_reserved(Entry::Got { peer, label, value });
                 Ok(Went::Moved)
             }
         }

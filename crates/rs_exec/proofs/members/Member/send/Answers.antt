@@ -1,4 +1,4 @@
-use Rattle.std.proofs.Common.{◌∙◌, ◌++◌, ◌∷◌, [], Some, Vec, get_or, ap, refl}
+use Rattle.std.proofs.Common.{◌∙◌, ◌++◌, ◌∷◌, [], List, Some, Vec, get_or, ap, refl}
 use Rattle.std.specs.Global.{Global}
 use Rattle.std.proofs.lemmas.Option.{slice_get_within}
 use Rattle.rs_core.specs.declared.transcripts.Entry.{Entry}
@@ -27,27 +27,27 @@ put-requires-clause-can g c =
     let chosen : Arm = get_or c.args.arms.now c.in_ok-arm.arm blank in
     (chosen.next, record { arms = c.args.arms.now; place = c.in_ok-arm.arm; arm = chosen; puts = c.requires.stands; picks = p.picks; same_label = refl; has_sort = p.has; goes = refl })
 
-pub returns-in_ok-push-in-Done-clause-tells : goal.returns-in_ok-push-in-Done-clause-tells
-returns-in_ok-push-in-Done-clause-tells g c =
+pub returns-in_ok-reserve-in-Done-clause-tells : goal.returns-in_ok-reserve-in-Done-clause-tells
+returns-in_ok-reserve-in-Done-clause-tells g c =
     let r = c.requires.ready in
     let o = c.in_ok-arm.ensures in
     let w = offered_well g.A.Actor.behaviour c.args.session.now g.met.A.Actor.chooses_well c.args.all.now.view c.args.role.0 c.args.self.now c.args.peer c.args.arms.now c.in_ok-arm.arm c.in_ok-arm.value c.offer.new.self.actor r.there r.well_formed r.keeps c.requires.stands o.offers in
     let p = picked g.A.Actor.behaviour c.args.session.now c.args.arms.now c.in_ok-arm.arm c.in_ok-arm.value blank w in
     (sent_turn g.A.Actor.behaviour c.args.session.now c.args.role.0 c.args.all.now.view c.put.new.self.view c.args.self.now
-    record { state = (get_or c.args.arms.now c.in_ok-arm.arm blank).next; actor = c.offer.new.self.actor; kept = c.offer.new.self.kept; entries = c.push.new.self }
+    record { state = (get_or c.args.arms.now c.in_ok-arm.arm blank).next; actor = c.offer.new.self.actor; kept = c.offer.new.self.kept; entries = c.push_reserved.new.self }
     c.args.peer c.args.arms.now c.in_ok-arm.arm c.in_ok-arm.value (get_or c.args.arms.now c.in_ok-arm.arm blank) r.well_formed r.hold.speaks r.there r.member c.requires.stands p.picks p.has c.in-Done.ensures.told
-    o.offers o.kept (c.in_ok-push-in-Done.ensures.items ∙ ap (λ (v : Vec Entry Global). v.items ++ entry.Sent c.args.peer (get_or c.args.arms.now c.in_ok-arm.arm blank).label ∷ []) o.others.0) refl).tells
+    o.offers o.kept (c.push_reserved.ensures.items ∙ ap (λ (z : List Entry). z ++ entry.Sent c.args.peer (get_or c.args.arms.now c.in_ok-arm.arm blank).label ∷ []) (c.in_ok-reserve-in-Done.ensures.items ∙ ap (λ (v : Vec Entry Global). v.items) o.others.0)) refl).tells
 
-pub returns-in_ok-push-in-Done-clause-turned : goal.returns-in_ok-push-in-Done-clause-turned
-returns-in_ok-push-in-Done-clause-turned g c =
+pub returns-in_ok-reserve-in-Done-clause-turned : goal.returns-in_ok-reserve-in-Done-clause-turned
+returns-in_ok-reserve-in-Done-clause-turned g c =
     let r = c.requires.ready in
     let o = c.in_ok-arm.ensures in
     let w = offered_well g.A.Actor.behaviour c.args.session.now g.met.A.Actor.chooses_well c.args.all.now.view c.args.role.0 c.args.self.now c.args.peer c.args.arms.now c.in_ok-arm.arm c.in_ok-arm.value c.offer.new.self.actor r.there r.well_formed r.keeps c.requires.stands o.offers in
     let p = picked g.A.Actor.behaviour c.args.session.now c.args.arms.now c.in_ok-arm.arm c.in_ok-arm.value blank w in
     (sent_turn g.A.Actor.behaviour c.args.session.now c.args.role.0 c.args.all.now.view c.put.new.self.view c.args.self.now
-    record { state = (get_or c.args.arms.now c.in_ok-arm.arm blank).next; actor = c.offer.new.self.actor; kept = c.offer.new.self.kept; entries = c.push.new.self }
+    record { state = (get_or c.args.arms.now c.in_ok-arm.arm blank).next; actor = c.offer.new.self.actor; kept = c.offer.new.self.kept; entries = c.push_reserved.new.self }
     c.args.peer c.args.arms.now c.in_ok-arm.arm c.in_ok-arm.value (get_or c.args.arms.now c.in_ok-arm.arm blank) r.well_formed r.hold.speaks r.there r.member c.requires.stands p.picks p.has c.in-Done.ensures.told
-    o.offers o.kept (c.in_ok-push-in-Done.ensures.items ∙ ap (λ (v : Vec Entry Global). v.items ++ entry.Sent c.args.peer (get_or c.args.arms.now c.in_ok-arm.arm blank).label ∷ []) o.others.0) refl).turned
+    o.offers o.kept (c.push_reserved.ensures.items ∙ ap (λ (z : List Entry). z ++ entry.Sent c.args.peer (get_or c.args.arms.now c.in_ok-arm.arm blank).label ∷ []) (c.in_ok-reserve-in-Done.ensures.items ∙ ap (λ (v : Vec Entry Global). v.items) o.others.0)) refl).turned
 
 pub returns-in-Full-clause-tells : goal.returns-in-Full-clause-tells
 returns-in-Full-clause-tells g c =
