@@ -1,4 +1,5 @@
-// Puts and takes by a seat and the rows beside it.
+// Puts and takes by a seat and the rows beside it. A run spends its time in them, so they are compiled into their callers,
+// with the calls above and below them.
 ghost use Rattle.std.specs.Prelude.{◌≡◌, ◌<◌, ◌^◌, true, length};
 ghost use Rattle.rs_core.specs.Choices.{AreWellFormed};
 ghost use Rattle.rs_rings.specs.Passes.{CanPut, CanTake, PutTells, TakeTells};
@@ -13,6 +14,7 @@ use rs_model::Role;
 use rs_slots::Parcel;
 
 impl RingTable {
+    #[inline(always)]
     pub fn put(
         &self,
         seat: &mut RingSeat,
@@ -51,6 +53,7 @@ impl RingTable {
         }
     }
 
+    #[inline(always)]
     pub fn take(&self, seat: &mut RingSeat, rows: &mut Rows, receiver: Role, sender: Role) -> Got
         requires table { seat.old.table_id ≡ self.now.board.shared.table_id }
         requires well_formed { AreWellFormed (machines_of self.now.board.shared.key) }

@@ -98,6 +98,7 @@ impl Rings {
     /// It loads the ring's head word, once. Where the ring has a free slot it fills it, stores the tail word, and answers
     /// `Done`: the sender has sent the parcel. Else it answers `Full`, and nothing has changed but what the pass knows of the
     /// head word.
+    #[inline(always)]
     pub fn put(&self, pass: &mut Pass, sender: Role, receiver: Role, parcel: Parcel) -> Put
         requires table { pass.old.table ≡ self.now.table }
         requires speaks { SpeaksFor pass.old.view sender.0 }
@@ -115,6 +116,7 @@ impl Rings {
     /// It loads the ring's tail word, once. Where a parcel is there it empties its slot, stores the head word, and answers
     /// `One`: the receiver has got the parcel, which fits its state. Else it answers `Empty`, and nothing has changed but
     /// what the pass knows of the tail word.
+    #[inline(always)]
     pub fn look_take(&self, pass: &mut Pass, receiver: Role, sender: Role) -> Got
         requires table { pass.old.table ≡ self.now.table }
         requires speaks { SpeaksFor pass.old.view receiver.0 }

@@ -116,6 +116,7 @@ impl RingTable {
 
     // One load of the head word; where there is room, an exchange that fills the slot of the tail, and one store of the tail
     // word.
+    #[inline(always)]
     fn put_as<N: CallName>(
         &self,
         seat: &mut RingSeat,
@@ -163,6 +164,7 @@ impl RingTable {
     }
 
     // One load of the tail word; where a parcel is there, an exchange that empties the slot of the head.
+    #[inline(always)]
     fn look_as<N: CallName>(
         &self,
         seat: &mut RingSeat,
@@ -200,6 +202,7 @@ impl RingTable {
     }
 
     // One store of the head word, which ends a take.
+    #[inline(always)]
     fn give_as<N: CallName>(
         &self,
         seat: &mut RingSeat,
@@ -306,6 +309,7 @@ impl RingTable {
         Closed { machines, last }
     }
 
+    #[inline(always)]
     pub fn put_to(
         &self,
         seat: &mut RingSeat,
@@ -328,6 +332,7 @@ impl RingTable {
         self.put_as::<Brand>(seat, sender, receiver, sent, parcel, next)
     }
 
+    #[inline(always)]
     fn look(
         &self,
         seat: &mut RingSeat,
@@ -348,6 +353,7 @@ impl RingTable {
         self.look_as::<Brand>(seat, receiver, sender, got, arms)
     }
 
+    #[inline(always)]
     fn give(
         &self,
         seat: &mut RingSeat,
@@ -371,6 +377,7 @@ impl RingTable {
         self.give_as::<Brand>(seat, receiver, sender, got, parcel, next)
     }
 
+    #[inline(always)]
     pub fn look_take(
         &self,
         seat: &mut RingSeat,

@@ -78,6 +78,7 @@ impl Ensemble {
     ///
     /// Where the ring has room the sender goes on to the next state of the arm with the parcel's label. Else the parcel comes
     /// back, and nothing has changed but what is known of the ring.
+    #[inline(always)]
     pub fn put(&mut self, session: &Session, sender: Role, receiver: Role, parcel: Parcel) -> Put
         requires table { self.old.table ≡ session.now.table }
         requires speaks { SpeaksFor self.old.view sender.0 }
@@ -95,6 +96,7 @@ impl Ensemble {
     ///
     /// Where a parcel is there the receiver goes on to the next state of the arm with its label. Else nothing has changed but
     /// what is known of the ring.
+    #[inline(always)]
     pub fn look_take(&mut self, session: &Session, receiver: Role, sender: Role) -> Got
         requires table { self.old.table ≡ session.now.table }
         requires speaks { SpeaksFor self.old.view receiver.0 }
