@@ -13,6 +13,6 @@ mod tasks;
 mod tests;
 
 pub use inline::{ExecFault, run_inline};
-pub use polling::RoleFuture;
+pub use polling::{RoleFuture, SessionName, SessionTask};
 pub use runs::Ran;
 pub use tasks::{RoleTask, Turn, Why};

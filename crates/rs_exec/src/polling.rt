@@ -3,7 +3,7 @@ ghost use Rattle.std.specs.Prelude.{◌≡◌};
 ghost use Rattle.futures.specs.Poll.{IfReady, OnPending};
 ghost use Rattle.futures.specs.Task.{Covers, Keeps};
 ghost use Rattle.rs_exec.specs.Polling.{HasStopped, PollTells};
-ghost use Rattle.rs_exec.specs.Tasks.{IsTaskOf};
+ghost use Rattle.rs_exec.specs.Tasks.{IsTaskOf, TurnTells};
 ghost use Rattle.rs_exec.specs.declared.tasks.Turn.{Turn};
 
 use crate::tasks::{RoleTask, Turn};
@@ -12,19 +12,85 @@ use futures::task::{Context, Poll};
 use rs_core::Actor;
 use rs_session::Session;
 use std::alloc::Global;
+use std::marker::{Brand, Model, PhantomData};
 
-/// A task that is polled: each poll makes one turn. It is ready with the first turn after which the task doesn't go on.
+/// A session as types name it. It is there for proofs alone.
+pub trait SessionName {
+    ghost use Rattle.rs_rings.specs.Passes.{Rings_data};
+
+    ghost session: { Rings_data };
+}
+
+impl SessionName for Brand {
+    ghost use Rattle.std.specs.Prelude.{[]};
+
+    ghost session = { record { table = record { words = 0; slots = 0; views_name = 0; atom = 0; block = 0; offset = 0; slot_names = [] }; roles = 0; capacity = 0; machines = [] } };
+}
+
+/// A task of the session that `N` names. To whomever it is lent, it comes back as one of that session. It must be spent.
+pub struct SessionTask<A: Drop, N: SessionName> {
+    task: RoleTask<A>,
+    name: PhantomData<N>,
+}
+
+impl<A: Drop, N: SessionName> Model for SessionTask<A, N> {
+    ghost use Rattle.rs_exec.specs.Data.{Task_data};
+    ghost use Rattle.rs_exec.specs.Tasks.{IsTaskOf, TurnTells};
+
+    ghost Value = { Task_data A };
+
+    ghost view = { λ t. t.task };
+
+    ghost invariant = { λ t. IsTaskOf N.session t.task };
+}
+
+impl<A: Actor, N: SessionName> SessionTask<A, N> {
+    pub fn new(task: RoleTask<A>) -> SessionTask<A, N>
+        requires of { IsTaskOf N.session task }
+        ensures same { result ≡ task }
+    {
+        SessionTask {
+            task,
+            name: PhantomData,
+        }
+    }
+
+    /// One turn of the task in its session.
+    pub fn turn(&mut self, alloc: Global, session: &Session) -> Turn
+        requires session { session.now ≡ N.session }
+        ensures of { IsTaskOf session.now self.new }
+        ensures tells { TurnTells session.now A.behaviour self.old self.new result }
+    {
+        self.task.turn(alloc, session)
+    }
+
+    /// The task, which is of that session.
+    pub fn into_task(self) -> RoleTask<A>
+        ensures same { result ≡ self }
+        ensures of { IsTaskOf N.session result }
+    {
+        let SessionTask { task, name: _ } = self;
+        task
+    }
+}
+
+/// A task that is polled: each poll makes one turn. It is ready with the first turn after which the task doesn't go on. However
+/// often it was polled, the task is then still of its session.
 #[derive(Drop)]
-pub struct RoleFuture<'a, A: Drop> {
+pub struct RoleFuture<'a, A: Drop, N: SessionName> {
     alloc: Global,
-    task: &'a mut RoleTask<A>,
+    task: &'a mut SessionTask<A, N>,
     session: &'a Session,
 }
 
-impl<'a, A: Actor> RoleFuture<'a, A> {
-    /// The future of the task, whose stage is of the session. It lends both until it is dropped, and `alloc` to the actor.
-    pub fn new(alloc: Global, task: &'a mut RoleTask<A>, session: &'a Session) -> RoleFuture<'a, A>
-        requires of { IsTaskOf session.now task.old }
+impl<'a, A: Actor, N: SessionName> RoleFuture<'a, A, N> {
+    /// The future of the task, whose session is lent too. It lends both until it is dropped, and `alloc` to the actor.
+    pub fn new(
+        alloc: Global,
+        task: &'a mut SessionTask<A, N>,
+        session: &'a Session,
+    ) -> RoleFuture<'a, A, N>
+        requires session { session.now ≡ N.session }
         ensures task { result.task.now ≡ task.old }
         ensures same_reference { result.task.ghost_name ≡ task.entry.ghost_name }
         ensures session { result.session.now ≡ session.now }
@@ -37,20 +103,21 @@ impl<'a, A: Actor> RoleFuture<'a, A> {
     }
 }
 
-impl<A: Actor> Future for RoleFuture<'_, A> {
+impl<A: Actor, N: SessionName> Future for RoleFuture<'_, A, N> {
     type Output = Turn;
 
-    ghost can_poll = { λ f. IsTaskOf f.session.now f.task.now };
+    ghost can_poll = { λ f. f.session.now ≡ N.session };
 
     ghost gives = { λ f turn. HasStopped turn };
 
     fn poll(&mut self, cx: &mut Context<'_>) -> Poll<Turn>
-        requires of { IsTaskOf self.old.session.now self.old.task.now }
+        requires named { self.old.session.now ≡ N.session }
+        ensures of { IsTaskOf self.new.session.now self.new.task.now }
         ensures tells { PollTells self.old.session.now A.behaviour self.old.task.now self.new.task.now result }
         ensures session { self.new.session.now ≡ self.old.session.now }
         ensures same_reference { self.new.task.ghost_name ≡ self.old.task.ghost_name }
         ensures value { IfReady result HasStopped }
-        ensures again { OnPending result (IsTaskOf self.new.session.now self.new.task.now) }
+        ensures again { OnPending result (self.new.session.now ≡ N.session) }
         ensures same { OnPending result ((turn : Turn) → HasStopped turn → HasStopped turn) }
         ensures registered { OnPending result (Covers cx.new (λ s. ⊥)) }
         ensures kept { Keeps cx.old cx.new }
