@@ -1,21 +1,27 @@
 // Stages and tasks on documents.
-ghost use Rattle.std.specs.Prelude.{◌≡◌, ◌++◌, ◌∷◌, [], None, IfSome};
+ghost use Rattle.std.specs.Prelude.{◌≡◌, ◌++◌, ◌∷◌, [], None, IfOk, IfSome};
 ghost use Rattle.rs_model.specs.Limits.{IsCapacity};
+ghost use Rattle.rs_exec.specs.Polling.{HasStopped};
 ghost use Rattle.rs_exec.specs.Tasks.{IsTaskOf};
 ghost use Rattle.rs_session.specs.Stages.{AreFirst, IsEnded, shown};
 ghost use Rattle.rs_session.specs.declared.stages.Stage.TheVariants as kind;
 
 use crate::session::{Session as Accepting, session_of};
 use crate::tests::text_of;
+use futures::executor::block_on;
 use rs_core::SeededActor;
 use rs_documents::read_document;
-use rs_exec::{RoleTask, Turn, Why};
+use rs_exec::{RoleFuture, RoleTask, SessionName, SessionTask, Turn, Why};
 use rs_model::{Label, Role, Value};
 use rs_rings::{Closed, Loose};
 use rs_safety::accept;
 use rs_session::{CloseFault, Ended, Left, LeftFault, LeftOver, Session, Stage};
-use std::alloc::Global;
+use std::alloc::{AllocGlobal, Global};
+use std::io;
+use std::marker::Brand;
 use std::process::Abort;
+use std::random::RandomSource;
+use std::sync::Wait;
 use std::test::Fail;
 
 const TWICE: &[u8] =
@@ -278,5 +284,54 @@ fn a_session_is_given_up(rt: HostRuntime) -> Result<(), Fail> {
     };
     let closed = given_up(session, stages);
     assert_eq!(rt; closed.roles(), 2);
+    Ok(())
+}
+
+const ONCE: &[u8] = b"roles A, B\nprotocol A->B:x(nat). end\n";
+
+/// An executor polls the task until it doesn't go on. It hands back the task, which is still of the session.
+fn blocked_on<R: Wait + RandomSource + AllocGlobal, N: SessionName>(
+    rt: &R,
+    alloc: Global,
+    session: &Session,
+    task: RoleTask<SeededActor>,
+) -> (io::Result<Turn>, RoleTask<SeededActor>)
+    requires session { session.now ≡ N.session }
+    requires of { IsTaskOf session.now task }
+    ensures stopped { IfOk result.0 HasStopped }
+    ensures of { IsTaskOf session.now result.1 }
+{
+    let mut task = SessionTask::<SeededActor, N>::new(task);
+    let turn = block_on(rt, RoleFuture::new(alloc, &mut task, session));
+    (turn, task.into_task())
+}
+
+/// The role A plays to its end as a future, while B does nothing: the turn with which it is ready, and what is left.
+fn polled<R: Wait + RandomSource + AllocGlobal + Abort>(
+    rt: &R,
+    alloc: Global,
+    pair: Pair,
+) -> (io::Result<Turn>, LeftOver)
+    requires a { IsTaskOf pair.session pair.a }
+    requires b { IsTaskOf pair.session pair.b }
+{
+    let Pair { session, a, b } = pair;
+    let (turn, a) = blocked_on::<R, Brand>(rt, alloc, &session, a);
+    (turn, left_of(rt, alloc, Pair { session, a, b }))
+}
+
+#[test]
+fn an_executor_plays_a_role(rt: HostRuntime) -> Result<(), Fail> {
+    let alloc = rt.alloc();
+    let pair = pair_of(&rt, alloc, ONCE, 1);
+    let (turn, over) = polled(&rt, alloc, pair);
+    assert_eq!(rt; turn?, Turn::Ended);
+    match over.loose.as_slice() {
+        [x] => {
+            assert_eq!(rt; (x.sender, x.receiver), (Role(0), Role(1)));
+            assert!(rt; matches!(x.parcel.value, Value::Natural(_)));
+        }
+        _ => assert!(rt; false, "one is under way"),
+    }
     Ok(())
 }
