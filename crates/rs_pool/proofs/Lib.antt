@@ -7,4 +7,4 @@ mod Lists
 mod Endings
 mod Beginnings
 mod Looks
-mod Alike
+pub mod Alike
