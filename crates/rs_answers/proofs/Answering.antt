@@ -20,6 +20,8 @@ use Rattle.rs_answers.specs.Checks as checks
 use Rattle.rs_answers.specs.Checks.{Checks, with_derivations}
 use Rattle.rs_documents.specs.Data.{Document_data}
 use Rattle.rs_answers.specs.Data.{Answer_data}
+use Rattle.rs_answers.specs.Pools as pools
+use Rattle.rs_answers.specs.Pools.{RunsByWorkers}
 use Rattle.rs_answers.specs.RefusalTexts.{wf_answer, proj_answer}
 use Rattle.rs_answers.specs.Refusals.{HasNoDerivations, HasNoSession, IsIllFormed, HasNoProjection, HasIllMachine, IsWithoutSession, HasNoDerivation, of_projecting, of_searching, refusal_answer}
 use Rattle.rs_answers.specs.declared.derivations.Underivable.{Underivable}
@@ -66,6 +68,13 @@ pub refused_run : (options : RunOptions) (d : Document_data) (why : Refusal) (r 
 refused_run options d why (Err e) h is never = tt
 refused_run options d why (Ok m) (inl memory) is never = absurd (never memory)
 refused_run options d why (Ok m) (inr h) is never = runs.IsRefused why h is
+
+-- .. by several workers either
+pub refused_by_workers : (options : RunOptions) (d : Document_data) (why : Refusal) (r : Result Answer_data NoMemory) → (why ≡ refusal.NoMemory) ⊎ HasNoDerivations options.bound d why → IfOk r (λ a. a ≡ refusal_answer d.names why)
+    → IfOk r (λ a. why ≡ refusal.NoMemory → ⊥) → IfOk r (RunsByWorkers options d)
+refused_by_workers options d why (Err e) h is never = tt
+refused_by_workers options d why (Ok m) (inl memory) is never = absurd (never memory)
+refused_by_workers options d why (Ok m) (inr h) is never = pools.IsRefused why h is
 
 -- why there is no session, or no derivation
 pub no_projection : (d : Document_data) (f : ProjFault) → first_fault d.protocol ≡ None → (f ≡ proj.NoMemory) ⊎ Refuses d.protocol f → (of_projecting f ≡ refusal.NoMemory) ⊎ HasNoSession d (of_projecting f)

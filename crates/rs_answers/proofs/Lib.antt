@@ -10,3 +10,4 @@ pub mod OneReason
 pub mod SomeSession
 pub mod SpeltFaults
 pub mod RunSessions
+pub mod PoolAnswers

@@ -1,12 +1,11 @@
 -- What is told of the end of a run: that it is told, that it is one thing, and that there is such an end.
-use Rattle.std.proofs.Common.{◌≡◌, inl, inr, ℕ, zero, suc, ◌+◌, ◌<◌, ◌≤◌, List, [], ◌∷◌, length, Option, Some, None, Result, Ok, Err, slice_get, refl, sym, ap, subst, ◌∙◌, arith}
-use Rattle.std.specs.Prelude.{IfOk, IfSome}
+use Rattle.std.proofs.Common.{◌≡◌, inl, inr, ℕ, zero, suc, ◌+◌, ◌<◌, ◌≤◌, List, [], ◌∷◌, length, Option, Some, None, slice_get, refl, sym, ap, subst, ◌∙◌, arith}
+use Rattle.std.specs.Prelude.{IfSome}
 use Rattle.std.proofs.lemmas.Bool.Decides.{leb_tells}
 use Rattle.std.proofs.lemmas.Option.{same_Some}
 use Rattle.rs_model.specs.Data.{Names_data, Machine_data, Protocol_data}
 use Rattle.rs_model.specs.declared.graph.Role.{Role}
 use Rattle.rs_model.specs.declared.machines.State.TheVariants.{Puts}
-use Rattle.rs_model.specs.declared.memory.NoMemory.{NoMemory}
 use Rattle.rs_core.specs.Choices.{AreWellFormed}
 use Rattle.rs_core.specs.Choosing.{draws-well}
 use Rattle.rs_core.specs.Configurations.{state_at, state_of}
@@ -14,7 +13,7 @@ use Rattle.rs_core.specs.Determined.{SameMoment, SameOutcome}
 use Rattle.rs_core.specs.Draws.{by_draws}
 use Rattle.rs_core.specs.Histories.{History, transcript_of}
 use Rattle.rs_core.specs.Plain.{Moment, Ending, Ended, Stopped, Stuck, IsPlain, FirstFull}
-use Rattle.rs_core.specs.Runs.{HasTranscripts, IsFullAt, IsShown, got_from, sent_to}
+use Rattle.rs_core.specs.Runs.{HasActors, HasTranscripts, IsFullAt, IsShown, got_from, sent_to}
 use Rattle.rs_core.specs.Safety.{IsSafe}
 use Rattle.rs_core.specs.declared.runs.Outcome.{Outcome}
 use Rattle.rs_core.specs.declared.runs.Outcome.TheVariants as outcome
@@ -130,19 +129,32 @@ one_run options names ms ds a b wf h k =
     one_end names ms (capacity_of options.ring (room_of ds)) a b h.end k.end
     (one-outcome by_draws ms (actor_of options.seed) options.limit (Some (capacity_of options.ring (room_of ds))) h.end k.end wf h.plain k.plain) h.tells k.tells
 
--- the transcripts of the roles from a place on
-abbrev transcripts_from : (ℕ → History) → ℕ → ℕ → List (List Entry)
-transcripts_from history p zero = []
-transcripts_from history p (suc many) = transcript_of (history p) ∷ transcripts_from history (suc p) many
+-- what a function gives at so many places, from one on
+abbrev values_from : {A : Type 0} → (ℕ → A) → ℕ → ℕ → List A
+values_from f p zero = []
+values_from f p (suc many) = f p ∷ values_from f (suc p) many
 
-how_many : (history : ℕ → History) (p many : ℕ) → length (transcripts_from history p many) ≡ many
-how_many history p zero = refl
-how_many history p (suc many) = ap suc (how_many history (suc p) many)
+how_many : {A : Type 0} (f : ℕ → A) (p many : ℕ) → length (values_from f p many) ≡ many
+how_many f p zero = refl
+how_many f p (suc many) = ap suc (how_many f (suc p) many)
 
-each_one : (history : ℕ → History) (p many q : ℕ) → q < many → slice_get (transcripts_from history p many) q ≡ Some (transcript_of (history (p + q)))
-each_one history p zero q lt = absurd (omega arith)
-each_one history p (suc many) zero lt = let is : p ≡ p + 0 = omega arith in ap (λ z. Some (transcript_of (history z))) is
-each_one history p (suc many) (suc q) lt = let is : suc p + q ≡ p + suc q = omega arith in each_one history (suc p) many q (omega arith) ∙ ap (λ z. Some (transcript_of (history z))) is
+each_one : {A : Type 0} (f : ℕ → A) (p many q : ℕ) → q < many → slice_get (values_from f p many) q ≡ Some (f (p + q))
+each_one f p zero q lt = absurd (omega arith)
+each_one f p (suc many) zero lt = let is : p ≡ p + 0 = omega arith in ap (λ z. Some (f z)) is
+each_one f p (suc many) (suc q) lt = let is : suc p + q ≡ p + suc q = omega arith in each_one f (suc p) many q (omega arith) ∙ ap (λ z. Some (f z)) is
+
+-- .. from the first on
+first_ones : {A : Type 0} (f : ℕ → A) (many q : ℕ) → q < many → slice_get (values_from f 0 many) q ≡ Some (f q)
+first_ones f many q lt = each_one f 0 many q lt ∙ (let is : 0 + q ≡ q = omega arith in ap (λ z. Some (f z)) is)
+
+-- histories have their transcripts, and roles their actors
+pub transcripts_are : (roles : ℕ) (history : ℕ → History) → (transcripts : List (List Entry)) × HasTranscripts roles history transcripts
+transcripts_are roles history =
+    let f : ℕ → List Entry = λ p. transcript_of (history p) in
+    (values_from f 0 roles, record { many = how_many f 0 roles; each = first_ones f roles })
+
+pub actors_are : {A : Type 0} (roles : ℕ) (actor : ℕ → A) → (actors : List A) × HasActors roles actor actors
+actors_are roles actor = (values_from actor 0 roles, record { many = how_many actor 0 roles; each = first_ones actor roles })
 
 -- something is told of each end
 record SomeEnd (names : Names_data) (ms : List Machine_data) (capacity : ℕ) (o : Ending ℕ) : Type 0 where
@@ -150,10 +162,9 @@ record SomeEnd (names : Names_data) (ms : List Machine_data) (capacity : ℕ) (o
   tells : TellsEnd names ms capacity answer o
 
 some_end : (names : Names_data) (ms : List Machine_data) (actors : ℕ → ℕ) (limit capacity : ℕ) (o : Ending ℕ) → IsSafe ms → AreWellFormed ms → IsPlain ms by_draws actors limit (Some capacity) o → SomeEnd names ms capacity o
-some_end names ms actors limit capacity (Ended k) safe wf p = record {
-  answer = ended_answer names (transcripts_from k.history 0 (length ms));
-  tells = HasEnded k (transcripts_from k.history 0 (length ms)) (record { many = how_many k.history 0 (length ms); each = λ q lt. each_one k.history 0 (length ms) q lt ∙ (let is : 0 + q ≡ q = omega arith in ap (λ z. Some (transcript_of (k.history z))) is) }) refl;
-}
+some_end names ms actors limit capacity (Ended k) safe wf p =
+    let t = transcripts_are (length ms) k.history in
+    record { answer = ended_answer names t.0; tells = HasEnded k t.0 t.1 refl }
 some_end names ms actors limit capacity (Stopped q k) safe wf p = record { answer = stopped_answer names (record { 0 = q }); tells = IsStopped q k refl }
 some_end names ms actors limit capacity (Stuck k) safe wf p =
     let f = stuck-is-full by_draws draws-well ms actors limit (Some capacity) k safe wf p in

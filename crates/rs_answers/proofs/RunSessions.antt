@@ -33,6 +33,8 @@ use Rattle.rs_answers.specs.declared.answers.AnswerWithSession.{AnswerWithSessio
 use Rattle.rs_answers.specs.declared.refusals.Refusal.{Refusal}
 use Rattle.rs_answers.specs.declared.refusals.Refusal.TheVariants as refusal
 use Rattle.rs_answers.specs.declared.runs.RunOptions.{RunOptions}
+use Rattle.rs_answers.specs.declared.verdicts.Verdict.{Verdict}
+use Rattle.rs_answers.specs.declared.verdicts.Verdict.TheVariants as verdict
 
 -- ---- a session that was run
 
@@ -117,28 +119,51 @@ fault-is-alone bytes kind.BadByte at e = e
 fault-is-alone bytes kind.NumberTooLarge at e = e
 fault-is-alone bytes kind.NameTooLong at e = e
 
-wf-is-alone : (names : Names_data) (f : WfFault) → IsAlone (wf_answer names f)
-wf-is-alone names (wf.SelfTalk n) e = e
-wf-is-alone names (wf.NoArms n) e = e
-wf-is-alone names (wf.TooManyArms n) e = e
-wf-is-alone names (wf.TwiceLabel n l) e = e
-wf-is-alone names (wf.BadNext n) e = e
+-- what says that a document is refused
+abbrev pub IsRefusing : Verdict → Type 0
+IsRefusing verdict.Refused = Unit {0}
+IsRefusing verdict.Malformed = Unit {0}
+IsRefusing verdict.Unprojectable = Unit {0}
+IsRefusing verdict.TooLarge = Unit {0}
+IsRefusing other = ⊥
 
-proj-is-alone : (names : Names_data) (f : ProjFault) → IsAlone (proj_answer names f)
-proj-is-alone names (proj.Unmergeable r a b) e = e
-proj-is-alone names (proj.Unreached r n) e = e
-proj-is-alone names (proj.TooManyStates r) e = e
-proj-is-alone names proj.NoMemory e = e
+wf-refuses : (names : Names_data) (f : WfFault) → IsRefusing ((wf_answer names f).verdict)
+wf-refuses names (wf.SelfTalk n) = tt
+wf-refuses names (wf.NoArms n) = tt
+wf-refuses names (wf.TooManyArms n) = tt
+wf-refuses names (wf.TwiceLabel n l) = tt
+wf-refuses names (wf.BadNext n) = tt
 
-search-is-alone : (names : Names_data) (role : Role) (f : SearchFault) → IsAlone (search_answer names role f)
-search-is-alone names role (search.NotFound cut) e = e
-search-is-alone names role (search.Forgets n) e = e
-search-is-alone names role search.TooLarge e = e
-search-is-alone names role search.NoMemory e = e
+proj-refuses : (names : Names_data) (f : ProjFault) → IsRefusing ((proj_answer names f).verdict)
+proj-refuses names (proj.Unmergeable r a b) = tt
+proj-refuses names (proj.Unreached r n) = tt
+proj-refuses names (proj.TooManyStates r) = tt
+proj-refuses names proj.NoMemory = tt
+
+search-refuses : (names : Names_data) (role : Role) (f : SearchFault) → IsRefusing ((search_answer names role f).verdict)
+search-refuses names role (search.NotFound cut) = tt
+search-refuses names role (search.Forgets n) = tt
+search-refuses names role search.TooLarge = tt
+search-refuses names role search.NoMemory = tt
+
+pub refusal-refuses : (names : Names_data) (r : Refusal) → IsRefusing ((refusal_answer names r).verdict)
+refusal-refuses names (refusal.IllFormed f) = wf-refuses names f
+refusal-refuses names (refusal.Unprojectable f) = proj-refuses names f
+refusal-refuses names (refusal.IllMachine role f) = tt
+refusal-refuses names (refusal.Underivable u) = search-refuses names u.role u.fault
+refusal-refuses names refusal.NoMemory = tt
+
+-- .. says nothing of a run
+refusing-is-alone : (v : Verdict) → IsRefusing v → HasCome v → ⊥
+refusing-is-alone verdict.Fine h e = h
+refusing-is-alone verdict.Refused h e = e
+refusing-is-alone verdict.Usage h e = e
+refusing-is-alone verdict.Malformed h e = e
+refusing-is-alone verdict.Unprojectable h e = e
+refusing-is-alone verdict.TooLarge h e = e
+refusing-is-alone verdict.Stopped h e = h
+refusing-is-alone verdict.Full h e = e
+refusing-is-alone verdict.RoomTooSmall h e = e
 
 pub refusal-is-alone : (names : Names_data) (r : Refusal) → IsAlone (refusal_answer names r)
-refusal-is-alone names (refusal.IllFormed f) e = wf-is-alone names f e
-refusal-is-alone names (refusal.Unprojectable f) e = proj-is-alone names f e
-refusal-is-alone names (refusal.IllMachine role f) e = e
-refusal-is-alone names (refusal.Underivable u) e = search-is-alone names u.role u.fault e
-refusal-is-alone names refusal.NoMemory e = e
+refusal-is-alone names r = refusing-is-alone ((refusal_answer names r).verdict) (refusal-refuses names r)

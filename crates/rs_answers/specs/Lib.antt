@@ -2,6 +2,7 @@ pub mod Checks
 pub mod Data
 pub mod Derivations
 pub mod Machines
+pub mod Pools
 pub mod RefusalTexts
 pub mod Refusals
 pub mod Report

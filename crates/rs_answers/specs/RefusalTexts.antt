@@ -34,13 +34,13 @@ line_of_answer kind what verdict = record { text = joined (kind ∷ what ∷ cod
 abbrev pub usage : Answer_data
 usage = line_of_answer (codes "usage") [] verdict.Usage
 
--- the words or the text ask for what isn't built yet
-abbrev pub not_built : Answer_data
-not_built = line_of_answer (codes "not built") [] verdict.NotBuilt
-
 -- a quantity passes its limit
 abbrev pub too_large : List ℕ → Answer_data
 too_large what = line_of_answer (codes "too large: ") what verdict.TooLarge
+
+-- the rings hold fewer messages than the room of the session
+abbrev pub too_small : ℕ → ℕ → Answer_data
+too_small capacity room = line_of_answer (codes "room too small: ring ") (joined (decimal capacity ∷ codes " room " ∷ decimal room ∷ [])) verdict.RoomTooSmall
 
 -- the text is at fault
 abbrev pub malformed : List ℕ → Answer_data

@@ -5,6 +5,7 @@ mod answers;
 mod checks;
 mod derivations;
 pub mod laws;
+mod pools;
 mod refusal_texts;
 mod refusals;
 mod report;
@@ -22,7 +23,8 @@ pub use checks::{check, check_with_derivations};
 pub use derivations::{
     DerivedSession, Underivable, accept_derived, derivations_of, derived_session,
 };
-pub use refusal_texts::{answer_to_fault, line_of_answer, not_built, too_large, usage};
+pub use pools::run_by_workers;
+pub use refusal_texts::{answer_to_fault, line_of_answer, too_large, too_small, usage};
 pub use refusals::{Refusal, refusal_answer};
 pub use runs::{RunOptions, capacity_of, run, stopped_answer};
 pub use sessions::{Session, first_refusal, machines_of, projections_of, session_of};

@@ -43,18 +43,23 @@ pub fn usage(alloc: Global) -> Result<Answer, NoMemory>
     line_of_answer(alloc, b"usage", &[], Verdict::Usage)
 }
 
-/// The words or the text ask for what isn't built yet.
-pub fn not_built(alloc: Global) -> Result<Answer, NoMemory>
-    ensures { IfOk result (λ a. a ≡ spec.not_built) }
-{
-    line_of_answer(alloc, b"not built", &[], Verdict::NotBuilt)
-}
-
 /// A quantity passes its limit.
 pub fn too_large(alloc: Global, what: &[Piece]) -> Result<Answer, NoMemory>
     ensures { IfOk result (λ a. a ≡ spec.too_large (texts.text_of what.now)) }
 {
     line_of_answer(alloc, b"too large: ", what, Verdict::TooLarge)
+}
+
+/// The rings hold fewer messages than the room of the session.
+pub fn too_small(alloc: Global, capacity: u16, room: u64) -> Result<Answer, NoMemory>
+    ensures { IfOk result (λ a. a ≡ spec.too_small capacity room) }
+{
+    line_of_answer(
+        alloc,
+        b"room too small: ring ",
+        &[Number(u64::from(capacity)), Words(b" room "), Number(room)],
+        Verdict::RoomTooSmall,
+    )
 }
 
 /// The text is at fault.

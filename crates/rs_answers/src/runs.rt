@@ -39,7 +39,7 @@ pub struct RunOptions {
 }
 
 /// An actor for each of so many roles.
-fn actors_of(alloc: Global, roles: usize, seed: u32) -> Result<Vec<SeededActor>, NoMemory>
+pub fn actors_of(alloc: Global, roles: usize, seed: u32) -> Result<Vec<SeededActor>, NoMemory>
     requires { roles ≤ 16 }
     ensures many { IfOk result (λ actors. length actors.items ≡ roles) }
     ensures each { IfOk result (λ actors. IsGiven (spec.actor_of seed) actors.items) }
@@ -93,7 +93,7 @@ pub fn stopped_answer(alloc: Global, names: &Names, role: Role) -> Result<Answer
 }
 
 /// What the run came to.
-fn outcome_answer(alloc: Global, names: &Names, outcome: Outcome) -> Result<Answer, NoMemory>
+pub fn outcome_answer(alloc: Global, names: &Names, outcome: Outcome) -> Result<Answer, NoMemory>
     ensures { IfOk result (λ a. a ≡ spec.outcome_answer names.now outcome) }
 {
     match outcome {

@@ -12,5 +12,4 @@ pub enum Verdict {
     Stopped,
     Full,
     RoomTooSmall,
-    NotBuilt,
 }

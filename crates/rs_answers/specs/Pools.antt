@@ -1,0 +1,49 @@
+-- Believed: what `run` answers to a document whose session several workers run.
+use Rattle.std.specs.Prelude.{◌≡◌, ◌≢◌, ◌<◌, ◌≤◌, ℕ, List}
+use Rattle.rs_core.specs.Draws.{by_draws}
+use Rattle.rs_core.specs.declared.runs.Outcome.{Outcome}
+use Rattle.rs_derive.specs.Data.{Derivation_data}
+use Rattle.rs_documents.specs.Data.{Document_data}
+use Rattle.rs_model.specs.Data.{Machine_data, Names_data}
+use Rattle.rs_pool.specs.Pool.{AgreesWithPlain}
+use Rattle.rs_project.specs.Data.{Projection_data}
+use Rattle.rs_safety.specs.Room.{room_of}
+use Rattle.rs_answers.specs.Data.{Answer_data}
+use Rattle.rs_answers.specs.Derivations.{AreCanonical}
+use Rattle.rs_answers.specs.RefusalTexts.{too_small}
+use Rattle.rs_answers.specs.Refusals.{HasNoDerivations, refusal_answer}
+use Rattle.rs_answers.specs.Runs.{Runs, actor_of, capacity_of, outcome_answer}
+use Rattle.rs_answers.specs.Sessions.{HasMachines}
+use Rattle.rs_answers.specs.declared.refusals.Refusal.{Refusal}
+use Rattle.rs_answers.specs.declared.runs.RunOptions.{RunOptions}
+
+-- what is told of a run of the machines by several workers: what the plain run over unbounded queues comes to, by the actors
+-- of the seed. Where that one is stopped, the role that is named is one that comes to its limit wherever all go on as long as
+-- they can; which of these it is, is left open
+pub record TellsPool (options : RunOptions) (names : Names_data) (machines : List Machine_data) (answer : Answer_data) : Type 0 where
+  pub outcome : Outcome
+  pub actors : List ℕ
+  pub agrees : AgreesWithPlain machines by_draws (actor_of options.seed) options.limit outcome actors
+  pub is : answer ≡ outcome_answer names outcome
+
+-- what is answered to an accepted session
+pub data RunsTogether (options : RunOptions) (names : Names_data) (machines : List Machine_data) (derivations : List Derivation_data) (answer : Answer_data) : Type 0 where
+  -- the rings hold fewer messages than its room
+  IsTooSmall : capacity_of options.ring (room_of derivations) < room_of derivations → answer ≡ too_small (capacity_of options.ring (room_of derivations)) (room_of derivations)
+      → RunsTogether options names machines derivations answer
+  -- they hold as many, and it is run
+  IsRunTogether : room_of derivations ≤ capacity_of options.ring (room_of derivations) → TellsPool options names machines answer
+      → RunsTogether options names machines derivations answer
+
+-- one of these applies
+pub data RunsByWorkers (options : RunOptions) (d : Document_data) (answer : Answer_data) : Type 0 where
+  -- the document is refused
+  IsRefused : (refusal : Refusal) → HasNoDerivations options.bound d refusal → answer ≡ refusal_answer d.names refusal → RunsByWorkers options d answer
+  -- the session is accepted
+  IsAccepted : (projections : List Projection_data) (machines : List Machine_data) (derivations : List Derivation_data) → HasMachines d projections machines
+      → AreCanonical options.bound machines projections derivations → RunsTogether options d.names machines derivations answer → RunsByWorkers options d answer
+
+-- what `run` answers to a document, with so many workers: one of them goes round after round, several go as they come
+pub data RunsWith (workers : ℕ) (options : RunOptions) (d : Document_data) (answer : Answer_data) : Type 0 where
+  ByOne : workers ≡ 1 → Runs options d answer → RunsWith workers options d answer
+  BySeveral : workers ≢ 1 → RunsByWorkers options d answer → RunsWith workers options d answer
