@@ -1,5 +1,5 @@
 -- A demo that is fine prints what it computes.
-use Rattle.std.proofs.Common.{◌≡◌, ℕ, zero, suc, Bool, true, false, if◌then◌else◌, List, [], ◌∷◌, length, map, Option, Some, None, slice_get, refl, sym, ap, ap₂, ◌∙◌, subst}
+use Rattle.std.proofs.Common.{◌≡◌, ℕ, suc, Bool, true, false, if◌then◌else◌, List, [], ◌∷◌, length, map, Option, Some, None, slice_get, refl, sym, ap, ap₂, ◌∙◌, subst}
 use Rattle.rs_answers.specs.Data.{Answer_data}
 use Rattle.rs_answers.specs.Machines.{machine_or, machines_of}
 use Rattle.rs_answers.specs.RefusalTexts.{proj_answer, search_answer, wf_answer}
@@ -8,15 +8,15 @@ use Rattle.rs_answers.specs.Sessions.{HasMachines}
 use Rattle.rs_answers.specs.declared.refusals.Refusal.{Refusal}
 use Rattle.rs_answers.specs.declared.refusals.Refusal.TheVariants as refusal
 use Rattle.rs_answers.specs.declared.verdicts.Verdict.TheVariants.{Fine}
-use Rattle.rs_core.specs.Plain.{Moment, Ending, Ended, IsPlain}
+use Rattle.rs_core.specs.Plain.{Ending, Ended, IsPlain}
 use Rattle.rs_core.specs.Runs.{HasActors}
-use Rattle.rs_demo_answers.specs.Demos.{AnswersDemo, HasBadNumbers, IsFaulty, IsDocument, AnswersOwn, IsRefused, IsAccepted, Performs, IsTooSmall, IsRun, Opens, TellsEnd, HasEnded, IsStopped, TellsRun, actor_at}
+use Rattle.rs_demo_answers.specs.Demos.{AnswersDemo, HasBadNumbers, IsFaulty, IsDocument, AnswersOwn, IsRefused, IsAccepted, IsTooSmall, IsRun, Opens, TellsEnd, HasEnded, IsStopped, actor_at}
 use Rattle.rs_demo_answers.specs.declared.limits.TheConstants.{DEMO_LIMIT}
 use Rattle.rs_demo_answers.proofs.Opening.{has_session_for}
 use Rattle.rs_demo_answers.proofs.Performing.{given}
 use Rattle.rs_demos.specs.Acting.{by_demo}
 use Rattle.rs_demos.specs.Results.{Computes}
-use Rattle.rs_demos.specs.Sessions.{demo_machines, demo_protocol, has_line, has_session, written, written_machines}
+use Rattle.rs_demos.specs.Sessions.{demo_machines, demo_protocol, has_line, has_session, written}
 use Rattle.rs_demos.specs.Starts.{StartsWithActors}
 use Rattle.rs_demos.specs.Texts.{document_of}
 use Rattle.rs_demos.specs.declared.actors.DemoActor.{DemoActor}
@@ -27,7 +27,7 @@ use Rattle.rs_demos.proofs.SpeltDocuments.{in-place-at, machines-many, spelt_doc
 use Rattle.rs_documents.specs.Data.{Document_data}
 use Rattle.rs_documents.specs.Documents.{SpellsDocument}
 use Rattle.rs_documents.proofs.OneDocument.{no_fault, one_document}
-use Rattle.rs_model.specs.Data.{Machine_data, Names_data, Protocol_data}
+use Rattle.rs_model.specs.Data.{Machine_data, Names_data}
 use Rattle.rs_model.specs.declared.graph.Role.{Role}
 use Rattle.rs_project.specs.Data.{Projection_data}
 use Rattle.rs_project.specs.Numbered.{AreNumberedProjections}

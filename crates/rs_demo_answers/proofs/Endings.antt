@@ -13,7 +13,8 @@ use Rattle.rs_core.specs.Plain.{Moment, Ending, Ended, Stopped, Stuck, IsPlain}
 use Rattle.rs_core.specs.Runs.{HasActors}
 use Rattle.rs_core.specs.Safety.{IsSafe}
 use Rattle.rs_core.proofs.Unique.{one-outcome}
-use Rattle.rs_demo_answers.specs.Demos.{Performs, IsTooSmall, IsRun, TellsEnd, HasEnded, IsStopped, TellsRun, actor_at, ended_answer, too_small}
+use Rattle.rs_demo_answers.specs.Demos.{Performs, IsTooSmall, IsRun, TellsEnd, HasEnded, IsStopped, TellsRun, actor_at, ended_answer}
+use Rattle.rs_answers.specs.RefusalTexts.{too_small}
 use Rattle.rs_demo_answers.specs.declared.limits.TheConstants.{DEMO_LIMIT}
 use Rattle.rs_demos.specs.Acting.{by_demo}
 use Rattle.rs_demos.specs.Choosing.{chooses-well}

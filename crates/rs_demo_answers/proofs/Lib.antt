@@ -5,3 +5,6 @@ pub mod OneAnswer
 pub mod SomeAnswer
 pub mod Computing
 pub mod Stopping
+pub mod AnsweredAlone
+pub mod Opened
+pub mod Agreeing

@@ -1,5 +1,5 @@
 -- A demo has an answer to each input.
-use Rattle.std.proofs.Common.{◌≡◌, ◌≤◌, ◌⊎◌, inl, inr, ℕ, List, length, Option, refl}
+use Rattle.std.proofs.Common.{inl, inr, ℕ, List, length, Option, refl}
 use Rattle.rs_answers.specs.Data.{Answer_data}
 use Rattle.rs_answers.specs.RefusalTexts.{fault_answer}
 use Rattle.rs_answers.specs.Refusals.{refusal_answer}

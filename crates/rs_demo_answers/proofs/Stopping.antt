@@ -1,5 +1,5 @@
 -- No demo is stopped at its limit.
-use Rattle.std.proofs.Common.{◌≡◌, ℕ, ◌≤◌, List, length, Option, Some, subst, arith}
+use Rattle.std.proofs.Common.{◌≡◌, ℕ, ◌≤◌, List, length, Option, subst, arith}
 use Rattle.rs_answers.specs.Sessions.{HasMachines}
 use Rattle.rs_core.specs.Plain.{Moment, Stopped, IsPlain}
 use Rattle.rs_demo_answers.specs.Demos.{Opens, actor_at}

@@ -1,13 +1,11 @@
 -- Believed: what `demo` answers to its input.
-use Rattle.std.specs.Prelude.{◌≡◌, ◌<◌, ◌≤◌, ℕ, List, [], ◌∷◌, codes, get_or, length, Option, Some}
-use Rattle.std.specs.Fmt.{decimal}
+use Rattle.std.specs.Prelude.{◌≡◌, ◌<◌, ◌≤◌, ℕ, List, [], codes, get_or, length, Option, Some}
 use Rattle.rs_answers.specs.Data.{Answer_data}
 use Rattle.rs_answers.specs.Derivations.{AreCanonical}
-use Rattle.rs_answers.specs.RefusalTexts.{fault_answer, line_of_answer, malformed}
+use Rattle.rs_answers.specs.RefusalTexts.{fault_answer, malformed, too_small}
 use Rattle.rs_answers.specs.Refusals.{HasNoDerivations, refusal_answer}
 use Rattle.rs_answers.specs.Runs.{capacity_of, stopped_answer}
 use Rattle.rs_answers.specs.Sessions.{HasMachines}
-use Rattle.rs_answers.specs.Texts.{joined}
 use Rattle.rs_answers.specs.declared.refusals.Refusal.{Refusal}
 use Rattle.rs_answers.specs.declared.verdicts.Verdict.TheVariants as verdict
 use Rattle.rs_core.specs.Plain.{Moment, Ending, Ended, Stopped, IsPlain}
@@ -34,10 +32,6 @@ use Rattle.rs_words.specs.declared.limits.TheConstants.{DEFAULT_BOUND}
 -- the bytes aren't the numbers that the demo asks for
 abbrev pub bad_numbers : Answer_data
 bad_numbers = malformed (codes "numbers")
-
--- the rings hold fewer messages than the room of the session
-abbrev pub too_small : ℕ → ℕ → Answer_data
-too_small capacity room = line_of_answer (codes "room too small: ring ") (joined (decimal capacity ∷ codes " room " ∷ decimal room ∷ [])) verdict.RoomTooSmall
 
 -- all roles have ended: what is printed of their actors
 abbrev pub ended_answer : Demo → List DemoActor → Answer_data

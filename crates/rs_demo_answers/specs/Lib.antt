@@ -1,2 +1,3 @@
 pub mod Demos
 pub mod DemoSessions
+pub mod Openings
