@@ -1,10 +1,11 @@
+use crossbeam_utils::Backoff;
 use rs_model::Role;
 use rs_pool::Gate;
 use std::sync::atomic::AtomicU64;
 use std::sync::atomic::Ordering::SeqCst;
 
-/// How often a worker looks for the other.
-const TRIES: u32 = 1_000_000_000;
+/// How often a worker looks for the other, at most.
+const TRIES: u32 = 10_000_000;
 
 /// A gate for two workers: the first turn of each waits until the first turn of the other has begun, or until it has looked so
 /// often that it gives up.
@@ -43,10 +44,12 @@ impl Gate for Meeting {
             return;
         }
         mine.store(1, SeqCst);
+        let backoff = Backoff::new();
         for _ in 0..TRIES {
             if other.load(SeqCst) != 0 {
                 return;
             }
+            backoff.snooze();
         }
         self.missed.store(1, SeqCst);
     }

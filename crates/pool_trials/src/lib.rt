@@ -1,6 +1,8 @@
-//! Runs of documents by workers, beside their plain runs.
+//! Runs of documents by workers, beside their plain runs, by the library and by `command`.
 #![tactic(auto)]
 
+#[cfg(test)]
+mod command_tests;
 mod gates;
 mod runs;
 #[cfg(test)]

@@ -1,7 +1,7 @@
 ghost use Rattle.std.specs.Prelude.{◌≡◌, ◌≤◌, true};
 ghost use Rattle.rs_demos.specs.Sessions.{has_session};
 
-use crate::{HowToRun, Meeting, plain_run, pool_run};
+use crate::{HowToRun, plain_run, pool_run};
 use rs_core::{Actor, Outcome, Run, SeededActor};
 use rs_demos::{Demo, demo_actors, demo_document, demo_output};
 use rs_model::{NoMemory, Role};
@@ -13,7 +13,7 @@ use std::test::Fail;
 use std::thread::Threads;
 
 /// Double buffering, one ready ahead.
-const BUFFERING: &[u8] =
+pub(crate) const BUFFERING: &[u8] =
     b"roles K, S, T\nprotocol rec X. K->S:ready(). T->K:ready(). S->K{copy(bytes). K->T:copy(bytes). X, stop(). K->S:ready(). K->T:stop(). end}\nmachine K: S!ready(). rec X. S!ready(). T?ready(). S?{copy(bytes). T!copy(bytes). X, stop(). T!stop(). end}\n";
 
 /// A goes on for ever, as B does.
@@ -97,20 +97,6 @@ fn texts_that_are_refused_do_not_run(rt: HostRuntime) -> Result<(), Fail> {
     assert!(rt; refused.is_none());
     let few = pool_run(&rt, alloc, ENDLESS, seeded(alloc, 1, 0)?, how, &NoGate);
     assert!(rt; few.is_none());
-    Ok(())
-}
-
-#[test]
-fn two_workers_meet(rt: HostRuntime) -> Result<(), Fail> {
-    let alloc = rt.alloc();
-    let gate = Meeting::new();
-    let how = HowToRun {
-        workers: 2,
-        limit: 1000,
-    };
-    let run = pool_run(&rt, alloc, BUFFERING, seeded(alloc, 3, 0)?, how, &gate);
-    assert!(rt; run.is_some());
-    assert!(rt; gate.was_held());
     Ok(())
 }
 

@@ -1,5 +1,5 @@
 -- A text whose machines may be derived is accepted.
-use Rattle.std.proofs.Common.{◌≡◌, ◌⊎◌, inl, inr, ℕ, zero, suc, List, [], ◌∷◌, length, Option, Some, None, ap, ◌∙◌, refl, arith}
+use Rattle.std.proofs.Common.{◌≡◌, ◌⊎◌, inl, inr, ℕ, zero, suc, List, [], ◌∷◌, length, Option, Some, None, true, false, ap, subst, ◌∙◌, refl, arith}
 use Rattle.rs_derive.specs.Data.{Derivation_data}
 use Rattle.rs_documents.proofs.SpeltSessions.{spelt_session}
 use Rattle.rs_model.proofs.Faults as of_machines
@@ -15,7 +15,9 @@ use Rattle.rs_answers.specs.Derivations.{AreCanonical}
 use Rattle.rs_answers.specs.Machines.{machines_of}
 use Rattle.rs_answers.specs.Sessions.{HasMachines, first_refusal}
 use Rattle.rs_tool.specs.Statuses.{status_of}
-use Rattle.rs_tool.specs.Tasks.{SpellsCheck}
+use Rattle.rs_tool.specs.Tasks.{AskForWorkers, SpellsCheck, needs_workers}
+use Rattle.rs_words.proofs.Exact.{words_spell_one_task}
+use Rattle.rs_words.specs.declared.tasks.Task.{Task}
 use Rattle.rs_rings.specs.Closed.{Closed_data}
 use Rattle.rs_tool.specs.declared.statuses.Reply.{Reply}
 use Rattle.rs_tool.specs.declared.statuses.Status.{Status}
@@ -59,10 +61,16 @@ answers words bound bytes s check =
     let accepted = IsAccepted s.projections (machines_of s.document.machines s.projections) d.0 (has_machines bound bytes s) d.1 t.1 in
     (t.0, CarriesOut (task.Check bound check.0) check.1 (ReadsDocument refl (IsDocument s.short s.document s.spells accepted)), ap status_of t.2)
 
+checks_need_none : (words : List (List ℕ)) (bound : ℕ) → SpellsCheck words bound → AskForWorkers words → ⊥
+checks_need_none words bound check asks = no (words_spell_one_task words asks.0 (task.Check bound check.0) asks.1 check.1) asks.2
+  where
+    no : {t : Task} → t ≡ task.Check bound check.0 → needs_workers t ≡ true → ⊥
+    no {t} e needs = let clash : false ≡ true = subst (λ (x : Task). needs_workers x ≡ true) e needs in cc
+
 is_fine : (words : List (List ℕ)) (bound : ℕ) (bytes : List ℕ) (s : SpellsDerivableSession bound bytes) (a : Answer_data) → SpellsCheck words bound → Answers words bytes a → status_of a.verdict ≡ status.Fine
 is_fine words bound bytes s a check h =
     let t = answers words bound bytes s check in
-    ap (λ (z : Answer_data). status_of z.verdict) (one_answer words bytes a t.0 h t.1) ∙ t.2
+    ap (λ (z : Answer_data). status_of z.verdict) (one_answer words bytes a t.0 (checks_need_none words bound check) h t.1) ∙ t.2
 
 told : (words : List (List ℕ)) (bound : ℕ) (bytes : List ℕ) (old new : Option (List ℕ)) (state : Status) (z : Option Closed_data) (s : SpellsDerivableSession bound bytes) → SpellsCheck words bound → Tells words bytes old new state z
     → (state ≡ status.ReadFault → ⊥) → (state ≡ status.WriteFault → ⊥) → (state ≡ status.Fine) ⊎ (state ≡ status.NoMemory)

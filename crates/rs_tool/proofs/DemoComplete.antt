@@ -78,7 +78,7 @@ data_is_performed kind ring bytes a c (DataIsShort s h) = demo_is_performed kind
 told_is_performed : (words : List (List ℕ)) (kind : Demo) (ring : Option ℕ) (bytes : List ℕ) (old new : Option (List ℕ)) (s : Status) (z : Option Closed_data) → CanBePerformed kind ring bytes → SpellsDemo words kind ring → Tells words bytes old new s z
     → (s ≡ status.ReadFault → ⊥) → (s ≡ status.WriteFault → ⊥) → IsPerformed s
 told_is_performed words kind ring bytes old new s z c spells (TellsAll a h session text is) no_read no_write =
-    demo-is-answered kind ring bytes a (IsPerformed s) (task-is-answered words (task.Demo kind ring 1) bytes a spells h) (λ own. subst IsPerformed (sym is) (data_is_performed kind ring bytes a c own))
+    demo-is-answered kind ring spells.0 bytes a (IsPerformed s) (task-is-answered words (task.Demo kind ring spells.0) bytes a spells.1 h) (λ own. subst IsPerformed (sym is) (data_is_performed kind ring bytes a c own))
 told_is_performed words kind ring bytes old new s z c spells (TellsPart a h session text is) no_read no_write = absurd (no_write is)
 told_is_performed words kind ring bytes old new s z c spells (TellsReadFault keeps is none) no_read no_write = absurd (no_read is)
 told_is_performed words kind ring bytes old new s z c spells (TellsNoMemory keeps is none) no_read no_write = subst IsPerformed (sym is) tt

@@ -9,7 +9,7 @@ use Rattle.rs_core.specs.Plain.{Ending}
 use Rattle.rs_demos.specs.declared.actors.DemoActor.{DemoActor}
 use Rattle.rs_demos.specs.declared.kinds.Demo.{Demo}
 use Rattle.rs_model.specs.Data.{Names_data}
-use Rattle.rs_tool.specs.Answers.{AnswersData, DataIsTooLong, DataIsShort, AnswersTask, IsNotBuilt, ReadsDocument, RunsDemo, MakesPipeline}
+use Rattle.rs_tool.specs.Answers.{AnswersData, DataIsTooLong, DataIsShort, AnswersTask, ReadsDocument, RunsDemo, MakesPipeline}
 use Rattle.rs_tool.specs.Calls.{ForInput, Tells, TellsAll, TellsPart, TellsReadFault, TellsNoMemory}
 use Rattle.rs_tool.specs.DemoHeadline.{HasSafeDemo}
 use Rattle.rs_tool.specs.RunHeadline.{IsOfRun}
@@ -23,11 +23,10 @@ use Rattle.rs_words.specs.declared.tasks.Task.TheVariants as task
 use Rattle.rs_tool.proofs.Headline.{derived-is-safe, fault-is-no-run, no-run, refusal-is-no-run, task-is-answered, told-is-run}
 
 -- the answer of the demo that the words ask for is its answer to the data
-pub demo-is-answered : (kind : Demo) (ring : Option ℕ) (bytes : List ℕ) (a : Answer_data) (P : Type 0) → AnswersTask (task.Demo kind ring 1) bytes a → (AnswersData kind ring bytes a → P) → P
-demo-is-answered kind ring bytes a P (IsNotBuilt not is) next = absurd cc
-demo-is-answered kind ring bytes a P (ReadsDocument reads h) next = absurd cc
-demo-is-answered kind ring bytes a P (MakesPipeline number same h) next = absurd cc
-demo-is-answered kind ring bytes a P (RunsDemo k r same h) next =
+pub demo-is-answered : (kind : Demo) (ring : Option ℕ) (workers : ℕ) (bytes : List ℕ) (a : Answer_data) (P : Type 0) → AnswersTask (task.Demo kind ring workers) bytes a → (AnswersData kind ring bytes a → P) → P
+demo-is-answered kind ring workers bytes a P (ReadsDocument reads h) next = absurd cc
+demo-is-answered kind ring workers bytes a P (MakesPipeline number same h) next = absurd cc
+demo-is-answered kind ring workers bytes a P (RunsDemo k r many same h) next =
     let one : k ≡ kind = cc in
     let other : r ≡ ring = cc in
     let Q : Demo → Type 0 = λ z. AnswersData z r bytes a in
@@ -47,8 +46,8 @@ data-is-safe kind ring bytes a (DataIsShort s h) run = demo-is-safe kind ring by
 pub demos-are-safe : (words : List (List ℕ)) (o old new : Option (List ℕ)) (s : Status) (z : Option Closed_data) (kind : Demo) (ring : Option ℕ) → SpellsDemo words kind ring → ForInput words o (λ bytes. Tells words bytes old new s z) → IfSome o (λ bytes. IsOfRun s → HasSafeDemo kind bytes)
 demos-are-safe words None old new s z kind ring spells told = tt
 demos-are-safe words (Some bytes) old new s z kind ring spells told = λ run.
-    let is = told-is-run words (task.Demo kind ring 1) bytes old new s z spells told.told run in
-    demo-is-answered kind ring bytes is.0 (HasSafeDemo kind bytes) is.1 (λ h. data-is-safe kind ring bytes is.0 h is.2)
+    let is = told-is-run words (task.Demo kind ring spells.0) bytes old new s z spells.1 told.told run in
+    demo-is-answered kind ring spells.0 bytes is.0 (HasSafeDemo kind bytes) is.1 (λ h. data-is-safe kind ring bytes is.0 h is.2)
 
 -- ---- no demo is full
 
@@ -79,7 +78,7 @@ data-is-not-full kind ring bytes a (DataIsShort s h) = demo-is-not-full kind rin
 
 told-is-not-full : (words : List (List ℕ)) (kind : Demo) (ring : Option ℕ) (bytes : List ℕ) (old new : Option (List ℕ)) (s : Status) (z : Option Closed_data) → SpellsDemo words kind ring → Tells words bytes old new s z → s ≡ status.Full → ⊥
 told-is-not-full words kind ring bytes old new s z spells (TellsAll a h session text is) full =
-    demo-is-answered kind ring bytes a ⊥ (task-is-answered words (task.Demo kind ring 1) bytes a spells h) (λ own. data-is-not-full kind ring bytes a own (sym is ∙ full))
+    demo-is-answered kind ring spells.0 bytes a ⊥ (task-is-answered words (task.Demo kind ring spells.0) bytes a spells.1 h) (λ own. data-is-not-full kind ring bytes a own (sym is ∙ full))
 told-is-not-full words kind ring bytes old new s z spells (TellsPart a h session text is) full = let no = sym is ∙ full in cc
 told-is-not-full words kind ring bytes old new s z spells (TellsReadFault keeps is none) full = let no = sym is ∙ full in cc
 told-is-not-full words kind ring bytes old new s z spells (TellsNoMemory keeps is none) full = let no = sym is ∙ full in cc

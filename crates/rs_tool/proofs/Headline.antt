@@ -22,7 +22,7 @@ use Rattle.rs_rings.specs.Closed.{Closed_data}
 use Rattle.rs_tool.specs.declared.statuses.Status.{Status}
 use Rattle.rs_tool.specs.declared.statuses.Status.TheVariants as status
 use Rattle.rs_pipeline.specs.Pipelines.{pipeline_text, pipeline_of}
-use Rattle.rs_tool.specs.Answers.{Answers, SpellsNothing, CarriesOut, AnswersText, IsTooLong, IsFaulty, IsDocument, AnswersDocument, AnswersTask, IsNotBuilt, ReadsDocument, RunsDemo, MakesPipeline}
+use Rattle.rs_tool.specs.Answers.{Answers, SpellsNothing, CarriesOut, AnswersText, IsTooLong, IsFaulty, IsDocument, AnswersDocument, AnswersTask, ReadsDocument, RunsDemo, MakesPipeline}
 use Rattle.rs_tool.specs.Calls.{ForInput, Tells, TellsAll, TellsPart, TellsReadFault, TellsNoMemory}
 use Rattle.rs_answers.specs.Checks.{Checks, IsRefused, IsAccepted}
 use Rattle.rs_documents.specs.Data.{Document_data}
@@ -40,6 +40,8 @@ use Rattle.rs_model.specs.Data.{Machine_data, Names_data}
 use Rattle.rs_project.specs.Data.{Projection_data}
 use Rattle.rs_tool.specs.Headline.{SpellsSafeMachines}
 use Rattle.rs_tool.specs.RunHeadline.{IsOfRun}
+use Rattle.rs_answers.specs.Pools as pools
+use Rattle.rs_answers.specs.Pools.{RunsByWorkers, RunsWith, ByOne, BySeveral}
 use Rattle.rs_answers.specs.Runs as runs
 use Rattle.rs_answers.specs.Runs.{Runs}
 use Rattle.rs_answers.specs.declared.runs.RunOptions.{RunOptions}
@@ -123,6 +125,14 @@ run-is-safe : (options : RunOptions) (bytes : List ℕ) (d : Document_data) (a :
 run-is-safe options bytes d a doc (runs.IsRefused r h is) run = absurd (no-run a _ is (refusal-is-no-run d.names r) run)
 run-is-safe options bytes d a doc (runs.IsRun projections machines derivations h found tells) run = derived-is-safe options.bound bytes d projections machines derivations doc h found
 
+pool-is-safe : (options : RunOptions) (bytes : List ℕ) (d : Document_data) (a : Answer_data) → SpellsDocument bytes d → RunsByWorkers options d a → IsOfRun (status_of a.verdict) → SpellsSafeMachines bytes
+pool-is-safe options bytes d a doc (pools.IsRefused r h is) run = absurd (no-run a _ is (refusal-is-no-run d.names r) run)
+pool-is-safe options bytes d a doc (pools.IsAccepted projections machines derivations h found tells) run = derived-is-safe options.bound bytes d projections machines derivations doc h found
+
+runs-with-are-safe : (options : RunOptions) (workers : ℕ) (bytes : List ℕ) (d : Document_data) (a : Answer_data) → SpellsDocument bytes d → RunsWith workers options d a → IsOfRun (status_of a.verdict) → SpellsSafeMachines bytes
+runs-with-are-safe options workers bytes d a doc (ByOne one h) run = run-is-safe options bytes d a doc h run
+runs-with-are-safe options workers bytes d a doc (BySeveral several h) run = pool-is-safe options bytes d a doc h run
+
 verify-is-safe : (bytes : List ℕ) (d : Document_data) (a : Answer_data) → SpellsDocument bytes d → Verifies d a → IsOfRun (status_of a.verdict) → SpellsSafeMachines bytes
 verify-is-safe bytes d a doc (verifying.IsRefused r h is) run = absurd (no-run a _ is (refusal-is-no-run d.names r) run)
 verify-is-safe bytes d a doc (verifying.IsBlamed ps ms h b e is) run = absurd (no-run a _ is (λ e. e) run)
@@ -155,27 +165,23 @@ check-is-safe bound asked bytes a h run = text-is-safe (task.Check bound asked) 
 
 -- what the words ask for is safe, where it was carried out on an accepted session
 checks-safely : (bound : ℕ) (asked : Bool) (bytes : List ℕ) (a : Answer_data) → AnswersTask (task.Check bound asked) bytes a → IsOfRun (status_of a.verdict) → SpellsSafeMachines bytes
-checks-safely bound asked bytes a (IsNotBuilt not is) run = absurd (no-run a _ is (λ e. e) run)
 checks-safely bound asked bytes a (ReadsDocument reads h) run = check-is-safe bound asked bytes a h run
-checks-safely bound asked bytes a (RunsDemo kind own same h) run = absurd cc
+checks-safely bound asked bytes a (RunsDemo kind own workers same h) run = absurd cc
 checks-safely bound asked bytes a (MakesPipeline number same h) run = absurd cc
 
 verifies-safely : (bytes : List ℕ) (a : Answer_data) → AnswersTask task.Verify bytes a → IsOfRun (status_of a.verdict) → SpellsSafeMachines bytes
-verifies-safely bytes a (IsNotBuilt not is) run = absurd (no-run a _ is (λ e. e) run)
 verifies-safely bytes a (ReadsDocument reads h) run = text-is-safe task.Verify bytes a (λ d doc k is. verify-is-safe bytes d a doc k is) h run
-verifies-safely bytes a (RunsDemo kind own same h) run = absurd cc
+verifies-safely bytes a (RunsDemo kind own workers same h) run = absurd cc
 verifies-safely bytes a (MakesPipeline number same h) run = absurd cc
 
-runs-safely : (options : RunOptions) (bytes : List ℕ) (a : Answer_data) → AnswersTask (task.Run options.bound options.ring 1 options.limit options.seed) bytes a → IsOfRun (status_of a.verdict) → SpellsSafeMachines bytes
-runs-safely options bytes a (IsNotBuilt not is) run = absurd (no-run a _ is (λ e. e) run)
-runs-safely options bytes a (ReadsDocument reads h) run = text-is-safe (task.Run options.bound options.ring 1 options.limit options.seed) bytes a (λ d doc k is. run-is-safe options bytes d a doc k is) h run
-runs-safely options bytes a (RunsDemo kind own same h) run = absurd cc
-runs-safely options bytes a (MakesPipeline number same h) run = absurd cc
+runs-safely : (options : RunOptions) (many : ℕ) (bytes : List ℕ) (a : Answer_data) → AnswersTask (task.Run options.bound options.ring many options.limit options.seed) bytes a → IsOfRun (status_of a.verdict) → SpellsSafeMachines bytes
+runs-safely options many bytes a (ReadsDocument reads h) run = text-is-safe (task.Run options.bound options.ring many options.limit options.seed) bytes a (λ d doc k is. runs-with-are-safe options many bytes d a doc k is) h run
+runs-safely options many bytes a (RunsDemo kind own workers same h) run = absurd cc
+runs-safely options many bytes a (MakesPipeline number same h) run = absurd cc
 
 pipes-safely : (number : ℕ) (bytes : List ℕ) (a : Answer_data) → AnswersTask (task.Gen number) bytes a → IsOfRun (status_of a.verdict) → SpellsSafeMachines (pipeline_text (pipeline_of number))
-pipes-safely number bytes a (IsNotBuilt not is) run = absurd (no-run a _ is (λ e. e) run)
 pipes-safely number bytes a (ReadsDocument reads h) run = absurd cc
-pipes-safely number bytes a (RunsDemo kind own same h) run = absurd cc
+pipes-safely number bytes a (RunsDemo kind own workers same h) run = absurd cc
 pipes-safely number bytes a (MakesPipeline other same h) run =
     let is : other ≡ number = cc in
     let checked : IsOfRun (status_of h.checked.verdict) = subst (λ (z : Answer_data). IsOfRun (status_of z.verdict)) h.is run in
@@ -210,8 +216,8 @@ verified-is-safe words (Some bytes) old new s z spells told = λ fine.
 pub runs-are-safe : (words : List (List ℕ)) (o old new : Option (List ℕ)) (s : Status) (z : Option Closed_data) (options : RunOptions) → SpellsRun words options → ForInput words o (λ bytes. Tells words bytes old new s z) → IfSome o (λ bytes. IsOfRun s → SpellsSafeMachines bytes)
 runs-are-safe words None old new s z options spells told = tt
 runs-are-safe words (Some bytes) old new s z options spells told = λ run.
-    let is = told-is-run words (task.Run options.bound options.ring 1 options.limit options.seed) bytes old new s z spells told.told run in
-    runs-safely options bytes is.0 is.1 is.2
+    let is = told-is-run words (task.Run options.bound options.ring spells.0 options.limit options.seed) bytes old new s z spells.1 told.told run in
+    runs-safely options spells.0 bytes is.0 is.1 is.2
 
 pub pipeline-is-safe : (words : List (List ℕ)) (o old new : Option (List ℕ)) (s : Status) (z : Option Closed_data) (number : ℕ) → SpellsTask words (task.Gen number) → ForInput words o (λ bytes. Tells words bytes old new s z) → s ≡ status.Fine → SpellsSafeMachines (pipeline_text (pipeline_of number))
 pipeline-is-safe words o old new s z number spells told fine =

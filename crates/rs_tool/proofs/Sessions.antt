@@ -2,7 +2,7 @@
 use Rattle.std.proofs.Common.{◌≡◌, ℕ, List, Option, Some, None, Result, Ok, Err, sym, subst}
 use Rattle.std.specs.Prelude.{IfOk}
 use Rattle.rs_answers.specs.Data.{Answer_data}
-use Rattle.rs_answers.specs.RunSessions.{HasCome, IsThereWhere}
+use Rattle.rs_answers.specs.RunSessions.{HasCome, IsThereWhere, WasRunOf}
 use Rattle.rs_demo_answers.specs.DemoSessions.{WasPerformed}
 use Rattle.rs_demos.specs.declared.kinds.Demo.{Demo}
 use Rattle.rs_model.specs.declared.memory.NoMemory.{NoMemory}
@@ -33,6 +33,12 @@ of_session (task.Gen number) bytes d a c doc s = absurd s
 pub handed_on : (t : Task) (bytes : List ℕ) (d : Document_data) (a : Answer_data) (c : Option Closed_data) → SpellsDocument bytes d → HandsOutOn t d a c → HandsOut t bytes a c
 handed_on t bytes d a None doc h = h
 handed_on t bytes d a (Some c) doc h = (h.0, of_session t bytes d a c doc h.1)
+
+-- the session of a run on a document is that of its task
+pub run_handed : (bound : ℕ) (ring : Option ℕ) (workers limit seed : ℕ) (d : Document_data) (a : Answer_data) (c : Option Closed_data)
+    → IsThereWhere (HasCome a.verdict) (WasRunOf (record { bound = bound; ring = ring; limit = limit; seed = seed }) d a) c → HandsOutOn (task.Run bound ring workers limit seed) d a c
+run_handed bound ring workers limit seed d a None h = λ due. h due.1
+run_handed bound ring workers limit seed d a (Some x) h = ((tt, h.0), h.1)
 
 -- the session of a demo is that of its task
 pub demo_handed : (kind : Demo) (ring : Option ℕ) (workers : ℕ) (bytes : List ℕ) (a : Answer_data) (c : Option Closed_data) → IsThereWhere (HasCome a.verdict) (WasPerformed kind bytes a) c → HandsOut (task.Demo kind ring workers) bytes a c

@@ -1,6 +1,6 @@
 -- There is an answer to all words and bytes.
 use Rattle.std.proofs.Common.{◌≡◌, ℕ, ◌++◌, ◌∷◌, [], List, length, map, Bool, true, false, Option, Some, None, refl, inl, inr, arith}
-use Rattle.std.specs.Prelude.{◌==◌, codes}
+use Rattle.std.specs.Prelude.{codes}
 use Rattle.std.proofs.lemmas.Bool.Decides.{leb_tells}
 use Rattle.rs_model.specs.Data.{Names_data, Machine_data}
 use Rattle.rs_model.specs.declared.limits.TheConstants.{MOST_BYTES}
@@ -13,36 +13,30 @@ use Rattle.rs_words.specs.declared.limits.TheConstants.{DEFAULT_BOUND}
 use Rattle.rs_words.specs.Meaning.{IsInRange, IsMeaning}
 use Rattle.rs_words.proofs.Exact.{words_mean_something}
 use Rattle.rs_words.proofs.Ranges.{spelt_numbers_are_in_range}
-use Rattle.rs_answers.proofs.Derivings.{canonical_safe, session_of}
-use Rattle.rs_documents.proofs.SpeltSessions.{spelt_session}
 use Rattle.rs_wellformed.specs.Faults.{first_fault}
 use Rattle.rs_wellformed.specs.declared.checks.WfFault.{WfFault}
 use Rattle.rs_wellformed.proofs.Faults.{no_fault}
 use Rattle.rs_answers.specs.declared.verdicts.Verdict.TheVariants.{Fine}
 use Rattle.rs_demo_answers.proofs.SomeAnswer.{some_demo}
 use Rattle.rs_demos.specs.declared.kinds.Demo.{Demo}
-use Rattle.rs_tool.proofs.Answering.{demo_by_one}
 use Rattle.rs_words.specs.declared.tasks.Task.{Task}
 use Rattle.rs_words.specs.declared.tasks.Task.TheVariants as task
-use Rattle.rs_tool.specs.Answers.{Answers, SpellsNothing, CarriesOut, AnswersText, IsTooLong, IsFaulty, IsDocument, AnswersDocument, AnswersTask, AnswersData, DataIsTooLong, DataIsShort, IsNotBuilt, ReadsDocument, RunsDemo, MakesPipeline}
+use Rattle.rs_tool.specs.Answers.{Answers, SpellsNothing, CarriesOut, AnswersText, IsTooLong, IsFaulty, IsDocument, AnswersDocument, AnswersTask, AnswersData, DataIsTooLong, DataIsShort, ReadsDocument, RunsDemo, MakesPipeline}
 use Rattle.rs_answers.specs.Checks as checks
 use Rattle.rs_answers.specs.Checks.{TellsAccepted}
 use Rattle.rs_documents.specs.Data.{Document_data}
 use Rattle.rs_answers.specs.Data.{Answer_data}
 use Rattle.rs_documents.specs.Documents.{SpellsDocument}
-use Rattle.rs_answers.specs.RefusalTexts.{usage, not_built, too_large, fault_answer, wf_answer, proj_answer}
+use Rattle.rs_answers.specs.RefusalTexts.{usage, too_large, fault_answer, wf_answer, proj_answer}
 use Rattle.rs_answers.specs.Refusals.{IsWithoutSession, HasNoDerivation, refusal_answer}
 use Rattle.rs_answers.specs.Report.{report}
-use Rattle.rs_answers.specs.Runs as runs
-use Rattle.rs_answers.specs.Runs.{Runs}
-use Rattle.rs_answers.specs.declared.runs.RunOptions.{RunOptions}
-use Rattle.rs_answers.proofs.Outcomes.{some_run}
+use Rattle.rs_answers.proofs.PoolAnswers.{some_with}
 use Rattle.rs_answers.specs.Sessions.{HasMachines}
 use Rattle.rs_answers.specs.Shown.{Shows}
 use Rattle.rs_documents.specs.Canonical.{AreShown, AreCanonicalMachines, derivations_text}
 use Rattle.rs_answers.specs.Tables as tables
 use Rattle.rs_answers.specs.Tables.{tables_text}
-use Rattle.rs_tool.specs.Tasks.{is_built, reads_document}
+use Rattle.rs_tool.specs.Tasks.{reads_document}
 use Rattle.rs_documents.proofs.CanShow.{role_names}
 use Rattle.rs_machines.proofs.Existence as of_machines
 use Rattle.rs_documents.proofs.OneDocument.{spelt_or_faulty}
@@ -62,13 +56,6 @@ verified : (d : Document_data) → Prepared 1 d → Some_for task.Verify d
 verified d (NotSo why (IsWithoutSession r h)) = record { answer = refusal_answer d.names r; answers = verifying.IsRefused r h refl }
 verified d (NotSo why (HasNoDerivation ps ms h role fault u)) = verified_by d ps ms h
 verified d (Derived ps ms ds h found) = verified_by d ps ms h
-
-run_answer : (options : RunOptions) (bytes : List ℕ) (d : Document_data) → SpellsDocument bytes d → Prepared options.bound d → (a : Answer_data) × Runs options d a
-run_answer options bytes d doc (NotSo why h) = (refusal_answer d.names why, runs.IsRefused why h refl)
-run_answer options bytes d doc (Derived projections machines derivations h found) =
-    let session = session_of d projections machines (spelt_session bytes d doc) h.projections_are.well_formed h.projections_are.projected h.machines_are h.well_formed in
-    let r = some_run options d.names machines derivations (canonical_safe options.bound d.protocol projections machines derivations session found) session.machines_fit in
-    (r.answer, runs.IsRun projections machines derivations h found r.tells)
 
 tabled : (d : Document_data) → first_fault d.protocol ≡ None → Decision d.protocol d.protocol.roles → Some_for task.Project d
 tabled d none (OneDoesnt role fault h) = record { answer = proj_answer d.names fault; answers = tables.HasNoProjection none role fault h refl }
@@ -120,7 +107,7 @@ document_answer task.Verify bytes d range reads h = verified d (prepared 1 bytes
 document_answer task.Show bytes d range reads h = shown bytes d h
 document_answer task.Project bytes d range reads h = some_tables d (first_fault d.protocol) refl
 document_answer (task.Run bound ring workers limit seed) bytes d range reads h =
-    let r = run_answer (record { bound = bound; ring = ring; limit = limit; seed = seed }) bytes d h (prepared bound bytes d h (first_fault d.protocol) refl) in
+    let r = some_with workers (record { bound = bound; ring = ring; limit = limit; seed = seed }) bytes d h (prepared bound bytes d h (first_fault d.protocol) refl) in
     record { answer = r.0; answers = r.1 }
 document_answer (task.Demo kind ring workers) bytes d range reads h = absurd cc
 document_answer (task.Gen number) bytes d range reads h = absurd cc
@@ -145,18 +132,11 @@ record Some_task (t : Task) (bytes : List ℕ) : Type 0 where
 of_document : (t : Task) (bytes : List ℕ) → IsInRange t → reads_document t ≡ true → Some_task t bytes
 of_document t bytes range reads = let a = of_text t bytes range reads in record { answer = a.answer; answers = ReadsDocument reads a.answers }
 
-not_yet : (t : Task) (bytes : List ℕ) → is_built t ≡ false → Some_task t bytes
-not_yet t bytes not = record { answer = not_built; answers = IsNotBuilt not refl }
-
 of_pipeline : (number : ℕ) (bytes : List ℕ) → Some_task (task.Gen number) bytes
 of_pipeline number bytes =
     let c = of_text (task.Check DEFAULT_BOUND false) (pipeline_text (pipeline_of number)) (omega arith, omega arith) refl in
     let a : Answer_data = record { text = pipeline_summary (pipeline_of number) ++ c.answer.text; verdict = c.answer.verdict } in
     record { answer = a; answers = MakesPipeline number refl (record { checked = c.answer; checks = c.answers; is = refl }) }
-
-of_run : (bound : ℕ) (ring : Option ℕ) (workers limit seed : ℕ) (bytes : List ℕ) → IsInRange (task.Run bound ring workers limit seed) → (one : Bool) → (workers == 1) ≡ one → Some_task (task.Run bound ring workers limit seed) bytes
-of_run bound ring workers limit seed bytes range true one = of_document (task.Run bound ring workers limit seed) bytes range one
-of_run bound ring workers limit seed bytes range false one = not_yet (task.Run bound ring workers limit seed) bytes one
 
 some_data : (kind : Demo) (ring : Option ℕ) (bytes : List ℕ) → (a : Answer_data) × AnswersData kind ring bytes a
 some_data kind ring bytes = elim (leb_tells (length bytes) MOST_BYTES) [
@@ -164,17 +144,16 @@ some_data kind ring bytes = elim (leb_tells (length bytes) MOST_BYTES) [
   | inr long ↦ (too_large (codes "text"), DataIsTooLong long.1 refl)
 ]
 
-of_demo : (kind : Demo) (ring : Option ℕ) (workers : ℕ) (bytes : List ℕ) → (one : Bool) → (workers == 1) ≡ one → Some_task (task.Demo kind ring workers) bytes
-of_demo kind ring workers bytes true one = let a = some_data kind ring bytes in record { answer = a.0; answers = RunsDemo kind ring (demo_by_one kind ring workers one) a.1 }
-of_demo kind ring workers bytes false one = not_yet (task.Demo kind ring workers) bytes one
+of_demo : (kind : Demo) (ring : Option ℕ) (workers : ℕ) (bytes : List ℕ) → Some_task (task.Demo kind ring workers) bytes
+of_demo kind ring workers bytes = let a = some_data kind ring bytes in record { answer = a.0; answers = RunsDemo kind ring workers refl a.1 }
 
 of_task : (t : Task) (bytes : List ℕ) → IsInRange t → Some_task t bytes
 of_task (task.Check bound asked) bytes range = of_document (task.Check bound asked) bytes range refl
 of_task task.Verify bytes range = of_document task.Verify bytes range refl
 of_task task.Show bytes range = of_document task.Show bytes range refl
 of_task task.Project bytes range = of_document task.Project bytes range refl
-of_task (task.Run bound ring workers limit seed) bytes range = of_run bound ring workers limit seed bytes range (workers == 1) refl
-of_task (task.Demo kind ring workers) bytes range = of_demo kind ring workers bytes (workers == 1) refl
+of_task (task.Run bound ring workers limit seed) bytes range = of_document (task.Run bound ring workers limit seed) bytes range refl
+of_task (task.Demo kind ring workers) bytes range = of_demo kind ring workers bytes
 of_task (task.Gen number) bytes range = of_pipeline number bytes
 
 pub some_answer : (words : List (List ℕ)) (bytes : List ℕ) → (a : Answer_data) × Answers words bytes a

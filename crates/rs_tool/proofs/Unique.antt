@@ -1,5 +1,6 @@
 -- Words and bytes have one answer.
-use Rattle.std.proofs.Common.{◌≡◌, ℕ, ◌≤◌, ◌<◌, Option, None, arith, Bool, true, false, List, [], ◌∷◌, ◌++◌, Some, length, sym, ap, subst, ◌∙◌}
+use Rattle.std.proofs.Common.{◌≡◌, ◌⊎◌, inl, inr, ℕ, ◌≤◌, ◌<◌, Option, None, arith, Bool, true, false, List, [], ◌∷◌, ◌++◌, Some, length, refl, sym, ap, subst, ◌∙◌}
+use Rattle.std.specs.Prelude.{◌==◌, not}
 use Rattle.std.proofs.lemmas.Option.{same_Some}
 use Rattle.rs_model.specs.Data.{Names_data, Machine_data}
 use Rattle.rs_model.specs.declared.limits.TheConstants.{MOST_BYTES}
@@ -11,24 +12,22 @@ use Rattle.rs_pipeline.specs.Pipelines.{pipeline_text, pipeline_of, pipeline_sum
 use Rattle.rs_words.specs.declared.limits.TheConstants.{DEFAULT_BOUND}
 use Rattle.rs_words.proofs.Exact.{words_spell_one_task}
 use Rattle.rs_wellformed.proofs.Faults.{no_fault}
-use Rattle.rs_answers.specs.declared.verdicts.Verdict.TheVariants.{Fine}
+use Rattle.rs_answers.specs.declared.verdicts.Verdict.TheVariants.{Fine, Stopped}
 use Rattle.rs_demo_answers.proofs.OneAnswer.{one_demo}
 use Rattle.rs_demos.specs.declared.kinds.Demo.{Demo}
 use Rattle.rs_words.specs.declared.tasks.Task.{Task}
 use Rattle.rs_words.specs.declared.tasks.Task.TheVariants as task
-use Rattle.rs_tool.specs.Answers.{Answers, SpellsNothing, CarriesOut, AnswersText, IsTooLong, IsFaulty, IsDocument, AnswersDocument, AnswersPipeline, AnswersTask, AnswersData, DataIsTooLong, DataIsShort, IsNotBuilt, ReadsDocument, RunsDemo, MakesPipeline}
+use Rattle.rs_tool.specs.Answers.{Answers, SpellsNothing, CarriesOut, AnswersText, IsTooLong, IsFaulty, IsDocument, AnswersDocument, AnswersPipeline, AnswersTask, AnswersData, DataIsTooLong, DataIsShort, ReadsDocument, RunsDemo, MakesPipeline}
 use Rattle.rs_answers.specs.Checks.{Checks, IsRefused, IsAccepted, TellsAccepted, with_derivations}
 use Rattle.rs_documents.specs.Data.{Document_data}
 use Rattle.rs_answers.specs.Data.{Answer_data}
 use Rattle.rs_documents.specs.Documents.{SpellsDocument}
 use Rattle.rs_answers.specs.RefusalTexts.{blame_answer, fault_answer, wf_answer, proj_answer}
 use Rattle.rs_answers.specs.Refusals.{refusal_answer}
-use Rattle.rs_answers.specs.Runs as runs
-use Rattle.rs_answers.specs.Runs.{Runs, TellsRun}
+use Rattle.rs_answers.specs.Pools.{RunsWith, ByOne, BySeveral}
 use Rattle.rs_answers.specs.declared.runs.RunOptions.{RunOptions}
-use Rattle.rs_answers.proofs.Derivings.{session_of}
-use Rattle.rs_answers.proofs.Outcomes.{one_run}
-use Rattle.rs_documents.proofs.SpeltSessions.{spelt_session}
+use Rattle.rs_answers.proofs.PoolAnswers.{one_by_one, one_by_workers}
+use Rattle.rs_tool.proofs.Answering.{several_workers}
 use Rattle.rs_answers.specs.Sessions.{HasMachines}
 use Rattle.rs_documents.specs.Canonical.{AreCanonicalMachines, AreShown, derivations_text}
 use Rattle.rs_answers.specs.Shown.{Shows}
@@ -36,7 +35,7 @@ use Rattle.rs_answers.specs.Verifying as verifying
 use Rattle.rs_answers.specs.Verifying.{RoleBlame, Verifies, first_blame}
 use Rattle.rs_answers.specs.Tables as tables
 use Rattle.rs_answers.specs.Tables.{Projects, tables_text}
-use Rattle.rs_tool.specs.Tasks.{is_built, reads_document}
+use Rattle.rs_tool.specs.Tasks.{AskForWorkers, needs_workers, reads_document}
 use Rattle.rs_documents.proofs.CanShow.{role_names}
 use Rattle.rs_machines.proofs.CanonOne as of_machines
 use Rattle.rs_documents.proofs.OneDocument.{no_fault as no_text_fault, one_document, one_fault}
@@ -56,18 +55,6 @@ one_tables d a b (tables.HasNoProjection none r f e x) (tables.HasTables ps h y)
 one_tables d a b (tables.HasTables ps h x) (tables.IsIllFormed g e y) = let none = h.well_formed in absurd cc
 one_tables d a b (tables.HasTables ps h x) (tables.HasNoProjection none s g e y) = absurd (not_unprojectable d ps s g h e)
 one_tables d a b (tables.HasTables ps h x) (tables.HasTables qs k y) = x ∙ ap (λ z. record { text = tables_text d.names z; verdict = Fine }) (one_projection_list d ps qs h k) ∙ sym y
-
-one_of_run : (options : RunOptions) (bytes : List ℕ) (d : Document_data) (a b : Answer_data) → SpellsDocument bytes d → Runs options d a → Runs options d b → a ≡ b
-one_of_run options bytes d a b doc (runs.IsRefused r h x) (runs.IsRefused s k y) = x ∙ ap (refusal_answer d.names) (one_refusal options.bound d r s h k) ∙ sym y
-one_of_run options bytes d a b doc (runs.IsRefused r h x) (runs.IsRun ps ms ds k f y) = absurd (not_refused options.bound d ps ms ds r k f h)
-one_of_run options bytes d a b doc (runs.IsRun ps ms ds h f x) (runs.IsRefused s k y) = absurd (not_refused options.bound d ps ms ds s h f k)
-one_of_run options bytes d a b doc (runs.IsRun ps ms ds h f x) (runs.IsRun qs ns es k g y) =
-    let same = same_session d ps qs ms ns h k in
-    let derivations = one_session_derived options.bound d ps qs ms ns ds es h k f g in
-    let session = session_of d qs ns (spelt_session bytes d doc) k.projections_are.well_formed k.projections_are.projected k.machines_are k.well_formed in
-    let P : List Machine_data → Type 0 = λ z. TellsRun options d.names z ds a in
-    let Q : List Derivation_data → Type 0 = λ z. TellsRun options d.names ns z a in
-    one_run options d.names ns es a b session.machines_fit (subst Q derivations (subst P same.1 x)) y
 
 one_lines : (names : Names_data) (machines : List (Option Machine_data)) (x y : List ℕ) → AreShown names machines → AreCanonicalMachines names machines x → AreCanonicalMachines names machines y → x ≡ y
 one_lines names [] x y s h k = h ∙ sym k
@@ -118,23 +105,41 @@ one_verifying d a b (verifying.IsVerified ps ms h e x) (verifying.IsRefused s k 
 one_verifying d a b (verifying.IsVerified ps ms h e x) (verifying.IsBlamed qs ns k w f y) = let clash : None ≡ Some w = sym e ∙ same_blame d ps qs ms ns h k ∙ f in absurd cc
 one_verifying d a b (verifying.IsVerified ps ms h e x) (verifying.IsVerified qs ns k f y) = x ∙ sym y
 
-one_of_document : (t : Task) (bytes : List ℕ) (d : Document_data) (a b : Answer_data) → SpellsDocument bytes d → AnswersDocument t d a → AnswersDocument t d b → a ≡ b
-one_of_document (task.Check bound asked) bytes d a b doc h k = one_check bound asked bytes d a b doc h k
-one_of_document task.Verify bytes d a b doc h k = one_verifying d a b h k
-one_of_document (task.Run bound ring workers limit seed) bytes d a b doc h k = one_of_run (record { bound = bound; ring = ring; limit = limit; seed = seed }) bytes d a b doc h k
+-- two answers to a task are one, or several workers ran a session that both tell was stopped
+abbrev AreOne : Task → Answer_data → Answer_data → Type 0
+AreOne t a b = (a ≡ b) ⊎ ((needs_workers t ≡ true) × (a.verdict ≡ Stopped) × (b.verdict ≡ Stopped))
+
+alone_is_one : (t : Task) (a b : Answer_data) → needs_workers t ≡ false → AreOne t a b → a ≡ b
+alone_is_one t a b alone (inl same) = same
+alone_is_one t a b alone (inr stops) = let no : false ≡ true = sym alone ∙ stops.0 in absurd cc
+
+one_with : (options : RunOptions) (workers : ℕ) (bytes : List ℕ) (d : Document_data) (a b : Answer_data) → SpellsDocument bytes d → RunsWith workers options d a → RunsWith workers options d b
+    → (a ≡ b) ⊎ ((not (workers == 1) ≡ true) × (a.verdict ≡ Stopped) × (b.verdict ≡ Stopped))
+one_with options workers bytes d a b doc (ByOne one h) (ByOne other k) = inl (one_by_one options bytes d a b doc h k)
+one_with options workers bytes d a b doc (ByOne one h) (BySeveral several k) = absurd (several one)
+one_with options workers bytes d a b doc (BySeveral several h) (ByOne one k) = absurd (several one)
+one_with options workers bytes d a b doc (BySeveral several h) (BySeveral others k) = elim (one_by_workers options d a b h k) [
+  | inl same ↦ inl same
+  | inr stops ↦ inr (several_workers workers several, stops.0, stops.1)
+]
+
+one_of_document : (t : Task) (bytes : List ℕ) (d : Document_data) (a b : Answer_data) → SpellsDocument bytes d → AnswersDocument t d a → AnswersDocument t d b → AreOne t a b
+one_of_document (task.Check bound asked) bytes d a b doc h k = inl (one_check bound asked bytes d a b doc h k)
+one_of_document task.Verify bytes d a b doc h k = inl (one_verifying d a b h k)
+one_of_document (task.Run bound ring workers limit seed) bytes d a b doc h k = one_with (record { bound = bound; ring = ring; limit = limit; seed = seed }) workers bytes d a b doc h k
 one_of_document (task.Demo kind ring workers) bytes d a b doc h k = absurd h
 one_of_document (task.Gen number) bytes d a b doc h k = absurd h
-one_of_document task.Show bytes d a b doc h k = one_show bytes d a b doc h k
-one_of_document task.Project bytes d a b doc h k = one_tables d a b h k
+one_of_document task.Show bytes d a b doc h k = inl (one_show bytes d a b doc h k)
+one_of_document task.Project bytes d a b doc h k = inl (one_tables d a b h k)
 
-one_text : (t : Task) (bytes : List ℕ) (a b : Answer_data) → AnswersText t bytes a → AnswersText t bytes b → a ≡ b
-one_text t bytes a b (IsTooLong l x) (IsTooLong m y) = x ∙ sym y
+one_text : (t : Task) (bytes : List ℕ) (a b : Answer_data) → AnswersText t bytes a → AnswersText t bytes b → AreOne t a b
+one_text t bytes a b (IsTooLong l x) (IsTooLong m y) = inl (x ∙ sym y)
 one_text t bytes a b (IsTooLong l x) (IsFaulty s k at h y) = absurd (short-and-long bytes s l)
 one_text t bytes a b (IsTooLong l x) (IsDocument s d h y) = absurd (short-and-long bytes s l)
 one_text t bytes a b (IsFaulty s k at h x) (IsTooLong m y) = absurd (short-and-long bytes s m)
 one_text t bytes a b (IsFaulty s k at h x) (IsFaulty r j place g y) =
     let same = one_fault bytes k j at place h g in
-    x ∙ ap (λ z. fault_answer bytes z at) same.0 ∙ ap (λ z. fault_answer bytes j z) same.1 ∙ sym y
+    inl (x ∙ ap (λ z. fault_answer bytes z at) same.0 ∙ ap (λ z. fault_answer bytes j z) same.1 ∙ sym y)
 one_text t bytes a b (IsFaulty s k at h x) (IsDocument r d g y) = absurd (no_text_fault bytes d k at g h)
 one_text t bytes a b (IsDocument s d h x) (IsTooLong m y) = absurd (short-and-long bytes s m)
 one_text t bytes a b (IsDocument s d h x) (IsFaulty r k at g y) = absurd (no_text_fault bytes d k at h g)
@@ -144,7 +149,7 @@ one_text t bytes a b (IsDocument s d h x) (IsDocument r e g y) =
 
 one_pipeline : (number : ℕ) (a b : Answer_data) → AnswersPipeline number a → AnswersPipeline number b → a ≡ b
 one_pipeline number a b h k =
-    h.is ∙ ap (λ (z : Answer_data). record { text = pipeline_summary (pipeline_of number) ++ z.text; verdict = z.verdict }) (one_text (task.Check DEFAULT_BOUND false) (pipeline_text (pipeline_of number)) h.checked k.checked h.checks k.checks) ∙ sym k.is
+    h.is ∙ ap (λ (z : Answer_data). record { text = pipeline_summary (pipeline_of number) ++ z.text; verdict = z.verdict }) (alone_is_one (task.Check DEFAULT_BOUND false) h.checked k.checked refl (one_text (task.Check DEFAULT_BOUND false) (pipeline_text (pipeline_of number)) h.checked k.checked h.checks k.checks)) ∙ sym k.is
 
 one_data : (kind : Demo) (ring : Option ℕ) (bytes : List ℕ) (a b : Answer_data) → AnswersData kind ring bytes a → AnswersData kind ring bytes b → a ≡ b
 one_data kind ring bytes a b (DataIsTooLong l x) (DataIsTooLong m y) = x ∙ sym y
@@ -152,60 +157,54 @@ one_data kind ring bytes a b (DataIsTooLong l x) (DataIsShort s k) = absurd (sho
 one_data kind ring bytes a b (DataIsShort s h) (DataIsTooLong m y) = absurd (short-and-long bytes s m)
 one_data kind ring bytes a b (DataIsShort s h) (DataIsShort r k) = one_demo kind ring bytes a b h k
 
--- what is carried out is built, and is one thing
-reading_is_built : (t : Task) → is_built t ≡ false → reads_document t ≡ true → ⊥
-reading_is_built (task.Check bound asked) not reads = cc
-reading_is_built task.Verify not reads = cc
-reading_is_built task.Show not reads = cc
-reading_is_built task.Project not reads = cc
-reading_is_built (task.Run bound ring workers limit seed) not reads = let no : false ≡ true = sym not ∙ reads in cc
-reading_is_built (task.Demo kind ring workers) not reads = cc
-reading_is_built (task.Gen number) not reads = cc
-
-demo_is_built : (t : Task) (kind : Demo) (ring : Option ℕ) → t ≡ task.Demo kind ring 1 → is_built t ≡ false → ⊥
-demo_is_built t kind ring e not = let no : true ≡ false = subst (λ (x : Task). is_built x ≡ false) e not in cc
-
-demo_reads_no_document : (t : Task) (kind : Demo) (ring : Option ℕ) → t ≡ task.Demo kind ring 1 → reads_document t ≡ true → ⊥
-demo_reads_no_document t kind ring e reads = let no : false ≡ true = subst (λ (x : Task). reads_document x ≡ true) e reads in cc
-
-gen_is_built : (t : Task) (number : ℕ) → t ≡ task.Gen number → is_built t ≡ false → ⊥
-gen_is_built t number e not = let no : true ≡ false = subst (λ (x : Task). is_built x ≡ false) e not in cc
+-- what is carried out is one thing
+demo_reads_no_document : (t : Task) (kind : Demo) (ring : Option ℕ) (workers : ℕ) → t ≡ task.Demo kind ring workers → reads_document t ≡ true → ⊥
+demo_reads_no_document t kind ring workers e reads = let no : false ≡ true = subst (λ (x : Task). reads_document x ≡ true) e reads in cc
 
 gen_reads_no_document : (t : Task) (number : ℕ) → t ≡ task.Gen number → reads_document t ≡ true → ⊥
 gen_reads_no_document t number e reads = let no : false ≡ true = subst (λ (x : Task). reads_document x ≡ true) e reads in cc
 
-gen_is_no_demo : (t : Task) (number : ℕ) (kind : Demo) (ring : Option ℕ) → t ≡ task.Gen number → t ≡ task.Demo kind ring 1 → ⊥
-gen_is_no_demo t number kind ring e f = let no : task.Gen number ≡ task.Demo kind ring 1 = sym e ∙ f in cc
+gen_is_no_demo : (t : Task) (number : ℕ) (kind : Demo) (ring : Option ℕ) (workers : ℕ) → t ≡ task.Gen number → t ≡ task.Demo kind ring workers → ⊥
+gen_is_no_demo t number kind ring workers e f = let no : task.Gen number ≡ task.Demo kind ring workers = sym e ∙ f in cc
 
-one_task_answer : (t : Task) (bytes : List ℕ) (a b : Answer_data) → AnswersTask t bytes a → AnswersTask t bytes b → a ≡ b
-one_task_answer t bytes a b (IsNotBuilt n x) (IsNotBuilt m y) = x ∙ sym y
-one_task_answer t bytes a b (IsNotBuilt n x) (ReadsDocument r k) = absurd (reading_is_built t n r)
-one_task_answer t bytes a b (IsNotBuilt n x) (RunsDemo kind ring e k) = absurd (demo_is_built t kind ring e n)
-one_task_answer t bytes a b (IsNotBuilt n x) (MakesPipeline number e k) = absurd (gen_is_built t number e n)
-one_task_answer t bytes a b (ReadsDocument r h) (IsNotBuilt m y) = absurd (reading_is_built t m r)
+one_task_answer : (t : Task) (bytes : List ℕ) (a b : Answer_data) → AnswersTask t bytes a → AnswersTask t bytes b → AreOne t a b
 one_task_answer t bytes a b (ReadsDocument r h) (ReadsDocument q k) = one_text t bytes a b h k
-one_task_answer t bytes a b (ReadsDocument r h) (RunsDemo kind ring e k) = absurd (demo_reads_no_document t kind ring e r)
+one_task_answer t bytes a b (ReadsDocument r h) (RunsDemo kind ring workers e k) = absurd (demo_reads_no_document t kind ring workers e r)
 one_task_answer t bytes a b (ReadsDocument r h) (MakesPipeline number e k) = absurd (gen_reads_no_document t number e r)
-one_task_answer t bytes a b (RunsDemo kind ring e h) (IsNotBuilt m y) = absurd (demo_is_built t kind ring e m)
-one_task_answer t bytes a b (RunsDemo kind ring e h) (ReadsDocument q k) = absurd (demo_reads_no_document t kind ring e q)
-one_task_answer t bytes a b (RunsDemo kind ring e h) (RunsDemo other size f k) =
-    let same : task.Demo kind ring 1 ≡ task.Demo other size 1 = sym e ∙ f in
+one_task_answer t bytes a b (RunsDemo kind ring workers e h) (ReadsDocument q k) = absurd (demo_reads_no_document t kind ring workers e q)
+one_task_answer t bytes a b (RunsDemo kind ring workers e h) (RunsDemo other size many f k) =
+    let same : task.Demo kind ring workers ≡ task.Demo other size many = sym e ∙ f in
     let is : kind ≡ other = cc in
     let fits : ring ≡ size = cc in
     let P : Demo → Type 0 = λ z. AnswersData z ring bytes a in
     let Q : Option ℕ → Type 0 = λ z. AnswersData other z bytes a in
-    one_data other size bytes a b (subst Q fits (subst P is h)) k
-one_task_answer t bytes a b (RunsDemo kind ring e h) (MakesPipeline number f k) = absurd (gen_is_no_demo t number kind ring f e)
-one_task_answer t bytes a b (MakesPipeline number e h) (IsNotBuilt m y) = absurd (gen_is_built t number e m)
+    inl (one_data other size bytes a b (subst Q fits (subst P is h)) k)
+one_task_answer t bytes a b (RunsDemo kind ring workers e h) (MakesPipeline number f k) = absurd (gen_is_no_demo t number kind ring workers f e)
 one_task_answer t bytes a b (MakesPipeline number e h) (ReadsDocument q k) = absurd (gen_reads_no_document t number e q)
-one_task_answer t bytes a b (MakesPipeline number e h) (RunsDemo kind ring f k) = absurd (gen_is_no_demo t number kind ring e f)
+one_task_answer t bytes a b (MakesPipeline number e h) (RunsDemo kind ring workers f k) = absurd (gen_is_no_demo t number kind ring workers e f)
 one_task_answer t bytes a b (MakesPipeline number e h) (MakesPipeline other f k) =
     let same : task.Gen number ≡ task.Gen other = sym e ∙ f in
     let is : number ≡ other = cc in
-    one_pipeline other a b (subst (λ (n : ℕ). AnswersPipeline n a) is h) k
+    inl (one_pipeline other a b (subst (λ (n : ℕ). AnswersPipeline n a) is h) k)
 
-pub one_answer : (words : List (List ℕ)) (bytes : List ℕ) (a b : Answer_data) → Answers words bytes a → Answers words bytes b → a ≡ b
-one_answer words bytes a b (SpellsNothing n x) (SpellsNothing m y) = x ∙ sym y
-one_answer words bytes a b (SpellsNothing n x) (CarriesOut u s k) = absurd (n u s)
-one_answer words bytes a b (CarriesOut t s h) (SpellsNothing m y) = absurd (m t s)
-one_answer words bytes a b (CarriesOut t s h) (CarriesOut u r k) = one_task_answer u bytes a b (subst (λ (x : Task). AnswersTask x bytes a) (words_spell_one_task words t u s r) h) k
+-- two answers to words are one, or the words ask for workers, and both tell of a stop
+pub alike : (words : List (List ℕ)) (bytes : List ℕ) (a b : Answer_data) → Answers words bytes a → Answers words bytes b → (a ≡ b) ⊎ (AskForWorkers words × (a.verdict ≡ Stopped) × (b.verdict ≡ Stopped))
+alike words bytes a b (SpellsNothing n x) (SpellsNothing m y) = inl (x ∙ sym y)
+alike words bytes a b (SpellsNothing n x) (CarriesOut u s k) = absurd (n u s)
+alike words bytes a b (CarriesOut t s h) (SpellsNothing m y) = absurd (m t s)
+alike words bytes a b (CarriesOut t s h) (CarriesOut u r k) = elim (one_task_answer u bytes a b (subst (λ (x : Task). AnswersTask x bytes a) (words_spell_one_task words t u s r) h) k) [
+  | inl same ↦ inl same
+  | inr stops ↦ inr ((u, r, stops.0), stops.1, stops.2)
+]
+
+pub one_answer : (words : List (List ℕ)) (bytes : List ℕ) (a b : Answer_data) → (AskForWorkers words → ⊥) → Answers words bytes a → Answers words bytes b → a ≡ b
+one_answer words bytes a b alone h k = elim (alike words bytes a b h k) [
+  | inl same ↦ same
+  | inr stops ↦ absurd (alone stops.0)
+]
+
+pub one_or_stopped : (words : List (List ℕ)) (bytes : List ℕ) (a b : Answer_data) → Answers words bytes a → Answers words bytes b → (a ≡ b) ⊎ ((a.verdict ≡ Stopped) × (b.verdict ≡ Stopped))
+one_or_stopped words bytes a b h k = elim (alike words bytes a b h k) [
+  | inl same ↦ inl same
+  | inr stops ↦ inr (stops.1, stops.2)
+]

@@ -9,11 +9,11 @@ use Rattle.rs_answers.specs.Checks.{Checks}
 use Rattle.rs_documents.specs.Data.{Document_data}
 use Rattle.rs_answers.specs.Data.{Answer_data}
 use Rattle.rs_documents.specs.Documents.{FirstFault, SpellsDocument}
-use Rattle.rs_answers.specs.RefusalTexts.{usage, not_built, too_large, fault_answer}
-use Rattle.rs_answers.specs.Runs.{Runs}
+use Rattle.rs_answers.specs.RefusalTexts.{usage, too_large, fault_answer}
+use Rattle.rs_answers.specs.Pools.{RunsWith}
 use Rattle.rs_answers.specs.Shown.{Shows}
 use Rattle.rs_answers.specs.Tables.{Projects}
-use Rattle.rs_tool.specs.Tasks.{is_built, reads_document}
+use Rattle.rs_tool.specs.Tasks.{reads_document}
 use Rattle.rs_answers.specs.Verifying.{Verifies}
 use Rattle.rs_words.specs.Meaning.{IsMeaning, SpellsTask}
 use Rattle.rs_words.specs.declared.limits.TheConstants.{DEFAULT_BOUND}
@@ -26,7 +26,7 @@ AnswersDocument (task.Check bound derivations) d answer = Checks bound derivatio
 AnswersDocument task.Verify d answer = Verifies d answer
 AnswersDocument task.Show d answer = Shows d answer
 AnswersDocument task.Project d answer = Projects d answer
-AnswersDocument (task.Run bound ring workers limit seed) d answer = Runs (record { bound = bound; ring = ring; limit = limit; seed = seed }) d answer
+AnswersDocument (task.Run bound ring workers limit seed) d answer = RunsWith workers (record { bound = bound; ring = ring; limit = limit; seed = seed }) d answer
 AnswersDocument _ d answer = ⊥
 
 -- the answer of the task to a text
@@ -55,12 +55,10 @@ pub record AnswersPipeline (number : ℕ) (answer : Answer_data) : Type 0 where
 
 -- the answer of the task, where the input is these bytes
 pub data AnswersTask (spelt : Task) (bytes : List ℕ) (answer : Answer_data) : Type 0 where
-  -- it isn't built yet
-  IsNotBuilt : is_built spelt ≡ false → answer ≡ not_built → AnswersTask spelt bytes answer
   -- it is carried out on the document of the input
   ReadsDocument : reads_document spelt ≡ true → AnswersText spelt bytes answer → AnswersTask spelt bytes answer
-  -- it is a demo by one worker, on the data of the input
-  RunsDemo : (kind : Demo) (ring : Option ℕ) → spelt ≡ task.Demo kind ring 1 → AnswersData kind ring bytes answer → AnswersTask spelt bytes answer
+  -- it is a demo on the data of the input: how many workers run it changes nothing of the answer
+  RunsDemo : (kind : Demo) (ring : Option ℕ) (workers : ℕ) → spelt ≡ task.Demo kind ring workers → AnswersData kind ring bytes answer → AnswersTask spelt bytes answer
   -- it is carried out on the document that is made from a number
   MakesPipeline : (number : ℕ) → spelt ≡ task.Gen number → AnswersPipeline number answer → AnswersTask spelt bytes answer
 

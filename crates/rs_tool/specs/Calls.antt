@@ -8,7 +8,7 @@ use Rattle.rs_answers.specs.Data.{Answer_data}
 use Rattle.rs_rings.specs.Closed.{Closed_data}
 use Rattle.rs_tool.specs.Sessions.{HandsOutFor}
 use Rattle.rs_tool.specs.Statuses.{status_of}
-use Rattle.rs_tool.specs.Tasks.{ReadTheInput}
+use Rattle.rs_tool.specs.Tasks.{AskForWorkers, ReadTheInput}
 use Rattle.rs_tool.specs.declared.statuses.Reply.{Reply}
 use Rattle.rs_tool.specs.declared.statuses.Serial.{Serial}
 use Rattle.rs_tool.specs.declared.statuses.Serial.TheVariants.{Answered, NeedsWorkers}
@@ -51,10 +51,11 @@ pub record Ends {S : Type 0} (words : List (List ℕ)) (left later written new :
   pub unread : (ReadTheInput words → ⊥) → behind ≡ source
   pub end : ReadTheInput words → IfSome left (λ bytes. length bytes ≤ MOST_BYTES → (IsStopped reply.status → ⊥) → IsAtEnd later)
 
--- the call carried its words out, and no worker was needed
-abbrev pub IsAnswered : Serial → Type 0
-IsAnswered (Answered reply) = Unit {0}
-IsAnswered NeedsWorkers = ⊥
+-- that workers are needed is told of words that ask for several, and nothing was then read or written; of other calls with
+-- such words it can be told only that memory was refused
+abbrev pub NeedsThem : {S K : Type 0} → List (List ℕ) → S → S → K → K → Serial → Type 0
+NeedsThem words source behind sink after NeedsWorkers = AskForWorkers words × (behind ≡ source) × (after ≡ sink)
+NeedsThem words source behind sink after (Answered reply) = AskForWorkers words → reply.status ≡ NoMemory
 
 -- the fact of the reply that was answered
 abbrev pub IfAnswered : Serial → (Reply → Type 0) → Type 0

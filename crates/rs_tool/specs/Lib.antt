@@ -1,4 +1,5 @@
 pub mod Answers
+pub mod Attempts
 pub mod Calls
 pub mod Completeness
 pub mod DemoCompleteness

@@ -21,7 +21,6 @@ code_of status.NoMemory = 8
 code_of status.Stopped = 9
 code_of status.Full = 10
 code_of status.RoomTooSmall = 11
-code_of status.NotBuilt = 12
 
 -- the status of an answer that was written whole
 abbrev pub status_of : Verdict → Status
@@ -34,7 +33,6 @@ status_of verdict.TooLarge = status.TooLarge
 status_of verdict.Stopped = status.Stopped
 status_of verdict.Full = status.Full
 status_of verdict.RoomTooSmall = status.RoomTooSmall
-status_of verdict.NotBuilt = status.NotBuilt
 
 -- the status of a call that stopped before its answer was made
 abbrev pub status_after : Stop → Status

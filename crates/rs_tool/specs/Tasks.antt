@@ -1,5 +1,5 @@
--- Believed: which tasks are built, and which of them read the input.
-use Rattle.std.specs.Prelude.{◌≡◌, ◌==◌, ℕ, List, Option, Bool, true, false}
+-- Believed: which tasks read the input, and which need workers.
+use Rattle.std.specs.Prelude.{◌≡◌, ◌==◌, ℕ, List, Option, Bool, not, true, false}
 use Rattle.rs_demos.specs.declared.kinds.Demo.{Demo}
 use Rattle.rs_words.specs.Meaning.{SpellsTask}
 use Rattle.rs_answers.specs.declared.runs.RunOptions.{RunOptions}
@@ -12,36 +12,36 @@ reads_document (task.Check bound derivations) = true
 reads_document task.Verify = true
 reads_document task.Show = true
 reads_document task.Project = true
-reads_document (task.Run bound ring workers limit seed) = workers == 1
+reads_document (task.Run bound ring workers limit seed) = true
 reads_document _ = false
 
 -- the task is carried out on the input: on its document, or on its data
 abbrev pub reads_input : Task → Bool
-reads_input (task.Demo kind ring workers) = workers == 1
+reads_input (task.Demo kind ring workers) = true
 reads_input spelt = reads_document spelt
 
--- the task is carried out
-abbrev pub is_built : Task → Bool
-is_built (task.Check bound derivations) = true
-is_built task.Verify = true
-is_built task.Show = true
-is_built task.Project = true
-is_built (task.Run bound ring workers limit seed) = workers == 1
-is_built (task.Demo kind ring workers) = workers == 1
-is_built (task.Gen number) = true
+-- the task runs a session by several workers
+abbrev pub needs_workers : Task → Bool
+needs_workers (task.Run bound ring workers limit seed) = not (workers == 1)
+needs_workers (task.Demo kind ring workers) = not (workers == 1)
+needs_workers _ = false
 
 -- the words ask for a task that reads the input
 abbrev pub ReadTheInput : List (List ℕ) → Type 0
 ReadTheInput words = (spelt : Task) × SpellsTask words spelt × (reads_input spelt ≡ true)
 
+-- the words ask for a run by several workers
+abbrev pub AskForWorkers : List (List ℕ) → Type 0
+AskForWorkers words = (spelt : Task) × SpellsTask words spelt × (needs_workers spelt ≡ true)
+
 -- the words are those of a `check` within this bound, which asks for the derivations or not
 abbrev pub SpellsCheck : List (List ℕ) → ℕ → Type 0
 SpellsCheck words bound = (derivations : Bool) × SpellsTask words (task.Check bound derivations)
 
--- the words are those of a `run` by one worker, with these options
+-- the words are those of a `run` with these options, by any number of workers
 abbrev pub SpellsRun : List (List ℕ) → RunOptions → Type 0
-SpellsRun words options = SpellsTask words (task.Run options.bound options.ring 1 options.limit options.seed)
+SpellsRun words options = (workers : ℕ) × SpellsTask words (task.Run options.bound options.ring workers options.limit options.seed)
 
--- the words are those of a `demo` by one worker, with rings of this capacity where one is asked for
+-- the words are those of a `demo`, with rings of this capacity where one is asked for, by any number of workers
 abbrev pub SpellsDemo : List (List ℕ) → Demo → Option ℕ → Type 0
-SpellsDemo words kind ring = SpellsTask words (task.Demo kind ring 1)
+SpellsDemo words kind ring = (workers : ℕ) × SpellsTask words (task.Demo kind ring workers)

@@ -1,11 +1,11 @@
-//! The answer of the program to its words and its input.
+//! The answers of tasks that read a document and need no workers.
 
-ghost use Rattle.std.specs.Prelude.{◌≡◌, length, true, IfOk};
+ghost use Rattle.std.specs.Prelude.{◌≡◌, length, true, false, IfOk};
 ghost use Rattle.rs_documents.specs.Canonical.{CanBeShown};
 ghost use Rattle.rs_documents.specs.Reading.{IsReady};
 ghost use Rattle.rs_tool.specs.Answers.{AnswersDocument, AnswersText};
 ghost use Rattle.rs_tool.specs.Sessions.{HandsOut, HandsOutOn};
-ghost use Rattle.rs_tool.specs.Tasks.{reads_document};
+ghost use Rattle.rs_tool.specs.Tasks.{needs_workers, reads_document};
 ghost use Rattle.rs_words.specs.Meaning.{IsInRange};
 
 use rs_answers::Piece::Words;
@@ -18,7 +18,7 @@ use rs_model::{MOST_BYTES, NoMemory};
 use rs_words::Task;
 use std::alloc::Global;
 
-/// The answer of the task, which reads a document, to it.
+/// The answer of the task, which reads a document and needs no workers, to it.
 fn answer_to_document(
     alloc: Global,
     task: Task,
@@ -26,6 +26,7 @@ fn answer_to_document(
 ) -> Result<AnswerWithSession, NoMemory>
     requires range { IsInRange task }
     requires reads { reads_document task ≡ true }
+    requires alone { needs_workers task ≡ false }
     requires ready { IsReady document }
     requires roles { length document.names.roles ≡ document.protocol.roles }
     requires shown { CanBeShown document }
@@ -61,7 +62,7 @@ fn answer_to_document(
     }
 }
 
-/// The answer of the task, which reads a document, to a text.
+/// The answer of the task, which reads a document and needs no workers, to a text.
 pub fn answer_to_text(
     alloc: Global,
     task: Task,
@@ -69,6 +70,7 @@ pub fn answer_to_text(
 ) -> Result<AnswerWithSession, NoMemory>
     requires range { IsInRange task }
     requires reads { reads_document task ≡ true }
+    requires alone { needs_workers task ≡ false }
     ensures answer { IfOk result (λ a. AnswersText task bytes.now a.answer) }
     ensures closed { IfOk result (λ a. HandsOut task bytes.now a.answer a.closed) }
 {

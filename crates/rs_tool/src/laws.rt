@@ -17,16 +17,19 @@ ghost use Rattle.rs_answers.specs.Machines.{machines_of};
 ghost use Rattle.rs_answers.specs.Runs.{Runs, capacity_of};
 ghost use Rattle.rs_answers.specs.Sessions.{HasMachines};
 ghost use Rattle.rs_answers.specs.declared.runs.RunOptions.{RunOptions};
-ghost use Rattle.rs_answers.specs.declared.verdicts.Verdict.TheVariants.{Full};
+ghost use Rattle.rs_answers.specs.declared.verdicts.Verdict.TheVariants.{Full, Stopped};
+ghost use Rattle.rs_tool.specs.Tasks.{AskForWorkers};
 
 /// There is an answer to all words and bytes.
 pub fn all_have_an_answer()
     ensures { (words : List (List ℕ)) (bytes : List ℕ) → (a : Answer_data) × Answers words bytes a }
 {}
 
-/// No words and bytes have two answers.
+/// No words and bytes have two answers, but where several workers run a session that is stopped: there the role that is named
+/// may be another.
 pub fn none_have_two_answers()
-    ensures { (words : List (List ℕ)) (bytes : List ℕ) (a b : Answer_data) → Answers words bytes a → Answers words bytes b → a ≡ b }
+    ensures alone { (words : List (List ℕ)) (bytes : List ℕ) (a b : Answer_data) → (AskForWorkers words → ⊥) → Answers words bytes a → Answers words bytes b → a ≡ b }
+    ensures by_workers { (words : List (List ℕ)) (bytes : List ℕ) (a b : Answer_data) → Answers words bytes a → Answers words bytes b → (a ≡ b) ⊎ ((a.verdict ≡ Stopped) × (b.verdict ≡ Stopped)) }
 {}
 
 /// There is no doubt which machines the headline means: whatever it says of the same bytes, it says of the same machines.

@@ -34,8 +34,6 @@ pub enum Status {
     Full,
     /// The rings that were asked for, or that are the greatest there are, are smaller than the room of the session.
     RoomTooSmall,
-    /// The words or the text ask for what isn't built yet.
-    NotBuilt,
 }
 
 impl Status {
@@ -56,7 +54,6 @@ impl Status {
             Status::Stopped => 9,
             Status::Full => 10,
             Status::RoomTooSmall => 11,
-            Status::NotBuilt => 12,
         }
     }
 }
@@ -78,7 +75,6 @@ impl From<Verdict> for Status {
             Verdict::Stopped => Status::Stopped,
             Verdict::Full => Status::Full,
             Verdict::RoomTooSmall => Status::RoomTooSmall,
-            Verdict::NotBuilt => Status::NotBuilt,
         }
     }
 }

@@ -1,6 +1,6 @@
 //! `command` over sources and sinks in memory.
 
-use crate::{Status, command};
+use crate::{NoGate, Status, command};
 use rs_io::{MemSink, MemSource};
 use std::alloc::Global;
 use std::sync::Wait;
@@ -48,7 +48,7 @@ fn answer_within<R: Threads + Wait + Sync>(
     let words = strings(alloc, words)?;
     let mut source = MemSource::new(text.to_vec(alloc)?, 65_536, Vec::new(alloc));
     let mut sink = MemSink::new(alloc, room, 65_536, Vec::new(alloc))?;
-    let reply = command(rt, alloc, words.as_slice(), &mut source, &mut sink);
+    let reply = command(rt, alloc, words.as_slice(), &mut source, &mut sink, &NoGate);
     Ok((reply.status, sink.bytes().to_vec(alloc)?))
 }
 
@@ -61,7 +61,7 @@ fn answer_unread<R: Threads + Wait + Sync>(
     let words = strings(alloc, words)?;
     let mut source = MemSource::new(Vec::new(alloc), 65_536, [1].to_vec(alloc)?);
     let mut sink = MemSink::new(alloc, 65_536, 65_536, Vec::new(alloc))?;
-    let reply = command(rt, alloc, words.as_slice(), &mut source, &mut sink);
+    let reply = command(rt, alloc, words.as_slice(), &mut source, &mut sink, &NoGate);
     Ok((reply.status, sink.bytes().to_vec(alloc)?))
 }
 
@@ -69,7 +69,6 @@ fn answer_unread<R: Threads + Wait + Sync>(
 fn words_that_read_nothing_have_their_answers(rt: HostRuntime) -> Result<(), Fail> {
     let alloc = rt.alloc();
     let usage = "usage\n";
-    let not_built = "not built\n";
     for (words, status, written) in [
         ([].as_slice(), Status::Usage, usage),
         (["check", "x"].as_slice(), Status::Usage, usage),
@@ -91,16 +90,6 @@ fn words_that_read_nothing_have_their_answers(rt: HostRuntime) -> Result<(), Fai
             ["run", "--workers", "2", "--bound", "65"].as_slice(),
             Status::Usage,
             usage,
-        ),
-        (
-            ["run", "--workers", "2"].as_slice(),
-            Status::NotBuilt,
-            not_built,
-        ),
-        (
-            ["demo", "stream", "--workers", "2"].as_slice(),
-            Status::NotBuilt,
-            not_built,
         ),
         (
             ["gen", "0"].as_slice(),
@@ -789,8 +778,8 @@ fn words_give_the_options_of_a_run(rt: HostRuntime) -> Result<(), Fail> {
         (
             ["run", "--workers", "2"].as_slice(),
             ONE,
-            Status::NotBuilt,
-            "not built\n",
+            Status::Fine,
+            "ended\nA: B!x\nB: A?x(21468)\n",
         ),
         (
             ["run", "--ring", "0"].as_slice(),
@@ -814,13 +803,27 @@ fn reads_and_writes_that_fail_are_told(rt: HostRuntime) -> Result<(), Fail> {
 
     let mut source = MemSource::new(text.as_bytes().to_vec(alloc)?, 65_536, [2].to_vec(alloc)?);
     let mut sink = MemSink::new(alloc, 4_096, 4_096, Vec::new(alloc))?;
-    let reply = command(&rt, alloc, words.as_slice(), &mut source, &mut sink);
+    let reply = command(
+        &rt,
+        alloc,
+        words.as_slice(),
+        &mut source,
+        &mut sink,
+        &NoGate,
+    );
     assert_eq!(rt; reply.status, Status::ReadFault);
     assert_eq!(rt; sink.bytes(), b"".as_slice());
 
     let mut source = MemSource::new(text.as_bytes().to_vec(alloc)?, 65_536, Vec::new(alloc));
     let mut sink = MemSink::new(alloc, 4_096, 4, [3].to_vec(alloc)?)?;
-    let reply = command(&rt, alloc, words.as_slice(), &mut source, &mut sink);
+    let reply = command(
+        &rt,
+        alloc,
+        words.as_slice(),
+        &mut source,
+        &mut sink,
+        &NoGate,
+    );
     assert_eq!(rt; reply.status, Status::WriteFault);
     assert_eq!(rt; sink.bytes(), b"accepted".as_slice());
     Ok(())

@@ -2,7 +2,7 @@
 #![tactic(auto)]
 
 use rs_io::{StdSink, StdSource};
-use rs_tool::{Status, command};
+use rs_tool::{NoGate, Status, command};
 use std::alloc::{Alloc, Global};
 use std::env::{self, Env};
 use std::io::{self, ErrorKind};
@@ -31,7 +31,14 @@ fn main(rt: HostRuntime) -> ExitCode {
     };
     let mut source = StdSource::new(rt.reader());
     let mut sink = StdSink::new(io::writer(&rt));
-    let reply = command(&rt, rt.alloc(), words.as_slice(), &mut source, &mut sink);
+    let reply = command(
+        &rt,
+        rt.alloc(),
+        words.as_slice(),
+        &mut source,
+        &mut sink,
+        &NoGate,
+    );
     let status = match sink.flush() {
         Ok(()) => reply.status,
         Err(_) => Status::WriteFault,

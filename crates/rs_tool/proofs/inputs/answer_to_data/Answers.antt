@@ -3,7 +3,7 @@ use Rattle.std.proofs.lemmas.Bool.Decides.{nat_tests}
 use Rattle.std.proofs.lemmas.Result.{IfOk-weaker}
 use Rattle.rs_model.specs.declared.limits.TheConstants.{MOST_BYTES}
 use Rattle.rs_tool.specs.Answers.{DataIsShort}
-use Rattle.rs_tool.proofs.calls.answer_to_data.Goals as goal
+use Rattle.rs_tool.proofs.inputs.answer_to_data.Goals as goal
 
 pub returns-clause-answer : goal.returns-clause-answer
 returns-clause-answer c =

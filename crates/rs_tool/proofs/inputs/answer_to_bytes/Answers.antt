@@ -1,22 +1,20 @@
-use Rattle.std.proofs.Common.{◌≡◌, true, sym, subst, ◌∙◌}
+use Rattle.std.proofs.Common.{sym, subst}
 use Rattle.rs_answers.specs.declared.answers.AnswerWithSession.{AnswerWithSession}
 use Rattle.rs_tool.specs.Answers.{ReadsDocument, RunsDemo}
 use Rattle.rs_tool.specs.Sessions.{HandsOut}
-use Rattle.rs_tool.specs.Tasks.{reads_input}
-use Rattle.rs_tool.proofs.Answering.{OfData, OfDocument, demo_by_one, reading}
+use Rattle.rs_tool.proofs.Answering.{OfData, OfDocument, reading}
 use Rattle.rs_tool.proofs.Sessions.{both_ok, demo_handed}
 use Rattle.rs_words.specs.declared.tasks.Task.{Task}
-use Rattle.rs_tool.proofs.calls.answer_to_bytes.Goals as goal
+use Rattle.rs_tool.proofs.inputs.answer_to_bytes.Goals as goal
 
 pub returns-in-Demo : goal.returns-in-Demo
 returns-in-Demo c =
-    let one = demo_by_one c.in-Demo.kind c.in-Demo.ring c.in-Demo.workers (subst (λ (t : Task). reads_input t ≡ true) c.in-Demo.is c.requires.reads) in
     both_ok c.answer_to_data.result _ _ _
-    (λ (a : AnswerWithSession) h s. (RunsDemo c.in-Demo.kind c.in-Demo.ring (c.in-Demo.is ∙ one) h, subst (λ (t : Task). HandsOut t c.args.bytes.now a.answer a.closed) (sym c.in-Demo.is) (demo_handed c.in-Demo.kind c.in-Demo.ring c.in-Demo.workers c.args.bytes.now a.answer a.closed s)))
+    (λ (a : AnswerWithSession) h s. (RunsDemo c.in-Demo.kind c.in-Demo.ring c.in-Demo.workers c.in-Demo.is h, subst (λ (t : Task). HandsOut t c.args.bytes.now a.answer a.closed) (sym c.in-Demo.is) (demo_handed c.in-Demo.kind c.in-Demo.ring c.in-Demo.workers c.args.bytes.now a.answer a.closed s)))
     c.answer_to_data.ensures.answer c.answer_to_data.ensures.closed
 
 pub returns-in_default : goal.returns-in_default
 returns-in_default c = elim (reading c.args.task c.requires.reads) [
   | OfDocument reads ↦ both_ok c.answer_to_text.result _ _ _ (λ (a : AnswerWithSession) h s. (ReadsDocument reads h, s)) c.answer_to_text.ensures.answer c.answer_to_text.ensures.closed
-  | OfData kind ring same ↦ absurd (c.in_default.not-Demo kind ring 1 same)
+  | OfData kind ring workers same ↦ absurd (c.in_default.not-Demo kind ring workers same)
 ]
