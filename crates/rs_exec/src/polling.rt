@@ -45,6 +45,7 @@ impl<A: Drop, N: SessionName> Model for SessionTask<A, N> {
 }
 
 impl<A: Actor, N: SessionName> SessionTask<A, N> {
+    /// The task, which is of the session that `N` names.
     pub fn new(task: RoleTask<A>) -> SessionTask<A, N>
         requires of { IsTaskOf N.session task }
         ensures same { result ≡ task }
