@@ -1,6 +1,7 @@
 ghost use Rattle.std.specs.Prelude.{◌≡◌, ◌↔◌, [], ◌∷◌, ◌++◌, IfOk, IsTrue, OnOk, OnErr};
 
 use crate::{NoMemory, Sort};
+use smallvec::SmallVec;
 use std::alloc::Global;
 use std::marker::Model;
 
@@ -21,10 +22,22 @@ pub struct Arm {
     pub next: u32,
 }
 
-/// The alternatives of a talk or of a state, in the order of the text.
+impl Default for Arm {
+    /// An arm without a payload that leads to number 0, which stands at the unused places of lists that keep a few arms in
+    /// the value itself.
+    fn default() -> Arm {
+        Arm {
+            label: Label(0),
+            sort: Sort::Unit,
+            next: 0,
+        }
+    }
+}
+
+/// The alternatives of a talk or of a state, in the order of the text. One or two of them need no allocation.
 #[derive(Drop, Debug)]
 pub struct Arms {
-    items: Vec<Arm>,
+    items: SmallVec<Arm, 2>,
 }
 
 impl Model for Arms {
@@ -42,7 +55,7 @@ impl Arms {
         ensures { result ≡ [] }
     {
         Arms {
-            items: Vec::new(alloc),
+            items: SmallVec::new(alloc),
         }
     }
 
@@ -66,7 +79,7 @@ impl Arms {
         ensures { IfOk result (λ a. a ≡ self.now) }
     {
         Ok(Arms {
-            items: Vec::from_slice(alloc, self.as_slice())?,
+            items: SmallVec::from_slice(alloc, self.as_slice())?,
         })
     }
 
