@@ -10,7 +10,8 @@ use Rattle.rs_bodies.specs.declared.dialects.Dialect.TheVariants.{Talks, Acts}
 use Rattle.rs_bodies.specs.declared.dialects.Mark.TheVariants as mark
 use Rattle.std.specs.List.{flat_map}
 use Rattle.rs_text.specs.Signs.{Sign, rec_word, end_word, plain, arrow, bang, question, colon, dot, comma, open_brace, close_brace, open_paren, close_paren, word_sign}
-use Rattle.rs_text.specs.Arms.{sort_signs, arm_signs, ArmCut, at_label, behind_label, behind_paren, behind_sort, behind_head, arm_cut_signs, wanted_in_arm}
+use Rattle.rs_text.specs.Arms.{sort_signs, arm_signs}
+use Rattle.rs_text.specs.ArmCuts.{ArmCut, at_label, behind_label, behind_paren, behind_sort, behind_head, arm_cut_signs, wanted_in_arm}
 use Rattle.rs_text.specs.Seen.{sort_named}
 use Rattle.rs_bodies.specs.Trees.{Body, ends, again, binds, acts, offers, Branches, one, more, body_signs, branch_signs}
 use Rattle.rs_bodies.specs.Cuts.{Cut, at_body, behind_end, behind_name, behind_rec, behind_rec_name, in_binds, in_turn, in_arm, in_acts, in_offers, behind_brace, BranchCut, in_head, in_branch, later, PartCut, in_opening, in_body, cut_signs, branch_cut_signs, part_cut_signs, wanted_at, wanted_in}

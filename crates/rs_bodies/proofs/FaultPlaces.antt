@@ -20,7 +20,8 @@ use Rattle.rs_text.specs.declared.faults.Wanted.{Wanted}
 use Rattle.rs_text.specs.declared.faults.Wanted.TheVariants as wanted
 use Rattle.rs_text.specs.Names.{place_of, is_among, grown, Bound, bound_to}
 use Rattle.rs_text.specs.Signs.{Sign, arrow, rec_word, end_word, plain, colon, dot, comma, open_brace, close_brace, open_paren, close_paren, broken, finish}
-use Rattle.rs_text.specs.Arms.{sort_text, sort_signs, arm_signs, ArmCut, at_label, behind_label, behind_paren, behind_sort, behind_head, arm_cut_signs, wanted_in_arm}
+use Rattle.rs_text.specs.Arms.{sort_text, sort_signs, arm_signs}
+use Rattle.rs_text.specs.ArmCuts.{ArmCut, at_label, behind_label, behind_paren, behind_sort, behind_head, arm_cut_signs, wanted_in_arm}
 use Rattle.rs_text.specs.Seen.{sort_named}
 use Rattle.rs_bodies.specs.Data.{Reader_data}
 use Rattle.rs_bodies.specs.Graph.{acts_in}

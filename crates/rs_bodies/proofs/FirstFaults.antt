@@ -17,7 +17,8 @@ use Rattle.rs_model.specs.Data.{Names_data}
 use Rattle.rs_text.specs.Faults.{kind_of}
 use Rattle.rs_text.specs.Lexemes.{Lexeme}
 use Rattle.rs_text.specs.Signs.{Sign, rec_word, plain, arrow, bang, question, dot, comma, open_brace, broken, finish}
-use Rattle.rs_text.specs.Arms.{arm_signs, wanted_in_arm, ArmCut, at_label, behind_label, behind_paren, behind_sort, behind_head}
+use Rattle.rs_text.specs.Arms.{arm_signs}
+use Rattle.rs_text.specs.ArmCuts.{wanted_in_arm, ArmCut, at_label, behind_label, behind_paren, behind_sort, behind_head}
 use Rattle.rs_bodies.specs.Data.{Reader_data}
 use Rattle.rs_bodies.specs.Dialects.{turns, most, turn_signs, lone_signs}
 use Rattle.rs_bodies.specs.Cuts.{wanted_alone, TurnCut, behind_arrow, behind_receiver, wanted_in_turn}

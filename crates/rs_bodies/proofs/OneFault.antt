@@ -13,10 +13,11 @@ use Rattle.std.proofs.Common.{nat_le, nat_lt}
 use Rattle.rs_text.proofs.Judging as judging
 use Rattle.rs_bodies.specs.declared.dialects.Dialect.{Dialect}
 use Rattle.rs_bodies.specs.declared.dialects.Dialect.TheVariants.{Talks, Acts}
-use Rattle.rs_text.specs.Lexemes.{Lexeme, Lexed, signs_of}
+use Rattle.rs_text.specs.Lexemes.{Lexeme, signs_of}
+use Rattle.rs_text.specs.Lexing.{Lexed}
 use Rattle.rs_text.specs.Signs.{Sign, rec_word, end_word, plain, open_brace, finish}
 use Rattle.rs_text.proofs.Nexts.{one_list}
-use Rattle.rs_text.specs.Arms.{ArmCut, at_label, behind_label, behind_paren, behind_sort, behind_head}
+use Rattle.rs_text.specs.ArmCuts.{ArmCut, at_label, behind_label, behind_paren, behind_sort, behind_head}
 use Rattle.rs_bodies.specs.Data.{Reader_data}
 use Rattle.rs_bodies.specs.Trees.{ends_a_name}
 use Rattle.rs_bodies.specs.Cuts.{Cut, at_body, behind_end, behind_name, behind_rec, behind_rec_name, in_binds, in_arm, in_acts, in_offers, behind_brace, BranchCut, in_head, in_branch, later, PartCut, in_body, wanted_at, wanted_in, IsBehind, in_opening, in_turn}

@@ -5,7 +5,7 @@ use Rattle.rs_model.specs.Data.{Names_data}
 use Rattle.rs_model.specs.declared.graph.Arm.{Arm}
 use Rattle.rs_model.specs.declared.values.Sort.{Sort}
 use Rattle.rs_text.proofs.Gaps.{true_or_false}
-use Rattle.rs_text.specs.Arms.{arm_text}
+use Rattle.rs_text.specs.Shown.{arm_text}
 use Rattle.rs_text.specs.Names.{name_at}
 use Rattle.rs_bodies.specs.declared.dialects.Dialect.{Dialect}
 use Rattle.rs_bodies.specs.declared.dialects.Dialect.TheVariants.{Talks, Acts}

@@ -9,7 +9,8 @@ use Rattle.rs_text.specs.declared.reading.Stop.{Stop}
 use Rattle.rs_text.specs.declared.reading.Stop.TheVariants as stops
 use Rattle.rs_bodies.specs.Faults.{LeavesBy, KeepsBy}
 use Rattle.std.proofs.Common.{Ok, refl}
-use Rattle.rs_text.specs.Lexemes.{Lexeme, Lexed}
+use Rattle.rs_text.specs.Lexemes.{Lexeme}
+use Rattle.rs_text.specs.Lexing.{Lexed}
 use Rattle.rs_text.specs.Readings.{read_all, last_of}
 use Rattle.rs_bodies.specs.Data.{Spelling_data}
 use Rattle.rs_bodies.specs.Drafts.{names_read, spelling_read}

@@ -14,7 +14,8 @@ use Rattle.rs_text.proofs.Naming.{grown_append, at_among}
 use Rattle.rs_text.proofs.PlainNames.{plain_name, plain_names, plain_stands, plain_place, plain_grown, plain_role, plain_label, plain_count, numbered_word}
 use Rattle.rs_text.proofs.Basics.{some_is, two_true, both, or_true, or_false, or_assoc, or_first, any_stands, stands_any, drop_get}
 use Rattle.rs_text.proofs.Arms.{sort_same}
-use Rattle.rs_text.specs.Arms.{sort_or_unit, shown_sort}
+use Rattle.rs_text.specs.Arms.{sort_or_unit}
+use Rattle.rs_text.specs.Shown.{shown_sort}
 use Rattle.rs_text.specs.Names.{Bound, bound_to, number_or, grown, is_among}
 use Rattle.rs_text.specs.Words.{is_role_word}
 use Rattle.rs_bodies.specs.declared.dialects.Dialect.{Dialect}

@@ -29,7 +29,7 @@ use Rattle.std.proofs.lemmas.Bool.{leb-false}
 use Rattle.rs_model.specs.Data.{Names_data}
 use Rattle.rs_text.specs.declared.tokens.Token.{Token}
 use Rattle.rs_text.specs.Data.{Lexer_data}
-use Rattle.rs_text.specs.Lexemes.{next_lexeme, lexeme_of, sign_of, text_of}
+use Rattle.rs_text.specs.Lexing.{next_lexeme, lexeme_of, sign_of, text_of}
 use Rattle.rs_text.specs.Sound.{differ, IsSound}
 use Rattle.rs_text.specs.Tokens.{IsNext}
 use Rattle.rs_text.specs.Words.{is_word, is_role_word}

@@ -8,7 +8,8 @@ use Rattle.rs_bodies.specs.declared.reading.Mode.{Mode}
 use Rattle.rs_bodies.specs.declared.reading.Mode.TheVariants as mode
 use Rattle.rs_bodies.specs.declared.dialects.Dialect.{Dialect}
 use Rattle.rs_bodies.specs.Data.{Spelling_data, Reader_data}
-use Rattle.rs_text.specs.Lexemes.{Lexeme, Lexed, signs_of}
+use Rattle.rs_text.specs.Lexemes.{Lexeme, signs_of}
+use Rattle.rs_text.specs.Lexing.{Lexed}
 use Rattle.rs_text.specs.Signs.{Sign, broken}
 use Rattle.rs_text.proofs.Nexts.{exists, are_lexed, one_list}
 use Rattle.rs_bodies.specs.Drafts.{spelling_read, names_read}

@@ -2,7 +2,8 @@
 use Rattle.std.proofs.Common.{◌≡◌, ◌∙◌, ℕ, ◌≤◌, List, [], ◌∷◌, ◌++◌, length, false, Ok, refl, sym, ap, subst, append_assoc}
 use Rattle.std.proofs.lemmas.List.{map-append}
 use Rattle.rs_text.specs.Data.{Lexer_data}
-use Rattle.rs_text.specs.Lexemes.{Lexeme, Lexed, next_lexeme, lexeme_of, sign_of, signs_of, text_of, is_last}
+use Rattle.rs_text.specs.Lexemes.{Lexeme, signs_of, is_last}
+use Rattle.rs_text.specs.Lexing.{Lexed, next_lexeme, lexeme_of, sign_of, text_of}
 use Rattle.rs_text.specs.Readings.{feed_sign}
 use Rattle.rs_text.specs.Signs.{Sign}
 use Rattle.rs_text.specs.declared.tokens.Token.{Token}

@@ -4,7 +4,8 @@ use Rattle.rs_model.specs.declared.values.Sort.{Sort}
 use Rattle.rs_text.specs.Signs.{Sign, rec_word, end_word, plain, arrow, dot, comma, open_brace, close_brace}
 use Rattle.rs_text.specs.declared.faults.Wanted.{Wanted}
 use Rattle.rs_text.specs.declared.faults.Wanted.TheVariants as wanted
-use Rattle.rs_text.specs.Arms.{arm_signs, ArmCut, at_label, arm_cut_signs, wanted_in_arm}
+use Rattle.rs_text.specs.Arms.{arm_signs}
+use Rattle.rs_text.specs.ArmCuts.{ArmCut, at_label, arm_cut_signs, wanted_in_arm}
 use Rattle.rs_bodies.specs.declared.dialects.Dialect.{Dialect}
 use Rattle.rs_bodies.specs.declared.dialects.Dialect.TheVariants.{Talks, Acts}
 use Rattle.rs_bodies.specs.Dialects.{Turn, turn_signs, lone_signs}

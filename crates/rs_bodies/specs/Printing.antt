@@ -2,7 +2,7 @@
 use Rattle.std.specs.Prelude.{◌≡◌, ℕ, ◌+◌, List, [], ◌∷◌, ◌++◌, codes, length, Option, Some, None, Bool, true, false, get_or, replicate, slice_get, slice_set, nat_lt, nat_le, ◌&&◌, ◌||◌, is_some, if◌then◌else◌, ◌↔◌}
 use Rattle.rs_model.specs.Data.{Names_data}
 use Rattle.rs_model.specs.declared.graph.Arm.{Arm}
-use Rattle.rs_text.specs.Arms.{shown_sort, arm_text}
+use Rattle.rs_text.specs.Shown.{shown_sort, arm_text}
 use Rattle.rs_text.specs.Names.{name_at}
 use Rattle.rs_bodies.specs.declared.dialects.Dialect.TheVariants.{Talks, Acts}
 use Rattle.rs_bodies.specs.declared.dialects.Head.{Head}

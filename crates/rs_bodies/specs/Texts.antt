@@ -1,6 +1,6 @@
 -- Believed: the text of a part, with the spacing of canonical texts.
 use Rattle.std.specs.Prelude.{ℕ, List, [], ◌∷◌, ◌++◌, codes}
-use Rattle.rs_text.specs.Arms.{arm_text}
+use Rattle.rs_text.specs.Shown.{arm_text}
 use Rattle.rs_bodies.specs.declared.dialects.Dialect.{Dialect}
 use Rattle.rs_bodies.specs.declared.dialects.Dialect.TheVariants.{Talks, Acts}
 use Rattle.rs_bodies.specs.declared.dialects.Mark.{Mark}

@@ -2,7 +2,7 @@
 ghost use Rattle.std.specs.Prelude.{◌≡◌, ◌<◌, ◌≤◌, ◌+◌, ◌++◌, ℕ, List, Some, drop, length, slice_get, true};
 ghost use Rattle.rs_model.specs.Data.{Names_data};
 ghost use Rattle.rs_model.specs.declared.limits.TheConstants.{MOST_TALKS};
-ghost use Rattle.rs_text.specs.Lexemes.{next_lexeme};
+ghost use Rattle.rs_text.specs.Lexing.{next_lexeme};
 ghost use Rattle.rs_text.specs.Names.{is_among};
 ghost use Rattle.rs_text.specs.Words.{is_role_word};
 ghost use Rattle.rs_text.specs.Writing.{IsWritten};

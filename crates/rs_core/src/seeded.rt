@@ -101,6 +101,7 @@ impl Actor for SeededActor {
     ghost behaviour = { by_draws };
 
     /// The first draw picks the arm, the next ones make a value of its sort.
+    #[inline(always)]
     fn choose(&mut self, alloc: Global, arms: &[Arm]) -> Result<(u16, Value), NoMemory> {
         let mut draws = self.draws;
         let place = draws.draw() as usize % arms.len();

@@ -17,9 +17,10 @@ use Rattle.rs_model.specs.declared.values.Sort.TheVariants as sort
 use Rattle.rs_prefix.specs.declared.earliest.Kind.{Kind}
 use Rattle.rs_derive.specs.Data.{DNode_data, Derivation_data}
 use Rattle.rs_text.specs.Arms.{sort_or_unit}
-use Rattle.rs_text.specs.Lexemes.{Lexeme, Lexed, next_lexeme}
-use Rattle.rs_text.specs.Names.{grown, is_among, place_of, number_or, StandsFirst}
-use Rattle.rs_text.specs.Shown.{shown_sort, name_at, name_or_none}
+use Rattle.rs_text.specs.Lexemes.{Lexeme}
+use Rattle.rs_text.specs.Lexing.{Lexed, next_lexeme}
+use Rattle.rs_text.specs.Names.{grown, is_among, place_of, number_or, StandsFirst, name_at, text_or_none}
+use Rattle.rs_text.specs.Shown.{shown_sort}
 use Rattle.rs_text.specs.Sound.{IsSound}
 use Rattle.rs_text.specs.Words.{is_word, is_role_word}
 use Rattle.rs_text.proofs.Naming.{place_law, among}
@@ -38,7 +39,7 @@ use Rattle.rs_derivations.proofs.Printed.{AreActsWritable, AreNumbersWritable, I
 -- ---- names by place
 
 name_is : (names : List (List ℕ)) (k : ℕ) → k < length names → name_at names k ≡ get_or names k []
-name_is names k h = ap name_or_none (slice_get-get_or names k [] h)
+name_is names k h = ap text_or_none (slice_get-get_or names k [] h)
 
 place_at : (names : List (List ℕ)) (k : ℕ) → AllPairs (λ x y. x ≢ y) names → k < length names → place_of (name_at names k) names ≡ Some k
 place_at names k differ h =

@@ -12,7 +12,8 @@ use Rattle.rs_text.specs.declared.faults.Wanted.{Wanted}
 use Rattle.rs_text.specs.declared.tokens.FaultKind.{FaultKind}
 use Rattle.rs_text.specs.Faults.{kind_of}
 use Rattle.rs_text.specs.FirstFaults.{IsWhole, IsClear}
-use Rattle.rs_text.specs.Lexemes.{Lexeme, Lexed, signs_of}
+use Rattle.rs_text.specs.Lexemes.{Lexeme, signs_of}
+use Rattle.rs_text.specs.Lexing.{Lexed}
 use Rattle.rs_text.specs.Readings.{Automaton, Reading, feed_sign, next_lexeme_of, read_all}
 use Rattle.rs_text.specs.Seen.{plain_text, word_text}
 use Rattle.rs_text.specs.Signs.{Sign, broken, finish}

@@ -15,8 +15,10 @@ use Rattle.rs_prefix.specs.declared.earliest.Kind.TheVariants as act
 use Rattle.rs_derive.specs.Data.{DNode_data, Derivation_data}
 use Rattle.rs_text.specs.Arms.{sort_text, sort_signs, sort_or_unit}
 use Rattle.rs_text.specs.Bytes.{is_word_byte, is_digit}
-use Rattle.rs_text.specs.Lexemes.{Lexeme, Lexed, next_lexeme}
-use Rattle.rs_text.specs.Shown.{shown_text, shown_sort, name_at}
+use Rattle.rs_text.specs.Lexemes.{Lexeme}
+use Rattle.rs_text.specs.Lexing.{Lexed, next_lexeme}
+use Rattle.rs_text.specs.Names.{name_at}
+use Rattle.rs_text.specs.Shown.{shown_text, shown_sort}
 use Rattle.rs_text.specs.Signs.{Sign, plain, number, word_sign, bang, question, colon, comma, open_brace, close_brace, open_paren, close_paren, open_bracket, close_bracket, finish}
 use Rattle.rs_text.specs.Sound.{IsSound}
 use Rattle.rs_text.specs.Words.{begins, is_word, is_role_word}

@@ -12,7 +12,8 @@ use Rattle.rs_text.specs.declared.faults.TextKind.TheVariants as kind
 use Rattle.rs_text.specs.declared.faults.Wanted.{Wanted}
 use Rattle.rs_text.specs.declared.tokens.Token.{Token}
 use Rattle.rs_text.specs.Data.{Lexer_data}
-use Rattle.rs_text.specs.Lexemes.{Lexeme, next_lexeme, lexeme_of, sign_of, text_of}
+use Rattle.rs_text.specs.Lexemes.{Lexeme}
+use Rattle.rs_text.specs.Lexing.{next_lexeme, lexeme_of, sign_of, text_of}
 use Rattle.rs_text.specs.Names.{place_of, is_among}
 use Rattle.rs_text.specs.Readings.{fault, expected}
 use Rattle.rs_text.specs.Seen.{plain_text, word_text, sort_named}

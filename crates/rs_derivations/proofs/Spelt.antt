@@ -5,7 +5,8 @@ use Rattle.rs_model.specs.declared.limits.TheConstants.{MOST_LABELS}
 use Rattle.rs_derive.specs.Data.{Derivation_data}
 use Rattle.rs_text.specs.declared.faults.TextFault.{TextFault}
 use Rattle.rs_text.specs.declared.faults.TextKind.{TextKind}
-use Rattle.rs_text.specs.Lexemes.{Lexeme, Lexed}
+use Rattle.rs_text.specs.Lexemes.{Lexeme}
+use Rattle.rs_text.specs.Lexing.{Lexed}
 use Rattle.rs_text.specs.Readings.{Reading, ReadsBy, read_all, last_of}
 use Rattle.rs_text.proofs.Judging as judging
 use Rattle.rs_text.proofs.Judging.{found, first_of}

@@ -4,7 +4,8 @@ use Rattle.std.specs.List.{list_all}
 use Rattle.rs_model.specs.Data.{Names_data}
 use Rattle.rs_model.specs.declared.limits.TheConstants.{MOST_LABELS, MOST_BOUND, MOST_CANDIDATES}
 use Rattle.rs_derive.specs.Data.{Derivation_data}
-use Rattle.rs_text.specs.Lexemes.{Lexeme, Lexed, signs_of}
+use Rattle.rs_text.specs.Lexemes.{Lexeme, signs_of}
+use Rattle.rs_text.specs.Lexing.{Lexed}
 use Rattle.rs_text.specs.Names.{is_among, grown}
 use Rattle.rs_derivations.specs.Derivations.{derivation_of, labels_of_nodes, peers_of_nodes, names_of}
 use Rattle.rs_derivations.specs.Trees.{NodeTree, DerivationTree, derivation_signs}

@@ -4,7 +4,7 @@ ghost use Rattle.rs_model.specs.Data.{Names_data};
 ghost use Rattle.rs_model.specs.declared.limits.TheConstants.{MOST_LABELS};
 ghost use Rattle.rs_derive.specs.Data.{Derivation_data};
 ghost use Rattle.rs_text.specs.declared.faults.TextKind.{TextKind};
-ghost use Rattle.rs_text.specs.Lexemes.{next_lexeme};
+ghost use Rattle.rs_text.specs.Lexing.{next_lexeme};
 ghost use Rattle.rs_text.specs.Sound.{IsSound};
 ghost use Rattle.rs_derivations.specs.Canonical.{canonical_text, tree_of};
 ghost use Rattle.rs_derivations.specs.Derivations.{derivation_of, names_of};

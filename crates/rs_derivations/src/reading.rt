@@ -1,7 +1,7 @@
 ghost use Rattle.std.specs.Prelude.{◌≡◌, ◌≤◌, ◌++◌, ◌∷◌, [], length, OnOk, OnErr, IfOk, IfErr, IfSome, IfNone, Some, None, Ok, Err, codes};
 ghost use Rattle.std.specs.Option.{option_map};
 ghost use Rattle.rs_model.specs.declared.limits.TheConstants.{MOST_LABELS, MOST_ROLES};
-ghost use Rattle.rs_text.specs.Lexemes.{sign_of, text_of};
+ghost use Rattle.rs_text.specs.Lexing.{sign_of, text_of};
 ghost use Rattle.rs_text.specs.Seen.{plain_text, word_text, is_text};
 ghost use Rattle.rs_derivations.specs.Derivations.{act_of_kind};
 ghost use Rattle.rs_derivations.specs.Faults.{number_value};

@@ -44,9 +44,8 @@ use Rattle.rs_machines.specs.Trees as machine_trees
 use Rattle.rs_model.specs.Data.{Machine_data, Names_data}
 use Rattle.rs_model.specs.declared.limits.TheConstants.{MOST_LABELS}
 use Rattle.rs_text.proofs.Naming.{grown_append, grown_differ}
-use Rattle.rs_text.specs.Lexemes.{next_lexeme}
-use Rattle.rs_text.specs.Names.{grown, is_among, number_or, place_of}
-use Rattle.rs_text.specs.Shown.{name_at}
+use Rattle.rs_text.specs.Lexing.{next_lexeme}
+use Rattle.rs_text.specs.Names.{grown, is_among, number_or, place_of, name_at}
 use Rattle.rs_text.specs.Signs.{Sign, plain, finish}
 use Rattle.rs_text.specs.Sound.{IsSound, differ}
 

@@ -9,8 +9,7 @@ use Rattle.rs_documents.proofs.FewLabels.{longer}
 use Rattle.rs_text.proofs.Basics.{or_first, or_end}
 use Rattle.rs_text.proofs.Gaps.{true_or_false}
 use Rattle.rs_text.proofs.Naming.{bytes_same, differ_rest, grown_among, grown_stays, place_stands, placed_by}
-use Rattle.rs_text.specs.Names.{grown, is_among, number_or, place_of}
-use Rattle.rs_text.specs.Shown.{name_at, name_or_none}
+use Rattle.rs_text.specs.Names.{grown, is_among, number_or, place_of, name_at, text_or_none}
 use Rattle.rs_text.specs.Sound.{differ}
 
 -- each of these names is one of those
@@ -98,14 +97,14 @@ number_there names l h =
     ap (λ (o : Option ℕ). slice_get names (number_or o)) p.1 ∙ (place_stands names l p.0 p.1).there
 
 pub name_there : (names : List (List ℕ)) (l : List ℕ) → is_among l names ≡ true → name_at names (number_or (place_of l names)) ≡ l
-name_there names l h = ap name_or_none (number_there names l h)
+name_there names l h = ap text_or_none (number_there names l h)
 
 -- the number of a name that is known, and of one that stands at a place
 pub number_known : (names others : List (List ℕ)) (l : List ℕ) → is_among l names ≡ true → number_among names others (number_or (place_of l names)) ≡ number_or (place_of l others)
 number_known names others l h = ap (λ (z : List ℕ). number_or (place_of z others)) (name_there names l h)
 
 pub number_at : (names others : List (List ℕ)) (l : List ℕ) (i : ℕ) → slice_get names i ≡ Some l → number_among names others i ≡ number_or (place_of l others)
-number_at names others l i e = ap (λ (o : Option (List ℕ)). number_or (place_of (name_or_none o) others)) e
+number_at names others l i e = ap (λ (o : Option (List ℕ)). number_or (place_of (text_or_none o) others)) e
 
 -- further names change no number
 pub number_kept : (names more : List (List ℕ)) (l : List ℕ) → is_among l names ≡ true → number_or (place_of l (grown names more)) ≡ number_or (place_of l names)

@@ -12,7 +12,7 @@ use Rattle.rs_global.specs.Faults as of_protocols
 use Rattle.rs_global.specs.Spells.{SpellsProtocol}
 use Rattle.rs_model.specs.Data.{Names_data, Protocol_data, Machine_data}
 use Rattle.rs_model.specs.declared.limits.TheConstants.{MOST_LABELS}
-use Rattle.rs_text.specs.Lexemes.{next_lexeme}
+use Rattle.rs_text.specs.Lexing.{next_lexeme}
 use Rattle.rs_text.specs.Signs.{Sign, rec_word, end_word, plain, number, arrow, bang, question, colon, dot, comma, open_brace, close_brace, open_paren, close_paren, open_bracket, close_bracket, finish, broken}
 use Rattle.rs_text.specs.declared.faults.TextFault.{TextFault}
 use Rattle.rs_text.specs.declared.faults.TextKind.{TextKind}

@@ -14,7 +14,8 @@ use Rattle.rs_global.specs.Spells.{SpellsProtocol}
 use Rattle.rs_machines.specs.Spells.{SpellsMachine}
 use Rattle.rs_machines.proofs.Spelt as machines
 use Rattle.rs_text.proofs.Nexts.{within, next_is_next}
-use Rattle.rs_text.specs.Lexemes.{Lexeme, Lexed, next_lexeme, is_last}
+use Rattle.rs_text.specs.Lexemes.{Lexeme, is_last}
+use Rattle.rs_text.specs.Lexing.{Lexed, next_lexeme}
 use Rattle.rs_text.specs.Names.{is_among, number_or, place_of}
 use Rattle.rs_text.specs.Signs.{plain, colon}
 use Rattle.rs_bodies.specs.declared.dialects.Dialect.TheVariants.{Acts}

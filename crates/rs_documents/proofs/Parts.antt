@@ -9,7 +9,8 @@ use Rattle.rs_model.specs.Data.{Names_data}
 use Rattle.rs_model.specs.declared.graph.Role.{Role}
 use Rattle.rs_model.specs.declared.limits.TheConstants.{MOST_LABELS, MOST_ROLES}
 use Rattle.rs_text.proofs.Nexts.{within}
-use Rattle.rs_text.specs.Lexemes.{Lexeme, Lexed, next_lexeme, is_last, signs_of}
+use Rattle.rs_text.specs.Lexemes.{Lexeme, is_last, signs_of}
+use Rattle.rs_text.specs.Lexing.{Lexed, next_lexeme}
 use Rattle.rs_text.specs.Names.{place_from, place_of, is_among}
 use Rattle.rs_text.specs.Seen.{plain_text}
 use Rattle.rs_text.specs.Signs.{Sign, rec_word, end_word, plain, number, arrow, bang, question, colon, dot, comma, open_brace, close_brace, open_paren, close_paren, open_bracket, close_bracket, finish, broken}

@@ -13,7 +13,7 @@ use Rattle.rs_model.specs.declared.graph.Role.{Role}
 use Rattle.rs_model.specs.declared.limits.TheConstants.{MOST_LABELS}
 use Rattle.rs_text.proofs.Naming.{grown_append}
 use Rattle.rs_text.proofs.Written.{role_is_plain, role_is_word, token_next, word_token}
-use Rattle.rs_text.specs.Lexemes.{next_lexeme}
+use Rattle.rs_text.specs.Lexing.{next_lexeme}
 use Rattle.rs_text.specs.Names.{grown, is_among, number_or, place_of}
 use Rattle.rs_text.specs.Signs.{Sign, plain, finish}
 use Rattle.rs_text.specs.Tokens.{IsToken}

@@ -13,7 +13,8 @@ use Rattle.rs_global.proofs.EnoughNames.{spelt_enough}
 use Rattle.rs_global.proofs.Spelt as global
 use Rattle.rs_model.specs.Data.{Names_data, Protocol_data, Machine_data}
 use Rattle.rs_text.proofs.Nexts.{next_is_next, one_next}
-use Rattle.rs_text.specs.Lexemes.{Lexeme, next_lexeme}
+use Rattle.rs_text.specs.Lexemes.{Lexeme}
+use Rattle.rs_text.specs.Lexing.{next_lexeme}
 use Rattle.rs_text.specs.Signs.{plain, finish}
 use Rattle.rs_text.specs.declared.faults.TextFault.{TextFault}
 

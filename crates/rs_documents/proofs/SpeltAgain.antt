@@ -32,7 +32,8 @@ use Rattle.rs_text.proofs.Naming.{decides_sound, grown_all, grown_differ}
 use Rattle.rs_text.proofs.Nexts.{next_is_next, plain_law}
 use Rattle.rs_text.proofs.Written.{role_is_word}
 use Rattle.rs_text.specs.Arms.{arm_signs}
-use Rattle.rs_text.specs.Lexemes.{Lexeme, Lexed, is_last, signs_of}
+use Rattle.rs_text.specs.Lexemes.{Lexeme, is_last, signs_of}
+use Rattle.rs_text.specs.Lexing.{Lexed}
 use Rattle.rs_text.specs.Names.{grown}
 use Rattle.rs_text.specs.Signs.{Sign, plain, word_sign, rec_word, end_word, open_paren, close_paren, dot, comma}
 use Rattle.rs_text.specs.Signs as signs

@@ -7,7 +7,7 @@ use Rattle.rs_global.specs.Faults as of_protocols
 use Rattle.rs_global.specs.Spells.{SpellsProtocol}
 use Rattle.rs_model.specs.Data.{Names_data, Protocol_data, Machine_data}
 use Rattle.rs_text.specs.Faults.{kind_of}
-use Rattle.rs_text.specs.Lexemes.{next_lexeme}
+use Rattle.rs_text.specs.Lexing.{next_lexeme}
 use Rattle.rs_text.specs.Signs.{Sign, finish, broken}
 use Rattle.rs_text.specs.declared.faults.TextKind.{TextKind}
 use Rattle.rs_text.specs.declared.faults.TextKind.TheVariants as kind

@@ -7,7 +7,7 @@ use Rattle.rs_machines.specs.Faults as of_machines
 use Rattle.rs_machines.specs.Spells.{SpellsMachine}
 use Rattle.rs_model.specs.Data.{Names_data, Machine_data}
 use Rattle.rs_model.specs.declared.graph.Role.{Role}
-use Rattle.rs_text.specs.Lexemes.{next_lexeme}
+use Rattle.rs_text.specs.Lexing.{next_lexeme}
 use Rattle.rs_text.specs.Names.{place_of}
 use Rattle.rs_text.specs.Signs.{Sign, plain}
 use Rattle.rs_text.specs.declared.faults.TextFault.{TextFault}

@@ -5,7 +5,8 @@ ghost use Rattle.rs_documents.specs.Parts.{GoesOn, Row, StandsAt, derivation_par
 ghost use Rattle.rs_documents.specs.Reading as spec;
 ghost use Rattle.rs_documents.specs.Reading.{AreGood, DerivationsAreHeld, IsAdded, IsBounded, IsReady, IsShort, MachinesAreHeld, role_at};
 ghost use Rattle.rs_model.specs.declared.limits.TheConstants.{MOST_ROLES};
-ghost use Rattle.rs_text.specs.Lexemes.{is_last, lexeme_of, next_lexeme, sign_of, text_of};
+ghost use Rattle.rs_text.specs.Lexemes.{is_last};
+ghost use Rattle.rs_text.specs.Lexing.{lexeme_of, next_lexeme, sign_of, text_of};
 ghost use Rattle.rs_text.specs.Signs.{plain};
 ghost use Rattle.rs_text.specs.declared.faults.TextKind.TheVariants as kind;
 ghost use Rattle.std.specs.Prelude.{◌≡◌, ◌≤◌, ◌⊎◌, length, Err, IfErr, IfOk, IfSome, Ok, OnOk, Some, codes, false, slice_get, slice_set};

@@ -1,6 +1,6 @@
 -- The text of a tree is written for its tokens, and spells the tree.
 use Rattle.std.proofs.Common.{◌≡◌, ℕ, ◌+◌, List, ◌++◌, length, drop, true, subst}
-use Rattle.rs_text.specs.Lexemes.{next_lexeme}
+use Rattle.rs_text.specs.Lexing.{next_lexeme}
 use Rattle.rs_text.specs.Signs.{Sign}
 use Rattle.rs_text.specs.Writing.{IsWritten}
 use Rattle.rs_bodies.specs.declared.dialects.Dialect.TheVariants.{Talks}

@@ -5,7 +5,7 @@ use Rattle.rs_model.specs.declared.machines.State.{State}
 use Rattle.rs_model.specs.declared.graph.Role.{Role}
 use Rattle.rs_text.proofs.Basics.{or_first}
 use Rattle.rs_text.proofs.Naming.{all_at}
-use Rattle.rs_text.specs.Lexemes.{next_lexeme}
+use Rattle.rs_text.specs.Lexing.{next_lexeme}
 use Rattle.rs_text.specs.Names.{number_or, grown, is_among, place_of}
 use Rattle.rs_text.specs.Sound.{IsSound}
 use Rattle.rs_text.specs.Words.{is_word, is_role_word}

@@ -1,7 +1,8 @@
 use Rattle.std.proofs.Common.{◌≡◌, ◌≤◌, ℕ, inl, List, [], ◌∷◌, ◌++◌, false, refl, arith}
 use Rattle.std.specs.Prelude.{codes}
 use Rattle.rs_model.specs.Data.{Names_data}
-use Rattle.rs_text.specs.Lexemes.{Lexeme, Lexed, next_lexeme, is_last}
+use Rattle.rs_text.specs.Lexemes.{Lexeme, is_last}
+use Rattle.rs_text.specs.Lexing.{Lexed, next_lexeme}
 use Rattle.rs_text.specs.Signs.{Sign, rec_word, end_word, plain, bang, colon, dot, comma, open_brace, close_brace, open_paren, close_paren, finish}
 use Rattle.rs_text.specs.Faults.{kind_number}
 use Rattle.rs_text.specs.declared.faults.TextKind.{TextKind}

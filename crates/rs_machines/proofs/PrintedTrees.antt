@@ -1,7 +1,7 @@
 -- The text of a tree is written for its tokens, and spells the tree.
 use Rattle.std.proofs.Common.{◌≡◌, ℕ, ◌+◌, List, ◌++◌, length, drop, true, subst}
 use Rattle.rs_model.specs.Data.{Machine_data, Names_data}
-use Rattle.rs_text.specs.Lexemes.{next_lexeme}
+use Rattle.rs_text.specs.Lexing.{next_lexeme}
 use Rattle.rs_text.specs.Writing.{IsWritten}
 use Rattle.rs_bodies.specs.declared.dialects.Dialect.TheVariants.{Acts}
 use Rattle.rs_bodies.specs.Spells as parts

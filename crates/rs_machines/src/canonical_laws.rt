@@ -1,7 +1,7 @@
 // What the definitions of canonical texts say together. The functions do nothing: each states a law.
 ghost use Rattle.std.specs.Prelude.{◌≡◌, ◌+◌, ◌++◌, ℕ, List, drop, length, true};
 ghost use Rattle.rs_model.specs.Data.{Machine_data, Names_data};
-ghost use Rattle.rs_text.specs.Lexemes.{next_lexeme};
+ghost use Rattle.rs_text.specs.Lexing.{next_lexeme};
 ghost use Rattle.rs_text.specs.Sound.{IsSound};
 ghost use Rattle.rs_machines.specs.Canonical.{IsCanonical, IsCanonicalMachineText, IsMachineTextShaped};
 ghost use Rattle.rs_machines.specs.Enough.{AreEnoughFor};

@@ -2,7 +2,7 @@
 ghost use Rattle.std.specs.Prelude.{◌≡◌, ◌≤◌, ◌+◌, ◌++◌, ℕ, List, drop, length, true};
 ghost use Rattle.rs_model.specs.Data.{Machine_data, Names_data};
 ghost use Rattle.rs_model.specs.declared.limits.TheConstants.{MOST_ACTS, MOST_LABELS, MOST_ROLES};
-ghost use Rattle.rs_text.specs.Lexemes.{next_lexeme};
+ghost use Rattle.rs_text.specs.Lexing.{next_lexeme};
 ghost use Rattle.rs_text.specs.Words.{is_role_word};
 ghost use Rattle.rs_text.specs.Writing.{IsWritten};
 ghost use Rattle.rs_machines.specs.Canonical.{IsMachineTextShaped};

@@ -1,6 +1,8 @@
 -- How an arm is lexed, cut off and completed.
 use Rattle.std.proofs.Common.{Bool, true, false, ap, Option, List, refl, sym, Some, codes, None, append_assoc, ◌≡◌, ℕ, [], ◌∷◌, ◌++◌, if◌then◌else◌, ◌∙◌}
-use Rattle.rs_text.specs.Arms.{sort_text, sort_or_unit, sort_signs, arm_signs, behind_paren, behind_head, ArmCut, behind_sort, behind_label, arm_cut_signs, at_label, shown_sort, shown_text, arm_text, wanted_in_arm}
+use Rattle.rs_text.specs.Arms.{sort_text, sort_or_unit, sort_signs, arm_signs}
+use Rattle.rs_text.specs.ArmCuts.{behind_paren, behind_head, ArmCut, behind_sort, behind_label, arm_cut_signs, at_label, wanted_in_arm}
+use Rattle.rs_text.specs.Shown.{shown_sort, shown_text, arm_text}
 use Rattle.rs_model.specs.declared.values.Sort.{Sort}
 use Rattle.rs_text.specs.Seen.{sort_named}
 use Rattle.std.specs.Str.{bytes_eq}

@@ -2,7 +2,7 @@
 use Rattle.std.proofs.Common.{◌≡◌, ℕ, zero, suc, ◌+◌, ◌<◌, ◌≤◌, List, [], ◌∷◌, length, drop, true, false, inl, inr, refl, arith}
 use Rattle.std.proofs.lemmas.Bool.Decides.{eqb_tells}
 use Rattle.memchr.specs.Find.{Passes, is_byte}
-use Rattle.rs_text.specs.Lexemes.{skipped}
+use Rattle.rs_text.specs.Lexing.{skipped}
 
 -- place k ends the line
 abbrev pub Line : List ℕ → ℕ → Type 0

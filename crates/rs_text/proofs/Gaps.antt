@@ -2,7 +2,7 @@ use Rattle.std.proofs.Common.{◌≡◌, ◌≢◌, ℕ, suc, ◌+◌, List, [],
 use Rattle.std.proofs.lemmas.Bool.Decides.{eqb_tells}
 use Rattle.std.specs.List.{list_any}
 use Rattle.rs_text.specs.Bytes.{is_blank}
-use Rattle.rs_text.specs.Lexemes.{skipped}
+use Rattle.rs_text.specs.Lexing.{skipped}
 use Rattle.rs_text.specs.Tokens.{Gap, nothing, blank, comment, gap_bytes, EndsLine, IsGap}
 
 -- a token or a fault may begin here: neither a blank nor a comment does

@@ -8,7 +8,8 @@ use Rattle.rs_text.specs.declared.faults.TextFault.{TextFault}
 use Rattle.rs_text.specs.declared.faults.TextKind.{TextKind}
 use Rattle.rs_text.specs.Faults.{kind_number}
 use Rattle.rs_text.specs.FirstFaults.{FaultRule, IsWhole, IsClear, AllClear, FirstFaultBy, next_of}
-use Rattle.rs_text.specs.Lexemes.{Lexeme, Lexed, signs_of, is_last, next_lexeme}
+use Rattle.rs_text.specs.Lexemes.{Lexeme, signs_of, is_last}
+use Rattle.rs_text.specs.Lexing.{Lexed, next_lexeme}
 use Rattle.rs_text.specs.Readings.{Automaton, Reading, feed_sign, next_lexeme_of, read_all, last_of}
 use Rattle.rs_text.specs.Signs.{Sign, rec_word, end_word, plain, broken, finish, word_sign}
 use Rattle.rs_text.specs.Tokens.{IsNext}

@@ -6,7 +6,8 @@ use Rattle.rs_text.specs.declared.reading.Stop.{Stop}
 use Rattle.rs_text.specs.declared.reading.Stop.TheVariants as stops
 use Rattle.rs_text.specs.declared.faults.TextKind.TheVariants as kind
 use Rattle.rs_text.specs.FirstFaults.{FaultRule, FirstFaultBy}
-use Rattle.rs_text.specs.Lexemes.{Lexeme, Lexed, is_last}
+use Rattle.rs_text.specs.Lexemes.{Lexeme, is_last}
+use Rattle.rs_text.specs.Lexing.{Lexed}
 use Rattle.rs_text.specs.Readings.{Automaton, Reading, feed_sign, next_lexeme_of, read_all, last_of, ReadsBy, StopsBy, told}
 use Rattle.rs_text.specs.Signs.{Sign}
 use Rattle.rs_text.specs.Tokens.{IsWithin}

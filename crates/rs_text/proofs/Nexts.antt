@@ -1,7 +1,8 @@
 use Rattle.std.proofs.Common.{codes, nat_le, ◌≢◌, ◌≡◌, ℕ, zero, suc, ◌+◌, ◌≤◌, ◌<◌, ◌↔◌, inl, inr, List, [], ◌∷◌, ◌++◌, length, drop, Bool, true, false, refl, sym, ap, ◌∙◌, subst, length-append, length-drop, add-zero, arith}
 use Rattle.std.proofs.lemmas.List.{drop-drop}
 use Rattle.std.proofs.Math.Seq.{drop-append_seam, drop-length}
-use Rattle.rs_text.specs.Lexemes.{skipped, front_of, Lexeme, placed, next_lexeme, is_last, Lexed}
+use Rattle.rs_text.specs.Lexemes.{Lexeme, is_last}
+use Rattle.rs_text.specs.Lexing.{skipped, front_of, placed, next_lexeme, Lexed}
 use Rattle.rs_text.specs.Bytes.{is_letter, is_digit}
 use Rattle.rs_text.specs.Words.{begins, is_role_word}
 use Rattle.std.proofs.lemmas.Bool.Decides.{leb_tells}

@@ -10,7 +10,8 @@ use Rattle.rs_text.specs.declared.faults.TextFault.{TextFault}
 use Rattle.rs_text.specs.declared.reading.Stop.{Stop}
 use Rattle.rs_text.specs.declared.reading.Stop.TheVariants as stops
 use Rattle.rs_text.specs.Faults.{kind_of}
-use Rattle.rs_text.specs.Lexemes.{Lexeme, Lexed, next_lexeme, lexeme_of, broken_at, sign_of, text_of, is_last}
+use Rattle.rs_text.specs.Lexemes.{Lexeme, is_last}
+use Rattle.rs_text.specs.Lexing.{Lexed, next_lexeme, lexeme_of, broken_at, sign_of, text_of}
 use Rattle.rs_text.specs.Readings.{Automaton, feed_sign, next_lexeme_of, read_all, last_of, ReadsBy, StopsBy, RefusedBy, Fails}
 use Rattle.rs_text.specs.Signs.{finish, rec_word, end_word, plain}
 use Rattle.rs_text.specs.Tokens.{IsNext}

@@ -19,7 +19,8 @@ use Rattle.std.proofs.lemmas.List.Elements.{All-cons, All-nil}
 use Rattle.std.proofs.Math.Seq.{drop-append_seam}
 use Rattle.std.specs.List.{flat_map, All}
 use Rattle.rs_text.specs.Bytes.{is_blank}
-use Rattle.rs_text.specs.Lexemes.{Lexeme, Lexed, next_lexeme, placed, front_of, is_last, signs_of}
+use Rattle.rs_text.specs.Lexemes.{Lexeme, is_last, signs_of}
+use Rattle.rs_text.specs.Lexing.{Lexed, next_lexeme, placed, front_of}
 use Rattle.rs_text.specs.Signs.{Sign}
 use Rattle.rs_text.specs.Tokens.{IsToken, nothing}
 use Rattle.rs_text.specs.Writing.{Piece, blank, token, piece_text, piece_signs, ArePieces, IsWritten}

@@ -1,28 +1,22 @@
--- Believed: the tokens of a text, cut off from its front one by one.
-use Rattle.std.specs.Prelude.{◌≡◌, ℕ, suc, ◌+◌, ◌-◌, ◌*◌, List, [], ◌∷◌, drop, take, map, nat_lt, if◌then◌else◌, ◌==◌, Bool, true, false}
-use Rattle.std.specs.List.{prefix_len}
-use Rattle.rs_model.specs.declared.limits.TheConstants.{MOST_NAME_BYTES, MOST_NUMBER}
-use Rattle.rs_text.specs.declared.tokens.Fault.{Fault}
-use Rattle.rs_text.specs.declared.tokens.FaultKind.TheVariants as fault
-use Rattle.rs_text.specs.declared.tokens.Kind.{Kind}
-use Rattle.rs_text.specs.declared.tokens.Kind.TheVariants as kind
-use Rattle.rs_text.specs.declared.tokens.Token.{Token}
-use Rattle.rs_text.specs.Bytes.{is_blank, is_letter, is_digit, is_word_byte}
-use Rattle.rs_text.specs.Signs.{Sign, number, arrow, bang, question, colon, dot, comma, open_brace, close_brace, open_paren, close_paren, open_bracket, close_bracket, finish, broken, word_sign}
+-- Believed: tokens with their places, as the grammars see them.
+use Rattle.std.specs.Prelude.{ℕ, ◌+◌, ◌-◌, ◌*◌, List, [], ◌∷◌, map, Bool, true, false}
+use Rattle.rs_text.specs.Signs.{Sign, finish, broken}
 
--- how many bytes in front are blanks and comments; the flag says that a comment is open
-abbrev pub skipped : Bool → List ℕ → ℕ
-skipped comment [] = 0
-skipped false (b ∷ bs) = if is_blank b then suc (skipped false bs) else if b == 35 then suc (skipped true bs) else 0
-skipped true (b ∷ bs) = suc (skipped (if b == 10 then false else true) bs)
+-- a token: its sign, and the offsets where it begins and ends
+pub record Lexeme : Type 0 where
+  pub sign : Sign
+  pub from : ℕ
+  pub until : ℕ
 
--- how many bytes in front are of a word
-abbrev pub word_length : List ℕ → ℕ
-word_length bytes = prefix_len is_word_byte bytes
+-- what the grammars see of tokens
+abbrev pub signs_of : List Lexeme → List Sign
+signs_of lexemes = map (λ l. l.sign) lexemes
 
--- how many bytes in front are digits
-abbrev pub number_length : List ℕ → ℕ
-number_length bytes = prefix_len is_digit bytes
+-- nothing is read behind the end or a faulty token
+abbrev pub is_last : Sign → Bool
+is_last finish = true
+is_last (broken kind) = true
+is_last _ = false
 
 -- the value of a number with further digits behind it
 abbrev pub value_behind : ℕ → List ℕ → ℕ
@@ -32,109 +26,3 @@ value_behind value (b ∷ bs) = value_behind (value * 10 + (b - 48)) bs
 -- the value of decimal digits
 abbrev pub value_of : List ℕ → ℕ
 value_of digits = value_behind 0 digits
-
--- a sign, and how many bytes it takes up. A faulty token and the end take up none
-pub record Front : Type 0 where
-  pub sign : Sign
-  pub size : ℕ
-
--- a sign with its size
-abbrev pub front : Sign → ℕ → Front
-front sign size = record { sign = sign; size = size }
-
--- the word of the first n bytes
-abbrev pub word_front : List ℕ → ℕ → Front
-word_front bytes n = if nat_lt MOST_NAME_BYTES n then front (broken fault.NameTooLong) 0 else front (word_sign (take n bytes)) n
-
--- the number of the first n bytes
-abbrev pub number_front : List ℕ → ℕ → Front
-number_front bytes n = if nat_lt MOST_NUMBER (value_of (take n bytes)) then front (broken fault.NumberTooLarge) 0 else front (number (value_of (take n bytes))) n
-
--- behind a first -
-abbrev pub arrow_front : List ℕ → Front
-arrow_front [] = front (broken fault.BadByte) 0
-arrow_front (b ∷ bs) = if b == 62 then front arrow 2 else front (broken fault.BadByte) 0
-
--- a mark of one byte
-abbrev pub mark_front : ℕ → Front
-mark_front b =
-    if b == 33 then front bang 1
-    else if b == 63 then front question 1
-    else if b == 58 then front colon 1
-    else if b == 46 then front dot 1
-    else if b == 44 then front comma 1
-    else if b == 123 then front open_brace 1
-    else if b == 125 then front close_brace 1
-    else if b == 40 then front open_paren 1
-    else if b == 41 then front close_paren 1
-    else if b == 91 then front open_bracket 1
-    else if b == 93 then front close_bracket 1
-    else front (broken fault.BadByte) 0
-
--- the token in front of the bytes
-abbrev pub front_of : List ℕ → Front
-front_of [] = front finish 0
-front_of (b ∷ bs) =
-    if is_letter b then word_front (b ∷ bs) (word_length (b ∷ bs))
-    else if is_digit b then number_front (b ∷ bs) (number_length (b ∷ bs))
-    else if b == 45 then arrow_front bs
-    else mark_front b
-
--- a token: its sign, and the offsets where it begins and ends
-pub record Lexeme : Type 0 where
-  pub sign : Sign
-  pub from : ℕ
-  pub until : ℕ
-
--- what stands in front, at its offset
-abbrev pub placed : ℕ → Front → Lexeme
-placed from f = record { sign = f.sign; from = from; until = from + f.size }
-
--- the next token from an offset on: blanks and comments are passed over
-abbrev pub next_lexeme : List ℕ → ℕ → Lexeme
-next_lexeme bytes at = let from = at + skipped false (drop at bytes) in placed from (front_of (drop from bytes))
-
--- nothing is read behind the end or a faulty token
-abbrev pub is_last : Sign → Bool
-is_last finish = true
-is_last (broken kind) = true
-is_last _ = false
-
--- the bytes from `at` on, cut into tokens as far as the end or the first faulty one
-abbrev pub Lexed : List ℕ → ℕ → List Lexeme → Type 0
-Lexed bytes at [] = ⊥
-Lexed bytes at (l ∷ ls) = (l ≡ next_lexeme bytes at) × (is_last l.sign ≡ true → ls ≡ []) × (is_last l.sign ≡ false → Lexed bytes l.until ls)
-
--- what the grammars see of tokens
-abbrev pub signs_of : List Lexeme → List Sign
-signs_of lexemes = map (λ l. l.sign) lexemes
-
--- the sign of a token with this text
-abbrev pub sign_of : Kind → List ℕ → Sign
-sign_of kind.Word text = word_sign text
-sign_of kind.Number text = number (value_of text)
-sign_of kind.Arrow text = arrow
-sign_of kind.Bang text = bang
-sign_of kind.Question text = question
-sign_of kind.Colon text = colon
-sign_of kind.Dot text = dot
-sign_of kind.Comma text = comma
-sign_of kind.OpenBrace text = open_brace
-sign_of kind.CloseBrace text = close_brace
-sign_of kind.OpenParen text = open_paren
-sign_of kind.CloseParen text = close_paren
-sign_of kind.OpenBracket text = open_bracket
-sign_of kind.CloseBracket text = close_bracket
-sign_of kind.Finish text = finish
-
--- the text of a token
-abbrev pub text_of : List ℕ → Token → List ℕ
-text_of bytes token = take (token.until - token.from) (drop token.from bytes)
-
--- what a token of the lexer stands for
-abbrev pub lexeme_of : List ℕ → Token → Lexeme
-lexeme_of bytes token = record { sign = sign_of token.kind (text_of bytes token); from = token.from; until = token.until }
-
--- what a fault of the lexer stands for
-abbrev pub broken_at : Fault → Lexeme
-broken_at f = record { sign = broken f.kind; from = f.at; until = f.at }

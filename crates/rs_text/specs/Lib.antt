@@ -4,12 +4,14 @@ pub mod Words
 pub mod Signs
 pub mod Lexemes
 pub mod Tokens
+pub mod Lexing
 pub mod Places
 pub mod Names
 pub mod Tables
 pub mod Sound
 pub mod Faults
 pub mod Arms
+pub mod ArmCuts
 pub mod Shown
 pub mod Seen
 pub mod FirstFaults

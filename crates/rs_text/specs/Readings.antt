@@ -8,7 +8,8 @@ use Rattle.rs_text.specs.declared.faults.Wanted.TheVariants as wanted
 use Rattle.rs_text.specs.declared.reading.Stop.{Stop}
 use Rattle.rs_text.specs.declared.reading.Stop.TheVariants as stops
 use Rattle.rs_text.specs.Faults.{kind_of}
-use Rattle.rs_text.specs.Lexemes.{Lexeme, Lexed}
+use Rattle.rs_text.specs.Lexemes.{Lexeme}
+use Rattle.rs_text.specs.Lexing.{Lexed}
 use Rattle.rs_text.specs.Signs.{Sign, broken}
 
 -- a kind of reader: what a token that isn't faulty makes of it, with the token's offset and the token behind it, and

@@ -3,7 +3,8 @@ ghost use Rattle.std.specs.Prelude.{◌≡◌, ◌≢◌, ◌≤◌, ◌↔◌, 
 ghost use Rattle.std.specs.Fmt.{decimal};
 ghost use Rattle.std.specs.List.{All, list_all};
 ghost use Rattle.rs_text.specs.Bytes.{is_blank, is_digit, is_word_byte};
-ghost use Rattle.rs_text.specs.Lexemes.{Lexeme, Lexed, is_last, next_lexeme, signs_of};
+ghost use Rattle.rs_text.specs.Lexemes.{Lexeme, is_last, signs_of};
+ghost use Rattle.rs_text.specs.Lexing.{Lexed, next_lexeme};
 ghost use Rattle.rs_text.specs.Names.{place_of, is_among, grown, StandsFirst};
 ghost use Rattle.rs_text.specs.Signs.{Sign, finish, number, plain, word_sign};
 ghost use Rattle.rs_text.specs.Sound.{differ};

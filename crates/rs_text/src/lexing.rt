@@ -1,6 +1,7 @@
 ghost use Rattle.std.specs.Prelude.{◌≡◌, ◌+◌, ◌-◌, ◌*◌, ◌<◌, ◌≤◌, ◌∷◌, [], length, take, drop, nat_lt, if◌then◌else◌, Some, None, OnErr, IfErr, IfOk, IfSome, IfNone, false, true};
 ghost use Rattle.rs_text.specs.Bytes as bytes;
-ghost use Rattle.rs_text.specs.Lexemes.{front, front_of, mark_front, word_front, number_front, sign_of, skipped, word_length, number_length, value_behind, value_of, next_lexeme, lexeme_of, broken_at};
+ghost use Rattle.rs_text.specs.Lexemes.{value_behind, value_of};
+ghost use Rattle.rs_text.specs.Lexing.{front, front_of, mark_front, word_front, number_front, sign_of, skipped, word_length, number_length, next_lexeme, lexeme_of, broken_at};
 ghost use Rattle.rs_text.specs.Signs.{broken};
 ghost use Rattle.rs_text.specs.declared.tokens.FaultKind.TheVariants as fault;
 

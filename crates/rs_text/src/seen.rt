@@ -2,7 +2,7 @@
 
 ghost use Rattle.std.specs.Prelude.{◌≡◌, ◌≤◌, length, Some, None, IfSome, IfNone};
 ghost use Rattle.rs_model.specs.declared.limits.TheConstants.{MOST_LABELS, MOST_ROLES};
-ghost use Rattle.rs_text.specs.Lexemes.{sign_of, text_of};
+ghost use Rattle.rs_text.specs.Lexing.{sign_of, text_of};
 ghost use Rattle.rs_text.specs.Names.{place_of, is_among};
 ghost use Rattle.rs_text.specs.Seen.{plain_text, word_text, sort_named};
 

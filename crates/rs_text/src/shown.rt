@@ -1,7 +1,8 @@
 //! How printers write names and sorts.
 
 ghost use Rattle.std.specs.Prelude.{◌≡◌, ◌++◌, OnOk};
-ghost use Rattle.rs_text.specs.Shown.{name_at, shown_sort, shown_text};
+ghost use Rattle.rs_text.specs.Names.{name_at};
+ghost use Rattle.rs_text.specs.Shown.{shown_sort, shown_text};
 
 use crate::output::Text;
 use rs_model::{Name, NoMemory, Sort};

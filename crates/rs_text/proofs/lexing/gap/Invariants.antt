@@ -1,5 +1,5 @@
 use Rattle.std.proofs.Common.{◌≡◌, ◌+◌, ◌-◌, ◌≤◌, length, false}
-use Rattle.rs_text.specs.Lexemes.{skipped}
+use Rattle.rs_text.specs.Lexing.{skipped}
 use Rattle.rs_text.proofs.lexing.gap.Given as goal
 
 abbrev pub invariant-loop-rest : goal.invariant-loop-rest

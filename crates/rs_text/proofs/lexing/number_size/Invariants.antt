@@ -1,5 +1,5 @@
 use Rattle.std.proofs.Common.{◌≡◌, ◌+◌, drop}
-use Rattle.rs_text.specs.Lexemes.{number_length}
+use Rattle.rs_text.specs.Lexing.{number_length}
 use Rattle.rs_text.proofs.lexing.number_size.Given as goal
 
 abbrev pub invariant-loop-place : goal.invariant-loop-place

@@ -1,5 +1,5 @@
 use Rattle.std.proofs.Common.{◌≡◌, ◌+◌, drop}
-use Rattle.rs_text.specs.Lexemes.{word_length}
+use Rattle.rs_text.specs.Lexing.{word_length}
 use Rattle.rs_text.proofs.lexing.word_size.Given as goal
 
 abbrev pub invariant-loop-place : goal.invariant-loop-place
