@@ -24,7 +24,7 @@ use Rattle.rs_text.specs.Shown.{shown_sort}
 use Rattle.rs_text.specs.Sound.{IsSound}
 use Rattle.rs_text.specs.Words.{is_word, is_role_word}
 use Rattle.rs_text.proofs.Naming.{place_law, among}
-use Rattle.rs_text.proofs.Nexts.{exists, are_lexed, end_again}
+use Rattle.rs_text.proofs.Nexts.{exists, are_lexed, end_again, lexed_are}
 use Rattle.rs_text.proofs.Written.{written_cut}
 use Rattle.rs_derivations.specs.Canonical.{tree_of_act, tree_of_node, tree_of, canonical_text}
 use Rattle.rs_derivations.specs.Derivations.{labels_of_acts, labels_of_node, labels_of_nodes, peers_of_acts, peers_of_node, peers_of_nodes, names_of, role_named, label_named, act_of, node_of, derivation_of}
@@ -229,7 +229,7 @@ spells_with (l ∷ ls) bytes at old names d rest w f parts lexed =
       lexemes = c.cut;
       behind = l;
       others = ls;
-      lexed = c.lexed;
+      tokens = lexed_are bytes (c.cut ++ l ∷ ls) at c.lexed;
       spelt = c.signs_are;
       fits = f;
       names_are = refl;

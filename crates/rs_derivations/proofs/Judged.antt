@@ -35,6 +35,7 @@ use Rattle.rs_derivations.proofs.Fitting.{FitsSo, fits_first, fits_on, fits_back
 use Rattle.rs_derivations.proofs.Grows.{Grown, stays, closes, number_step, act_step, label_step, grown_to, role_step, node_grows, grows, GoesOn, goes_on}
 use Rattle.rs_derivations.proofs.Paths.{along, path, one_place, completes, stuck, no_further}
 use Rattle.rs_derivations.proofs.Standings.{stand, told, says}
+use Rattle.rs_text.proofs.Nexts.{lexed_are}
 
 -- ---- what is known of the reader
 
@@ -321,7 +322,7 @@ spelt_by old bytes at ls x lexed h =
       lexemes = h.xs;
       behind = h.l;
       others = h.others;
-      lexed = subst (Lexed bytes at) h.split lexed;
+      tokens = lexed_are bytes (h.xs ++ h.l ∷ h.others) at (subst (Lexed bytes at) h.split lexed);
       spelt = sym s.signs ∙ ap cut_signs e.1;
       fits = fits_of old e.0 (subst IsPlace e.1 s.right) (subst (FitsSo old) e.1 s.fits);
       names_are = ap names_read reader;

@@ -11,7 +11,7 @@ use Rattle.rs_text.specs.Readings.{Reading, ReadsBy, read_all, last_of}
 use Rattle.rs_text.proofs.Judging as judging
 use Rattle.rs_text.proofs.Judging.{found, first_of}
 use Rattle.rs_text.proofs.Keeping.{tokens}
-use Rattle.rs_text.proofs.Nexts.{one_list}
+use Rattle.rs_text.proofs.Nexts.{one_list, are_lexed}
 use Rattle.rs_derivations.specs.Cuts.{at_end}
 use Rattle.rs_derivations.specs.Data.{Reader_data}
 use Rattle.rs_derivations.specs.Derivations.{derivation_of, names_of}
@@ -73,13 +73,13 @@ reader_spells old new bytes at until d s = (sym s.names_are, ap (λ z. derivatio
 -- what is spelt is read, whichever list of its tokens is taken
 pub spelt_reads : (old new : Names_data) (bytes : List ℕ) (at until : ℕ) (d : Derivation_data) (s : SpellsDerivation bytes at old new d until) → ReadsBy feeding (begin old) bytes at (good (stand old (at_end s.tree)) until)
 spelt_reads old new bytes at until d s ls lexed =
-    ap (λ z. read_all feeding (Ok (begin old)) z) (one_list bytes ls (s.lexemes ++ s.behind ∷ s.others) at lexed s.lexed) ∙ complete old new bytes at d until s ∙ ap (λ z. good (stand old (at_end s.tree)) z) (sym s.goes_on)
+    ap (λ z. read_all feeding (Ok (begin old)) z) (one_list bytes ls (s.lexemes ++ s.behind ∷ s.others) at lexed (are_lexed bytes (s.lexemes ++ s.behind ∷ s.others) at s.tokens)) ∙ complete old new bytes at d until s ∙ ap (λ z. good (stand old (at_end s.tree)) z) (sym s.goes_on)
 
 -- a text spells one derivation at most
 pub one_spelling : (old new other : Names_data) (bytes : List ℕ) (at until stop : ℕ) (d e : Derivation_data) → SpellsDerivation bytes at old new d until → SpellsDerivation bytes at old other e stop → (new ≡ other) × (d ≡ e) × (until ≡ stop)
 one_spelling old new other bytes at until stop d e s k =
     let ls : List Lexeme = s.lexemes ++ s.behind ∷ s.others in
-    let same = good_is (stand old (at_end s.tree)) (stand old (at_end k.tree)) until stop (sym (spelt_reads old new bytes at until d s ls s.lexed) ∙ spelt_reads old other bytes at stop e k ls s.lexed) in
+    let same = good_is (stand old (at_end s.tree)) (stand old (at_end k.tree)) until stop (sym (spelt_reads old new bytes at until d s ls (are_lexed bytes ls at s.tokens)) ∙ spelt_reads old other bytes at stop e k ls (are_lexed bytes ls at s.tokens)) in
     let a = reader_spells old new bytes at until d s in
     let b = reader_spells old other bytes at stop e k in
     (sym a.0 ∙ ap names_read same.0 ∙ b.0, sym a.1 ∙ ap derivation_read same.0 ∙ b.1, same.1)

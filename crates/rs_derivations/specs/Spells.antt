@@ -5,7 +5,7 @@ use Rattle.rs_model.specs.Data.{Names_data}
 use Rattle.rs_model.specs.declared.limits.TheConstants.{MOST_LABELS, MOST_BOUND, MOST_CANDIDATES}
 use Rattle.rs_derive.specs.Data.{Derivation_data}
 use Rattle.rs_text.specs.Lexemes.{Lexeme, signs_of}
-use Rattle.rs_text.specs.Lexing.{Lexed}
+use Rattle.rs_text.specs.Tokens.{AreTokens}
 use Rattle.rs_text.specs.Names.{is_among, grown}
 use Rattle.rs_derivations.specs.Derivations.{derivation_of, labels_of_nodes, peers_of_nodes, names_of}
 use Rattle.rs_derivations.specs.Trees.{NodeTree, DerivationTree, derivation_signs}
@@ -36,7 +36,7 @@ pub record SpellsDerivation (bytes : List ℕ) (at : ℕ) (old new : Names_data)
   pub lexemes : List Lexeme
   pub behind : Lexeme
   pub others : List Lexeme
-  pub lexed : Lexed bytes at (lexemes ++ behind ∷ others)
+  pub tokens : AreTokens bytes at (lexemes ++ behind ∷ others)
   pub spelt : signs_of lexemes ≡ derivation_signs tree
   pub fits : Fits old tree
   pub names_are : new ≡ names_of old tree

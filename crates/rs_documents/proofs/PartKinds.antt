@@ -13,7 +13,7 @@ use Rattle.rs_derive.specs.Data.{Derivation_data}
 use Rattle.rs_global.specs.Spells.{SpellsProtocol}
 use Rattle.rs_machines.specs.Spells.{SpellsMachine}
 use Rattle.rs_machines.proofs.Spelt as machines
-use Rattle.rs_text.proofs.Nexts.{within, next_is_next}
+use Rattle.rs_text.proofs.Nexts.{within, next_is_next, are_lexed}
 use Rattle.rs_text.specs.Lexemes.{Lexeme, is_last}
 use Rattle.rs_text.specs.Lexing.{Lexed, next_lexeme}
 use Rattle.rs_text.specs.Names.{is_among, number_or, place_of}
@@ -46,14 +46,14 @@ lexed_within bytes (x ∷ z ∷ ls) at b others le h =
     lexed_within bytes (z ∷ ls) x.until b others (subst (λ (l : Lexeme). l.until ≤ length bytes) (sym h.0) (until_within bytes at le)) (h.2 last)
 
 pub protocol_within : (bytes : List ℕ) (names : Names_data) (protocol : Protocol_data) (until : ℕ) → SpellsProtocol bytes 0 names protocol until → until ≤ length bytes
-protocol_within bytes names protocol until s = subst (λ (n : ℕ). n ≤ length bytes) (sym s.goes_on) (lexed_within bytes s.lexemes 0 s.behind s.others (omega arith) s.lexed)
+protocol_within bytes names protocol until s = subst (λ (n : ℕ). n ≤ length bytes) (sym s.goes_on) (lexed_within bytes s.lexemes 0 s.behind s.others (omega arith) (are_lexed bytes (s.lexemes ++ s.behind ∷ s.others) 0 s.tokens))
 
 -- machines
 machine_within : (bytes : List ℕ) (at : ℕ) (old new : Names_data) (machine : Machine_data) (until : ℕ) → at ≤ length bytes → SpellsMachine bytes at old new machine until → until ≤ length bytes
-machine_within bytes at old new machine until le s = subst (λ (n : ℕ). n ≤ length bytes) (sym s.goes_on) (lexed_within bytes s.lexemes at s.behind s.others le s.lexed)
+machine_within bytes at old new machine until le s = subst (λ (n : ℕ). n ≤ length bytes) (sym s.goes_on) (lexed_within bytes s.lexemes at s.behind s.others le (are_lexed bytes (s.lexemes ++ s.behind ∷ s.others) at s.tokens))
 
 pub machine_begins : (bytes : List ℕ) (at : ℕ) (old new : Names_data) (machine : Machine_data) (until : ℕ) → SpellsMachine bytes at old new machine until → StandsAt bytes at (plain (codes "machine"))
-machine_begins bytes at old new machine until s = first_sign bytes at s.lexemes (s.behind ∷ s.others) (plain (codes "machine")) (plain s.tree.role ∷ colon ∷ body_signs Acts s.tree.body) s.spelt s.lexed
+machine_begins bytes at old new machine until s = first_sign bytes at s.lexemes (s.behind ∷ s.others) (plain (codes "machine")) (plain s.tree.role ∷ colon ∷ body_signs Acts s.tree.body) s.spelt (are_lexed bytes (s.lexemes ++ s.behind ∷ s.others) at s.tokens)
 
 pub machine_role : (bytes : List ℕ) (at : ℕ) (old new : Names_data) (machine : Machine_data) (until : ℕ) → SpellsMachine bytes at old new machine until → RoleStands bytes at old machine.role
 machine_role bytes at old new machine until s =
@@ -62,7 +62,7 @@ machine_role bytes at old new machine until s =
     record {
       name = s.tree.role;
       place = p.0;
-      word = second_sign bytes at s.lexemes (s.behind ∷ s.others) (plain (codes "machine")) (plain s.tree.role) (colon ∷ body_signs Acts s.tree.body) refl s.spelt s.lexed;
+      word = second_sign bytes at s.lexemes (s.behind ∷ s.others) (plain (codes "machine")) (plain s.tree.role) (colon ∷ body_signs Acts s.tree.body) refl s.spelt (are_lexed bytes (s.lexemes ++ s.behind ∷ s.others) at s.tokens);
       known = p.1;
       few = omega (arith, lt);
       is = ap (λ (m : Machine_data). m.role.0) s.machine_is ∙ ap number_or p.1;
@@ -94,10 +94,10 @@ first_known false b e = absurd cc
 
 -- derivations
 derivation_within : (bytes : List ℕ) (at : ℕ) (old new : Names_data) (derivation : Derivation_data) (until : ℕ) → at ≤ length bytes → SpellsDerivation bytes at old new derivation until → until ≤ length bytes
-derivation_within bytes at old new derivation until le s = subst (λ (n : ℕ). n ≤ length bytes) (sym s.goes_on) (lexed_within bytes s.lexemes at s.behind s.others le s.lexed)
+derivation_within bytes at old new derivation until le s = subst (λ (n : ℕ). n ≤ length bytes) (sym s.goes_on) (lexed_within bytes s.lexemes at s.behind s.others le (are_lexed bytes (s.lexemes ++ s.behind ∷ s.others) at s.tokens))
 
 derivation_begins : (bytes : List ℕ) (at : ℕ) (old new : Names_data) (derivation : Derivation_data) (until : ℕ) → SpellsDerivation bytes at old new derivation until → StandsAt bytes at (plain (codes "derivation"))
-derivation_begins bytes at old new derivation until s = first_sign bytes at s.lexemes (s.behind ∷ s.others) (plain (codes "derivation")) _ s.spelt s.lexed
+derivation_begins bytes at old new derivation until s = first_sign bytes at s.lexemes (s.behind ∷ s.others) (plain (codes "derivation")) _ s.spelt (are_lexed bytes (s.lexemes ++ s.behind ∷ s.others) at s.tokens)
 
 derivation_role : (bytes : List ℕ) (at : ℕ) (old new : Names_data) (derivation : Derivation_data) (until : ℕ) → SpellsDerivation bytes at old new derivation until → RoleStands bytes at old derivation.role
 derivation_role bytes at old new derivation until s =
@@ -107,7 +107,7 @@ derivation_role bytes at old new derivation until s =
     record {
       name = s.tree.role;
       place = p.0;
-      word = second_sign bytes at s.lexemes (s.behind ∷ s.others) (plain (codes "derivation")) (plain s.tree.role) _ refl s.spelt s.lexed;
+      word = second_sign bytes at s.lexemes (s.behind ∷ s.others) (plain (codes "derivation")) (plain s.tree.role) _ refl s.spelt (are_lexed bytes (s.lexemes ++ s.behind ∷ s.others) at s.tokens);
       known = p.1;
       few = omega (arith, lt);
       is = ap (λ (d : Derivation_data). d.role.0) s.derivation_is ∙ ap (λ (z : Names_data). number_or (place_of s.tree.role z.roles)) s.names_are ∙ ap number_or p.1;

@@ -29,7 +29,7 @@ use Rattle.rs_model.specs.declared.limits.TheConstants.{MOST_NUMBER}
 use Rattle.rs_text.proofs.Basics.{both, two_true}
 use Rattle.rs_text.proofs.Gaps.{true_or_false}
 use Rattle.rs_text.proofs.Naming.{decides_sound, grown_all, grown_differ}
-use Rattle.rs_text.proofs.Nexts.{next_is_next, plain_law}
+use Rattle.rs_text.proofs.Nexts.{next_is_next, plain_law, are_lexed}
 use Rattle.rs_text.proofs.Written.{role_is_word}
 use Rattle.rs_text.specs.Arms.{arm_signs}
 use Rattle.rs_text.specs.Lexemes.{Lexeme, is_last, signs_of}
@@ -146,7 +146,7 @@ sound_grown old labels sound words =
 
 machine_sound : (bytes : List ℕ) (at : ℕ) (old new : Names_data) (machine : Machine_data) (until : ℕ) → SpellsMachine bytes at old new machine until → IsSound old → IsSound new
 machine_sound bytes at old new machine until s sound =
-    let t : AreGood (machine_signs s.tree) = subst AreGood s.spelt (record { all = tokens_are_good bytes s.lexemes at s.behind s.others s.lexed }) in
+    let t : AreGood (machine_signs s.tree) = subst AreGood s.spelt (record { all = tokens_are_good bytes s.lexemes at s.behind s.others (are_lexed bytes (s.lexemes ++ s.behind ∷ s.others) at s.tokens) }) in
     let words : AreWords (labels_of Acts s.tree.body) = body_words s.tree.body (tail_good _ _ (tail_good (plain s.tree.role) _ (tail_good (plain (codes "machine")) _ t))) in
     subst IsSound (sym s.names_are) (sound_grown old (labels_of Acts s.tree.body) sound words)
 
@@ -207,7 +207,7 @@ nodes_small new k (n ∷ ns) h = All-cons HasSmallNumbers (node_of new n) (map (
 
 derivation_signs_good : (bytes : List ℕ) (at : ℕ) (old new : Names_data) (d : Derivation_data) (until : ℕ) (s : SpellsDerivation bytes at old new d until) → AreGood (nodes_signs 0 s.tree.nodes)
 derivation_signs_good bytes at old new d until s =
-    let t : AreGood (derivation_signs s.tree) = subst AreGood s.spelt (record { all = tokens_are_good bytes s.lexemes at s.behind s.others s.lexed }) in
+    let t : AreGood (derivation_signs s.tree) = subst AreGood s.spelt (record { all = tokens_are_good bytes s.lexemes at s.behind s.others (are_lexed bytes (s.lexemes ++ s.behind ∷ s.others) at s.tokens) }) in
     front_good (nodes_signs 0 s.tree.nodes) (signs.close_brace ∷ []) (back_good (head_signs s.tree.role s.tree.bound) (nodes_signs 0 s.tree.nodes ++ signs.close_brace ∷ []) t)
 
 derivation_sound : (bytes : List ℕ) (at : ℕ) (old new : Names_data) (d : Derivation_data) (until : ℕ) → SpellsDerivation bytes at old new d until → IsSound old → IsSound new

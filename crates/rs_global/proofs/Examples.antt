@@ -17,6 +17,7 @@ use Rattle.rs_bodies.specs.declared.dialects.Dialect.TheVariants.{Talks}
 use Rattle.rs_global.specs.Graph.{graph_of, names_of}
 use Rattle.rs_global.specs.Examples.{text, tree}
 use Rattle.rs_global.specs.Spells.{SpellsProtocol}
+use Rattle.rs_text.proofs.Nexts.{lexed_are}
 
 abbrev lexeme : Sign → ℕ → ℕ → Lexeme
 lexeme sign from until = record { sign = sign; from = from; until = until }
@@ -64,7 +65,7 @@ spelt = record {
   lexemes = lexemes;
   behind = lexeme finish 51 51;
   others = [];
-  lexed = lexed;
+  tokens = lexed_are text (lexemes ++ lexeme finish 51 51 ∷ []) 0 lexed;
   spelt = refl;
   settled = λ k. absurd (cc k);
   fits = record { roles_differ = refl; few_roles = omega arith; body = refl };

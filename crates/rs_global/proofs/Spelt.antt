@@ -35,6 +35,7 @@ use Rattle.rs_global.specs.Parts.{node_at, graph_spelt}
 use Rattle.rs_global.specs.Spells.{SpellsProtocol}
 use Rattle.rs_global.specs.Trees.{ProtocolTree, protocol_signs, roles_of}
 use Rattle.rs_global.specs.Parts.{part_of}
+use Rattle.rs_text.proofs.Nexts.{lexed_are, are_lexed}
 
 -- ---- heads are talks
 
@@ -73,7 +74,7 @@ to_protocol bytes at names s until k =
       lexemes = k.lexemes;
       behind = k.behind;
       others = k.others;
-      lexed = k.lexed;
+      tokens = lexed_are bytes (k.lexemes ++ k.behind ∷ k.others) at k.lexed;
       spelt = k.spelt ∙ ap (λ z. tree_signs Talks z) (sym b.1) ∙ signs_are t;
       settled = subst (λ (z : Tree Talks). ends_by_name Talks z.body ≡ true → ends_a_name Talks k.behind.sign ≡ true) (sym b.1) k.settled;
       fits = record { roles_differ = fits.opening.0; few_roles = fits.opening.1; body = fits.body };
@@ -98,7 +99,7 @@ of_part bytes at names protocol until k = record {
   lexemes = k.lexemes;
   behind = k.behind;
   others = k.others;
-  lexed = k.lexed;
+  lexed = are_lexed bytes (k.lexemes ++ k.behind ∷ k.others) at k.tokens;
   spelt = k.spelt ∙ sym (signs_are k.tree);
   settled = k.settled;
   fits = record { opening = (k.fits.roles_differ, k.fits.few_roles); body = k.fits.body };
@@ -161,7 +162,7 @@ complete bytes at names protocol until k = λ ls lexed.
 pub one_spelling : (bytes : List ℕ) (at : ℕ) (names others : Names_data) (protocol other : Protocol_data) (until stop : ℕ) → SpellsProtocol bytes at names protocol until → SpellsProtocol bytes at others other stop → (names ≡ others) × (protocol ≡ other) × (until ≡ stop)
 one_spelling bytes at names others protocol other until stop s k =
     let ls = s.lexemes ++ s.behind ∷ s.others in
-    let same : answer names protocol until ≡ answer others other stop = good_is (answer names protocol until) (answer others other stop) (sym (complete bytes at names protocol until s ls s.lexed) ∙ complete bytes at others other stop k ls s.lexed) in
+    let same : answer names protocol until ≡ answer others other stop = good_is (answer names protocol until) (answer others other stop) (sym (complete bytes at names protocol until s ls (are_lexed bytes ls at s.tokens)) ∙ complete bytes at others other stop k ls (are_lexed bytes ls at s.tokens)) in
     (ap (λ z. z.names) same, ap (λ z. z.protocol) same, ap (λ z. z.until) same)
 
 abbrev SpeltOrFaulty : List ℕ → ℕ → Type 0

@@ -3,7 +3,7 @@ use Rattle.std.specs.Prelude.{◌≡◌, ℕ, ◌≤◌, List, [], ◌∷◌, �
 use Rattle.rs_model.specs.declared.limits.TheConstants.{MOST_ROLES}
 use Rattle.rs_model.specs.Data.{Protocol_data, Names_data}
 use Rattle.rs_text.specs.Lexemes.{Lexeme, signs_of}
-use Rattle.rs_text.specs.Lexing.{Lexed}
+use Rattle.rs_text.specs.Tokens.{AreTokens}
 use Rattle.rs_text.specs.Sound.{differ}
 use Rattle.rs_bodies.specs.declared.dialects.Dialect.TheVariants.{Talks}
 use Rattle.rs_bodies.specs.Scenes.{first_scene}
@@ -24,7 +24,7 @@ pub record SpellsProtocol (bytes : List ℕ) (at : ℕ) (names : Names_data) (pr
   pub lexemes : List Lexeme
   pub behind : Lexeme
   pub others : List Lexeme
-  pub lexed : Lexed bytes at (lexemes ++ behind ∷ others)
+  pub tokens : AreTokens bytes at (lexemes ++ behind ∷ others)
   pub spelt : signs_of lexemes ≡ protocol_signs tree
   pub settled : ends_by_name Talks tree.body ≡ true → ends_a_name Talks behind.sign ≡ true
   pub fits : Fits tree

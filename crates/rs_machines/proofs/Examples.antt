@@ -18,6 +18,7 @@ use Rattle.rs_bodies.specs.declared.dialects.Dialect.TheVariants.{Acts}
 use Rattle.rs_machines.specs.Machines.{machine_of, names_of}
 use Rattle.rs_machines.specs.Examples.{text, old, tree}
 use Rattle.rs_machines.specs.Spells.{SpellsMachine}
+use Rattle.rs_text.proofs.Nexts.{lexed_are}
 
 abbrev lexeme : Sign → ℕ → ℕ → Lexeme
 lexeme sign from until = record { sign = sign; from = from; until = until }
@@ -62,7 +63,7 @@ spelt = record {
   lexemes = lexemes;
   behind = lexeme finish 41 41;
   others = [];
-  lexed = lexed;
+  tokens = lexed_are text (lexemes ++ lexeme finish 41 41 ∷ []) 0 lexed;
   spelt = refl;
   settled = λ k. absurd (cc k);
   fits = record { role = refl; body = refl };

@@ -1,5 +1,5 @@
 -- The names with the labels of a whole machine are those of some first tokens of its text.
-use Rattle.std.proofs.Common.{◌≡◌, ◌∙◌, ℕ, List, ◌∷◌, false, inl, sym, ap}
+use Rattle.std.proofs.Common.{◌≡◌, ◌∙◌, ℕ, List, ◌∷◌, ◌++◌, false, inl, sym, ap}
 use Rattle.rs_model.specs.Data.{Names_data}
 use Rattle.rs_text.specs.Lexemes.{signs_of}
 use Rattle.rs_text.specs.Names.{grown}
@@ -14,6 +14,7 @@ use Rattle.rs_machines.specs.Parts.{machine_spelt}
 use Rattle.rs_machines.specs.Spells.{SpellsMachine}
 use Rattle.rs_machines.proofs.Spelt.{to_machine}
 use Rattle.rs_machines.proofs.TreeLabels.{tree_labels}
+use Rattle.rs_text.proofs.Nexts.{are_lexed}
 
 pub spelt_leaves : (bytes : List ℕ) (at : ℕ) (old new : Names_data) (s : Spelling_data) (until : ℕ) (k : TextKind) (offset : ℕ) → k ≡ kind.NoMemory → Spells Acts bytes at old new s until → LeavesLabels old new bytes at k offset
 spelt_leaves bytes at old new s until k offset e spelt =
@@ -24,7 +25,7 @@ spelt_leaves bytes at old new s until k offset e spelt =
       record {
         before = m.lexemes;
         others = m.behind ∷ m.others;
-        lexed = m.lexed;
+        lexed = are_lexed bytes (m.lexemes ++ m.behind ∷ m.others) at m.tokens;
         names_are = m.names_are ∙ ap (λ z. record { roles = old.roles; labels = grown old.labels z }) labels;
       },
     )

@@ -31,6 +31,7 @@ use Rattle.rs_machines.specs.Parts.{state_at, machine_spelt}
 use Rattle.rs_machines.specs.Spells.{SpellsMachine}
 use Rattle.rs_machines.specs.Trees.{MachineTree}
 use Rattle.rs_machines.specs.Parts.{part_of}
+use Rattle.rs_text.proofs.Nexts.{lexed_are, are_lexed}
 
 -- ---- heads are states
 
@@ -61,7 +62,7 @@ to_machine bytes at old new s until k =
       lexemes = k.lexemes;
       behind = k.behind;
       others = k.others;
-      lexed = k.lexed;
+      tokens = lexed_are bytes (k.lexemes ++ k.behind ∷ k.others) at k.lexed;
       spelt = k.spelt ∙ ap (λ z. tree_signs Acts z) (sym b.1);
       settled = subst (λ (z : Tree Acts). ends_by_name Acts z.body ≡ true → ends_a_name Acts k.behind.sign ≡ true) (sym b.1) k.settled;
       fits = record { role = fits.opening; body = fits.body };
@@ -80,7 +81,7 @@ of_part bytes at old new machine until k = record {
   lexemes = k.lexemes;
   behind = k.behind;
   others = k.others;
-  lexed = k.lexed;
+  lexed = are_lexed bytes (k.lexemes ++ k.behind ∷ k.others) at k.tokens;
   spelt = k.spelt;
   settled = k.settled;
   fits = record { opening = k.fits.role; body = k.fits.body };
@@ -142,7 +143,7 @@ complete old bytes at names machine until k = λ ls lexed.
 pub one_spelling : (old : Names_data) (bytes : List ℕ) (at : ℕ) (names others : Names_data) (machine other : Machine_data) (until stop : ℕ) → SpellsMachine bytes at old names machine until → SpellsMachine bytes at old others other stop → (names ≡ others) × (machine ≡ other) × (until ≡ stop)
 one_spelling old bytes at names others machine other until stop s k =
     let ls = s.lexemes ++ s.behind ∷ s.others in
-    let same : answer names machine until ≡ answer others other stop = good_is (answer names machine until) (answer others other stop) (sym (complete old bytes at names machine until s ls s.lexed) ∙ complete old bytes at others other stop k ls s.lexed) in
+    let same : answer names machine until ≡ answer others other stop = good_is (answer names machine until) (answer others other stop) (sym (complete old bytes at names machine until s ls (are_lexed bytes ls at s.tokens)) ∙ complete old bytes at others other stop k ls (are_lexed bytes ls at s.tokens)) in
     (ap (λ z. z.names) same, ap (λ z. z.machine) same, ap (λ z. z.until) same)
 
 abbrev SpeltOrFaulty : (old : Names_data) → List ℕ → ℕ → Type 0

@@ -2,7 +2,7 @@
 use Rattle.std.specs.Prelude.{◌≡◌, ℕ, List, ◌∷◌, ◌++◌, true}
 use Rattle.rs_model.specs.Data.{Machine_data, Names_data}
 use Rattle.rs_text.specs.Lexemes.{Lexeme, signs_of}
-use Rattle.rs_text.specs.Lexing.{Lexed}
+use Rattle.rs_text.specs.Tokens.{AreTokens}
 use Rattle.rs_text.specs.Names.{is_among}
 use Rattle.rs_bodies.specs.declared.dialects.Dialect.TheVariants.{Acts}
 use Rattle.rs_bodies.specs.Scenes.{first_scene}
@@ -22,7 +22,7 @@ pub record SpellsMachine (bytes : List ℕ) (at : ℕ) (old new : Names_data) (m
   pub lexemes : List Lexeme
   pub behind : Lexeme
   pub others : List Lexeme
-  pub lexed : Lexed bytes at (lexemes ++ behind ∷ others)
+  pub tokens : AreTokens bytes at (lexemes ++ behind ∷ others)
   pub spelt : signs_of lexemes ≡ machine_signs tree
   pub settled : ends_by_name Acts tree.body ≡ true → ends_a_name Acts behind.sign ≡ true
   pub fits : Fits old tree
