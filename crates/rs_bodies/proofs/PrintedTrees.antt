@@ -5,11 +5,11 @@ use Rattle.std.specs.List.{All, flat_map}
 use Rattle.rs_model.specs.Data.{Names_data}
 use Rattle.rs_text.specs.Arms.{arm_signs}
 use Rattle.rs_text.specs.Shown.{arm_text}
-use Rattle.rs_text.specs.Bytes.{is_word_byte}
+use Rattle.rs_text.specs.Bytes.{is_word_byte, begins}
 use Rattle.rs_text.specs.Lexemes.{Lexeme}
 use Rattle.rs_text.specs.Lexing.{Lexed, next_lexeme}
 use Rattle.rs_text.specs.Signs.{Sign, plain, arrow, bang, question, colon, dot, comma, open_brace, close_brace, finish}
-use Rattle.rs_text.specs.Words.{begins, is_role_word}
+use Rattle.rs_text.specs.Words.{is_role_word}
 use Rattle.rs_text.specs.Writing.{IsWritten}
 use Rattle.rs_text.proofs.Arms.{arm_written}
 use Rattle.rs_text.proofs.Nexts.{exists, are_lexed, end_again}

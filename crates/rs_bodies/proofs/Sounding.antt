@@ -9,7 +9,7 @@ use Rattle.rs_text.specs.declared.faults.TextKind.TheVariants as kind
 use Rattle.rs_text.specs.declared.faults.Wanted.{Wanted}
 use Rattle.rs_text.specs.declared.faults.Wanted.TheVariants as wanted
 use Rattle.rs_text.specs.Lexemes.{Lexeme}
-use Rattle.rs_text.specs.Names.{place_of, bound_to, is_among}
+use Rattle.rs_text.specs.Names.{place_of, bound_to, is_among, differ}
 use Rattle.rs_text.specs.Signs.{Sign, rec_word, end_word, plain, arrow, bang, question, colon, dot, comma, open_brace, close_brace, open_paren, close_paren, broken}
 use Rattle.rs_text.specs.Seen.{sort_named, plain_text, word_text, is_text}
 use Rattle.rs_text.specs.Readings.{feed_sign}
@@ -30,7 +30,7 @@ use Rattle.rs_model.specs.Data.{Names_data}
 use Rattle.rs_text.specs.declared.tokens.Token.{Token}
 use Rattle.rs_text.specs.Data.{Lexer_data}
 use Rattle.rs_text.specs.Lexing.{next_lexeme, lexeme_of, sign_of, text_of}
-use Rattle.rs_text.specs.Sound.{differ, IsSound}
+use Rattle.rs_text.specs.Sound.{IsSound}
 use Rattle.rs_text.specs.Tokens.{IsNext}
 use Rattle.rs_text.specs.Words.{is_word, is_role_word}
 use Rattle.rs_text.proofs.Basics.{some_is}

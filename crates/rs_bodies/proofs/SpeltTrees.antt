@@ -13,8 +13,7 @@ use Rattle.rs_bodies.specs.declared.dialects.Dialect.TheVariants.{Talks, Acts}
 use Rattle.rs_bodies.specs.declared.reading.Link.TheVariants as link
 use Rattle.rs_bodies.specs.declared.reading.Mode.{Mode}
 use Rattle.rs_bodies.specs.declared.reading.Mode.TheVariants as mode
-use Rattle.rs_text.specs.Names.{place_of, is_among, grown, number_or, Bound}
-use Rattle.rs_text.specs.Sound.{differ}
+use Rattle.rs_text.specs.Names.{place_of, is_among, grown, number_or, Bound, differ}
 use Rattle.rs_text.specs.Signs.{Sign, plain, colon, comma}
 use Rattle.rs_text.proofs.Gaps.{true_or_false}
 use Rattle.rs_text.proofs.Naming.{among, not_among, grown_differ}

@@ -3,8 +3,8 @@ use Rattle.std.proofs.Common.{◌≡◌, ℕ, List, true, ◌&&◌, Some}
 use Rattle.std.specs.List.{list_all}
 use Rattle.rs_model.specs.Data.{Names_data}
 use Rattle.rs_text.proofs.Naming.{decides_sound, at_among, place_at}
-use Rattle.rs_text.specs.Names.{is_among, place_of}
-use Rattle.rs_text.specs.Sound.{differ, IsSound}
+use Rattle.rs_text.specs.Names.{is_among, place_of, differ}
+use Rattle.rs_text.specs.Sound.{IsSound}
 use Rattle.rs_text.specs.Words.{is_word, is_role_word}
 use Rattle.rs_bodies.proofs.CanonForms.{Writing, role_as, label_as, HasRole, HasLabel, role_stands, label_stands}
 use Rattle.rs_text.proofs.Basics.{both}

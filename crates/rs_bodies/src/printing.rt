@@ -1,6 +1,6 @@
 ghost use Rattle.std.specs.Prelude.{◌≡◌, ◌<◌, ◌≤◌, ◌^◌, ◌+◌, ◌++◌, ◌∷◌, [], List, ℕ, drop, false, get_or, length, replicate, slice_get, IfNone, IfOk, IfSome, None, OnOk};
 ghost use Rattle.rs_model.specs.declared.limits.TheConstants.{MOST_TALKS};
-ghost use Rattle.rs_text.specs.Names.{name_at};
+ghost use Rattle.rs_text.specs.NamePlaces.{name_at};
 ghost use Rattle.rs_text.specs.Shown.{shown_sort, shown_text};
 ghost use Rattle.rs_bodies.specs.Canonical.{Draws, IsSpelt};
 ghost use Rattle.rs_bodies.specs.Places.{name_of_place};

@@ -1,7 +1,7 @@
 //! The actors of the demos.
 
 ghost use Rattle.std.specs.Prelude.{◌≡◌, ◌≢◌, ◌+ℤ◌, ◌-ℤ◌, [], IfOk, OnErr, OnOk};
-ghost use Rattle.rs_model.specs.Sorts.{serves, sort_number};
+ghost use Rattle.rs_model.specs.Serving.{serves, sort_number};
 ghost use Rattle.rs_demos.specs.Acting.{after_sending, butterfly_told, by_demo, arm_place, ring_told, sort_of, told_of, wanted};
 ghost use Rattle.rs_demos.specs.Choosing.{chooses-well};
 ghost use Rattle.rs_demos.specs.Results.{inverted, wrapped};

@@ -19,7 +19,8 @@ use Rattle.rs_derive.specs.Data.{DNode_data, Derivation_data}
 use Rattle.rs_text.specs.Arms.{sort_or_unit}
 use Rattle.rs_text.specs.Lexemes.{Lexeme}
 use Rattle.rs_text.specs.Lexing.{Lexed, next_lexeme}
-use Rattle.rs_text.specs.Names.{grown, is_among, place_of, number_or, StandsFirst, name_at, text_or_none}
+use Rattle.rs_text.specs.Names.{grown, is_among, place_of, number_or}
+use Rattle.rs_text.specs.NamePlaces.{StandsFirst, name_at, text_or_none}
 use Rattle.rs_text.specs.Shown.{shown_sort}
 use Rattle.rs_text.specs.Sound.{IsSound}
 use Rattle.rs_text.specs.Words.{is_word, is_role_word}

@@ -14,14 +14,14 @@ use Rattle.rs_prefix.specs.declared.earliest.Kind.{Kind}
 use Rattle.rs_prefix.specs.declared.earliest.Kind.TheVariants as act
 use Rattle.rs_derive.specs.Data.{DNode_data, Derivation_data}
 use Rattle.rs_text.specs.Arms.{sort_text, sort_signs, sort_or_unit}
-use Rattle.rs_text.specs.Bytes.{is_word_byte, is_digit}
+use Rattle.rs_text.specs.Bytes.{is_word_byte, is_digit, begins}
 use Rattle.rs_text.specs.Lexemes.{Lexeme}
 use Rattle.rs_text.specs.Lexing.{Lexed, next_lexeme}
-use Rattle.rs_text.specs.Names.{name_at}
+use Rattle.rs_text.specs.NamePlaces.{name_at}
 use Rattle.rs_text.specs.Shown.{shown_text, shown_sort}
 use Rattle.rs_text.specs.Signs.{Sign, plain, number, word_sign, bang, question, colon, comma, open_brace, close_brace, open_paren, close_paren, open_bracket, close_bracket, finish}
 use Rattle.rs_text.specs.Sound.{IsSound}
-use Rattle.rs_text.specs.Words.{begins, is_word, is_role_word}
+use Rattle.rs_text.specs.Words.{is_word, is_role_word}
 use Rattle.rs_text.specs.Writing.{IsWritten}
 use Rattle.rs_text.proofs.Written.{nothing_written, joined, before_blank, before_mark, before_word, before_role, before_number, written_cut}
 use Rattle.rs_text.proofs.Nexts.{exists, are_lexed, end_again}

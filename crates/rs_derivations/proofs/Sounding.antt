@@ -14,11 +14,11 @@ use Rattle.rs_text.specs.declared.tokens.Token.{Token}
 use Rattle.rs_text.specs.Data.{Lexer_data}
 use Rattle.rs_text.specs.Lexemes.{Lexeme}
 use Rattle.rs_text.specs.Lexing.{next_lexeme, lexeme_of, sign_of, text_of}
-use Rattle.rs_text.specs.Names.{place_of, is_among}
+use Rattle.rs_text.specs.Names.{place_of, is_among, differ}
 use Rattle.rs_text.specs.Readings.{fault, expected}
 use Rattle.rs_text.specs.Seen.{plain_text, word_text, sort_named}
 use Rattle.rs_text.specs.Signs.{Sign, rec_word, end_word, plain, number}
-use Rattle.rs_text.specs.Sound.{differ, IsSound}
+use Rattle.rs_text.specs.Sound.{IsSound}
 use Rattle.rs_text.specs.Tokens.{IsNext}
 use Rattle.rs_text.specs.Words.{is_word, is_role_word}
 use Rattle.rs_text.proofs.Judging.{IsNamed}

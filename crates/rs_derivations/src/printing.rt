@@ -7,7 +7,7 @@ ghost use Rattle.rs_derivations.specs.Canonical.{canonical_text, shown_act, tree
 ghost use Rattle.rs_derivations.specs.Lists.{with_separators};
 ghost use Rattle.rs_derivations.specs.Printable.{RolesHaveNames, LabelsHaveNames, HasFewLabels};
 ghost use Rattle.rs_derivations.specs.Texts as spec;
-ghost use Rattle.rs_text.specs.Names.{name_at};
+ghost use Rattle.rs_text.specs.NamePlaces.{name_at};
 
 use rs_derive::{DNode, Derivation};
 use rs_model::{Act, Label, Names, NoMemory, Role, Sort};

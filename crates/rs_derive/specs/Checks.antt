@@ -3,7 +3,7 @@ use Rattle.std.specs.Prelude.{ℕ, ◌+◌, List, [], ◌∷◌, ◌++◌, lengt
 use Rattle.std.specs.List.{list_any}
 use Rattle.rs_model.specs.Data.{Machine_data}
 use Rattle.rs_model.specs.FirstFailed.{or_later}
-use Rattle.rs_model.specs.Sorts.{sort_number}
+use Rattle.rs_model.specs.Serving.{sort_number}
 use Rattle.rs_model.specs.declared.graph.Arm.{Arm}
 use Rattle.rs_model.specs.declared.machines.Act.{Act}
 use Rattle.rs_model.specs.declared.machines.Act.TheVariants.{Puts, Takes}

@@ -1,6 +1,6 @@
 -- Steps: the table of moves, row by row: the rule that applies where the machine stands at one state and the projection at another.
 use Rattle.std.specs.Prelude.{ℕ, ◌<◌, ◌≡◌, List, [], ◌∷◌, length, map, slice_get, Bool, true, false, ◌==◌, ◌&&◌, nat_lt, if◌then◌else◌, Option, Some, None}
-use Rattle.rs_model.specs.Sorts.{serves}
+use Rattle.rs_model.specs.Serving.{serves}
 use Rattle.rs_model.specs.declared.graph.Arm.{Arm}
 use Rattle.rs_model.specs.declared.graph.Role.{Role}
 use Rattle.rs_model.specs.declared.machines.Act.{Act}

@@ -1,6 +1,6 @@
 //! The table of moves.
 ghost use Rattle.std.specs.Prelude.{◌≡◌, ◌<◌, ◌^◌, length, slice_get, IfSome, Some};
-ghost use Rattle.rs_model.specs.Sorts.{serves, sort_number};
+ghost use Rattle.rs_model.specs.Serving.{serves, sort_number};
 ghost use Rattle.rs_derive.specs.Due.{all_serve, due_at, serves_some};
 ghost use Rattle.rs_derive.specs.Moves.{Spot, arm_of};
 ghost use Rattle.rs_derive.specs.Rules.{Fits, arms_at, due_of, end_rule, keeps_head, pay_receive_rule, pay_send_rule, pushes, receive_rule, rule_at, send_past_rule, send_rule};

@@ -45,9 +45,10 @@ use Rattle.rs_model.specs.Data.{Machine_data, Names_data}
 use Rattle.rs_model.specs.declared.limits.TheConstants.{MOST_LABELS}
 use Rattle.rs_text.proofs.Naming.{grown_append, grown_differ}
 use Rattle.rs_text.specs.Lexing.{next_lexeme}
-use Rattle.rs_text.specs.Names.{grown, is_among, number_or, place_of, name_at}
+use Rattle.rs_text.specs.Names.{grown, is_among, number_or, place_of, differ}
+use Rattle.rs_text.specs.NamePlaces.{name_at}
 use Rattle.rs_text.specs.Signs.{Sign, plain, finish}
-use Rattle.rs_text.specs.Sound.{IsSound, differ}
+use Rattle.rs_text.specs.Sound.{IsSound}
 
 -- what may stand behind a line ends a recursion name
 ends_machines : (sign : Sign) (text : List ℕ) → Begins sign text → bodies.ends_a_name Acts sign ≡ true

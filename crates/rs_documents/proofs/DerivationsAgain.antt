@@ -17,7 +17,8 @@ use Rattle.rs_model.specs.declared.values.Sort.{Sort}
 use Rattle.rs_prefix.specs.declared.earliest.Kind.{Kind}
 use Rattle.rs_prefix.specs.declared.earliest.Kind.TheVariants as act
 use Rattle.rs_text.specs.Arms.{sort_or_unit}
-use Rattle.rs_text.specs.Names.{is_among, number_or, place_of, name_at}
+use Rattle.rs_text.specs.Names.{is_among, number_or, place_of}
+use Rattle.rs_text.specs.NamePlaces.{name_at}
 use Rattle.rs_text.specs.Shown.{shown_sort}
 
 abbrev with_others : Names_data → List (List ℕ) → Names_data

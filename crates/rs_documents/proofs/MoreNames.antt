@@ -9,8 +9,8 @@ use Rattle.rs_documents.proofs.FewLabels.{longer}
 use Rattle.rs_text.proofs.Basics.{or_first, or_end}
 use Rattle.rs_text.proofs.Gaps.{true_or_false}
 use Rattle.rs_text.proofs.Naming.{bytes_same, differ_rest, grown_among, grown_stays, place_stands, placed_by}
-use Rattle.rs_text.specs.Names.{grown, is_among, number_or, place_of, name_at, text_or_none}
-use Rattle.rs_text.specs.Sound.{differ}
+use Rattle.rs_text.specs.Names.{grown, is_among, number_or, place_of, differ}
+use Rattle.rs_text.specs.NamePlaces.{name_at, text_or_none}
 
 -- each of these names is one of those
 abbrev pub AreAmong : (xs ys : List (List ℕ)) → Type 0

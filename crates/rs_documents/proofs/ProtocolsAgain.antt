@@ -16,8 +16,8 @@ use Rattle.rs_model.specs.declared.values.Sort.{Sort}
 use Rattle.rs_text.proofs.Basics.{some_is}
 use Rattle.rs_text.proofs.Naming.{among_at, at_among, grown_stays, place_at, place_stands, placed_by}
 use Rattle.rs_text.specs.Lexing.{next_lexeme}
-use Rattle.rs_text.specs.Names.{grown, is_among, place_of}
-use Rattle.rs_text.specs.Sound.{IsSound, differ}
+use Rattle.rs_text.specs.Names.{grown, is_among, place_of, differ}
+use Rattle.rs_text.specs.Sound.{IsSound}
 use Rattle.rs_bodies.specs.Dialects.{sends_to}
 use Rattle.rs_bodies.specs.declared.dialects.Dialect.TheVariants.{Talks}
 use Rattle.rs_bodies.specs.Graph.{labels_of}

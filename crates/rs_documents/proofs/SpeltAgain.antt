@@ -34,10 +34,10 @@ use Rattle.rs_text.proofs.Written.{role_is_word}
 use Rattle.rs_text.specs.Arms.{arm_signs}
 use Rattle.rs_text.specs.Lexemes.{Lexeme, is_last, signs_of}
 use Rattle.rs_text.specs.Lexing.{Lexed}
-use Rattle.rs_text.specs.Names.{grown}
+use Rattle.rs_text.specs.Names.{grown, differ}
 use Rattle.rs_text.specs.Signs.{Sign, plain, word_sign, rec_word, end_word, open_paren, close_paren, dot, comma}
 use Rattle.rs_text.specs.Signs as signs
-use Rattle.rs_text.specs.Sound.{IsSound, differ}
+use Rattle.rs_text.specs.Sound.{IsSound}
 use Rattle.rs_text.specs.Tokens.{IsNext, IsToken}
 use Rattle.rs_text.specs.Words.{is_role_word, is_word}
 use Rattle.rs_text.specs.declared.faults.TextFault.{TextFault}

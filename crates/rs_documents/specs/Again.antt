@@ -19,7 +19,8 @@ use Rattle.rs_model.specs.declared.machines.Act.{Act}
 use Rattle.rs_model.specs.declared.machines.Act.TheVariants as act
 use Rattle.rs_model.specs.declared.machines.State.{State}
 use Rattle.rs_model.specs.declared.machines.State.TheVariants as state
-use Rattle.rs_text.specs.Names.{grown, number_or, place_of, name_at}
+use Rattle.rs_text.specs.Names.{grown, number_or, place_of}
+use Rattle.rs_text.specs.NamePlaces.{name_at}
 use Rattle.rs_documents.specs.Canonical.{AreCanonicalMachines, CanBeShown, IsCanonicalDocument}
 use Rattle.rs_documents.specs.Data.{Document_data}
 use Rattle.rs_documents.specs.Parts.{PartKind, machine_parts, derivation_parts}

@@ -8,8 +8,7 @@ use Rattle.rs_model.specs.Data.{Names_data}
 use Rattle.rs_text.proofs.Basics.{some_is, or_first, or_cases}
 use Rattle.rs_text.proofs.Gaps.{true_or_false}
 use Rattle.rs_text.proofs.Naming.{grown_among, grown_differ, place_stands, placed_by, bytes_same, at_among, among_at, place_at}
-use Rattle.rs_text.specs.Names.{number_or, grown, is_among, place_of}
-use Rattle.rs_text.specs.Sound.{differ}
+use Rattle.rs_text.specs.Names.{number_or, grown, is_among, place_of, differ}
 use Rattle.rs_bodies.specs.declared.dialects.Dialect.TheVariants.{Talks}
 use Rattle.rs_bodies.specs.Graph.{labels_of, label_of}
 use Rattle.rs_bodies.proofs.CanonForms.{Writing, label_as, HasLabel, label_stands}

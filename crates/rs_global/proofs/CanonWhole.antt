@@ -6,8 +6,8 @@ use Rattle.rs_model.specs.Data.{Protocol_data, Names_data}
 use Rattle.rs_model.specs.declared.graph.Node.{Node}
 use Rattle.rs_text.proofs.Basics.{some_is}
 use Rattle.rs_text.proofs.Naming.{grown_among, among_at, place_at, all_at}
-use Rattle.rs_text.specs.Names.{number_or, grown, is_among, place_of}
-use Rattle.rs_text.specs.Sound.{differ, IsSound}
+use Rattle.rs_text.specs.Names.{number_or, grown, is_among, place_of, differ}
+use Rattle.rs_text.specs.Sound.{IsSound}
 use Rattle.rs_text.specs.Words.{is_word, is_role_word}
 use Rattle.rs_bodies.specs.declared.dialects.Dialect.TheVariants.{Talks}
 use Rattle.rs_bodies.specs.Graph.{labels_of, acts_in, has_end, role_of, label_of, first_of}

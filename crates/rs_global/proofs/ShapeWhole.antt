@@ -8,7 +8,7 @@ use Rattle.rs_model.specs.declared.graph.Node.{Node}
 use Rattle.rs_model.specs.declared.limits.TheConstants.{MOST_ROLES}
 use Rattle.rs_text.proofs.Basics.{both, two_true}
 use Rattle.rs_text.proofs.Naming.{decides_sound}
-use Rattle.rs_text.specs.Sound.{differ}
+use Rattle.rs_text.specs.Names.{differ}
 use Rattle.rs_text.specs.Words.{is_role_word}
 use Rattle.rs_bodies.specs.declared.dialects.Dialect.TheVariants.{Talks}
 use Rattle.rs_bodies.specs.declared.places.Place.TheVariants as place

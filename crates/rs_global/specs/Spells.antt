@@ -4,7 +4,7 @@ use Rattle.rs_model.specs.declared.limits.TheConstants.{MOST_ROLES}
 use Rattle.rs_model.specs.Data.{Protocol_data, Names_data}
 use Rattle.rs_text.specs.Lexemes.{Lexeme, signs_of}
 use Rattle.rs_text.specs.Tokens.{AreTokens}
-use Rattle.rs_text.specs.Sound.{differ}
+use Rattle.rs_text.specs.Names.{differ}
 use Rattle.rs_bodies.specs.declared.dialects.Dialect.TheVariants.{Talks}
 use Rattle.rs_bodies.specs.Scenes.{first_scene}
 use Rattle.rs_bodies.specs.Fits.{body_fits}

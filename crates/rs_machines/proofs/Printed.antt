@@ -1,7 +1,7 @@
 -- The machine's role and the body make up the canonical text.
 use Rattle.std.proofs.Common.{◌≡◌, ℕ, List, ◌++◌, codes, refl, append_assoc}
 use Rattle.rs_model.specs.Data.{Machine_data, Names_data}
-use Rattle.rs_text.specs.Names.{name_at}
+use Rattle.rs_text.specs.NamePlaces.{name_at}
 use Rattle.rs_machines.specs.Canonical.{IsCanonical, IsCanonicalMachineText}
 use Rattle.rs_machines.specs.Texts.{body_text}
 use Rattle.rs_machines.specs.Trees.{MachineTree}

@@ -10,8 +10,8 @@ use Rattle.rs_model.specs.declared.limits.TheConstants.{MOST_LABELS, MOST_ROLES}
 use Rattle.rs_model.specs.declared.machines.State.{State}
 use Rattle.rs_text.proofs.Basics.{both, two_true, one_of}
 use Rattle.rs_text.proofs.Naming.{decides_sound, among, place_at}
-use Rattle.rs_text.specs.Names.{is_among, number_or, place_of}
-use Rattle.rs_text.specs.Sound.{differ, IsSound}
+use Rattle.rs_text.specs.Names.{is_among, number_or, place_of, differ}
+use Rattle.rs_text.specs.Sound.{IsSound}
 use Rattle.rs_text.specs.Words.{is_word, is_role_word}
 use Rattle.rs_bodies.specs.declared.dialects.Dialect.TheVariants.{Acts}
 use Rattle.rs_bodies.specs.Bodied.{SpellsPlaces, HasBody}

@@ -1,5 +1,5 @@
 -- Believed: the table that a machine is printed as.
-pub use Rattle.rs_text.specs.Names.{name_at}
+pub use Rattle.rs_text.specs.NamePlaces.{name_at}
 use Rattle.std.specs.Prelude.{ℕ, suc, List, [], ◌∷◌, ◌++◌, codes}
 use Rattle.std.specs.Fmt.{decimal}
 use Rattle.std.specs.List.{flat_map}

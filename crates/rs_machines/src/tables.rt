@@ -2,7 +2,7 @@ ghost use Rattle.std.specs.Prelude.{◌≡◌, ◌++◌, codes, IfOk, OnOk};
 ghost use Rattle.std.specs.List.{flat_map};
 ghost use Rattle.rs_text.specs.Shown.{shown_sort, shown_text};
 ghost use Rattle.rs_machines.specs.Tables.{sort_in_table, arm_in_table, later_arm_in_table, arms_in_table, choice_in_table, state_in_table, row, rows_from, table_of};
-ghost use Rattle.rs_text.specs.Names.{name_at};
+ghost use Rattle.rs_text.specs.NamePlaces.{name_at};
 
 use rs_model::{Arm, Machine, Name, Names, NoMemory, Role, Sort, State};
 use rs_text::Text;

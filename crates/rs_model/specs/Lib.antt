@@ -3,6 +3,7 @@ pub mod Data
 pub mod Faults
 pub mod Limits
 pub mod Sorts
+pub mod Serving
 pub mod Talks
 pub mod Values
 pub mod WellFormed

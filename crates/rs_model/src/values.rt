@@ -16,7 +16,7 @@ pub enum Sort {
 }
 
 impl Sort {
-    ghost use Rattle.rs_model.specs.Sorts.{serves, sort_number};
+    ghost use Rattle.rs_model.specs.Serving.{serves, sort_number};
     ghost use Rattle.rs_model.specs.Values.{empty_value};
 
     /// Whether a value of this sort may stand where one of the wanted sort is expected.

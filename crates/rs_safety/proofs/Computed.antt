@@ -5,7 +5,7 @@ use Rattle.std.specs.List.{AllPairs, flat_map, list_all, list_any}
 use Rattle.std.proofs.lemmas.Bool.{and_parts, ltb-true, false≢true}
 use Rattle.std.proofs.lemmas.Bool.Decides.{eqb_tells}
 use Rattle.rs_model.specs.Data.{Protocol_data}
-use Rattle.rs_model.specs.Sorts.{sort_number}
+use Rattle.rs_model.specs.Serving.{sort_number}
 use Rattle.rs_model.specs.declared.graph.Arm.{Arm}
 use Rattle.rs_model.specs.declared.graph.Label.{Label}
 use Rattle.rs_model.specs.declared.graph.Node.{Node}

@@ -5,7 +5,7 @@ use Rattle.std.proofs.lemmas.Bool.Decides.{leb_tells, eqb_tells}
 use Rattle.std.proofs.lemmas.Bool.{false≢true}
 use Rattle.std.proofs.lemmas.Option.{slice_get-map, none-some, same_Some}
 use Rattle.rs_model.specs.Data.{Machine_data}
-use Rattle.rs_model.specs.Sorts.{Serves}
+use Rattle.rs_model.specs.Serving.{Serves}
 use Rattle.rs_model.specs.WellFormed.{IsWellFormedMachine}
 use Rattle.rs_model.specs.declared.graph.Arm.{Arm}
 use Rattle.rs_model.specs.declared.graph.Label.{Label}

@@ -6,7 +6,7 @@ use Rattle.std.proofs.lemmas.List.{length-replicate}
 use Rattle.std.proofs.lemmas.Option.{none-some, same_Some}
 use Rattle.rs_model.specs.declared.limits.TheConstants.{MOST_CANDIDATES}
 use Rattle.rs_model.specs.Data.{Machine_data}
-use Rattle.rs_model.specs.Sorts.{serves, sort_number}
+use Rattle.rs_model.specs.Serving.{serves, sort_number}
 use Rattle.rs_model.specs.declared.graph.Arm.{Arm}
 use Rattle.rs_model.specs.declared.graph.Label.{Label}
 use Rattle.rs_model.specs.declared.graph.Role.{Role}

@@ -2,7 +2,8 @@ use Rattle.std.proofs.Common.{◌≡◌, ℕ, ◌-◌, ◌≤◌, List, [], ◌�
 use Rattle.std.proofs.lemmas.List.{reverse-append, length-reverse, take-append-drop, drop_all}
 use Rattle.std.proofs.Math.Seq.{drop-append_seam}
 use Rattle.std.specs.Str.{bytes_eq}
-use Rattle.rs_text.specs.Names.{Bound, bound_to, last_bound}
+use Rattle.rs_text.specs.Names.{Bound, bound_to}
+use Rattle.rs_text.specs.NamePlaces.{last_bound}
 
 abbrev or_else : Option ℕ → Option ℕ → Option ℕ
 or_else None found = found

@@ -7,9 +7,10 @@ use Rattle.std.specs.Bool.{Decides, IsTrue}
 use Rattle.std.specs.List.{list_all, All, AllPairs, AllByRecursion, IsDistinct}
 use Rattle.std.specs.Prelude.{slice_get}
 use Rattle.std.specs.Str.{bytes_eq}
-use Rattle.rs_text.specs.Names.{place_from, place_of, is_among, grown, StandsFirst}
+use Rattle.rs_text.specs.Names.{place_from, place_of, is_among, grown, differ}
+use Rattle.rs_text.specs.NamePlaces.{StandsFirst}
 use Rattle.rs_model.specs.Data.{Names_data}
-use Rattle.rs_text.specs.Sound.{differ, are_sound, IsSound}
+use Rattle.rs_text.specs.Sound.{are_sound, IsSound}
 use Rattle.rs_text.specs.Words.{is_word, is_role_word}
 use Rattle.rs_text.proofs.Gaps.{true_or_false}
 use Rattle.rs_text.proofs.Basics.{stands_any, any_stands, some_is, both}

@@ -3,8 +3,8 @@ use Rattle.std.proofs.lemmas.List.{drop-drop}
 use Rattle.std.proofs.Math.Seq.{drop-append_seam, drop-length}
 use Rattle.rs_text.specs.Lexemes.{Lexeme, is_last}
 use Rattle.rs_text.specs.Lexing.{skipped, front_of, placed, next_lexeme, Lexed}
-use Rattle.rs_text.specs.Bytes.{is_letter, is_digit}
-use Rattle.rs_text.specs.Words.{begins, is_role_word}
+use Rattle.rs_text.specs.Bytes.{is_letter, is_digit, begins}
+use Rattle.rs_text.specs.Words.{is_role_word}
 use Rattle.std.proofs.lemmas.Bool.Decides.{leb_tells}
 use Rattle.std.proofs.lemmas.Slice.Eq.{bytes_eq-Decides}
 use Rattle.std.specs.Str.{bytes_eq}

@@ -11,8 +11,7 @@ use Rattle.rs_text.proofs.Naming.{place_law, grown_differ, among_at}
 use Rattle.rs_text.proofs.Values.{decimal_reads}
 use Rattle.rs_text.specs.Bytes.{is_letter, is_digit, is_word_byte}
 use Rattle.rs_text.specs.Lexemes.{value_of}
-use Rattle.rs_text.specs.Names.{grown, is_among, place_of}
-use Rattle.rs_text.specs.Sound.{differ}
+use Rattle.rs_text.specs.Names.{grown, is_among, place_of, differ}
 use Rattle.rs_text.specs.Words.{is_word, is_role_word}
 use Rattle.rs_text.proofs.Basics.{some_is, first_true, second_true, two_true}
 

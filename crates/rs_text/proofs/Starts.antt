@@ -9,8 +9,7 @@ use Rattle.std.specs.List.{list_any, list_all, prefix_len}
 use Rattle.std.specs.Str.{bytes_eq}
 use Rattle.rs_text.specs.declared.tokens.FaultKind.{FaultKind}
 use Rattle.rs_text.specs.declared.tokens.FaultKind.TheVariants as fault
-use Rattle.rs_text.specs.Bytes.{is_blank, is_letter, is_digit, is_word_byte}
-use Rattle.rs_text.specs.Words.{begins}
+use Rattle.rs_text.specs.Bytes.{is_blank, is_letter, is_digit, is_word_byte, begins}
 use Rattle.rs_text.specs.Signs.{Sign, rec_word, end_word, plain, number, arrow, bang, question, colon, dot, comma, open_brace, close_brace, open_paren, close_paren, open_bracket, close_bracket, finish, broken, word_sign}
 use Rattle.rs_text.specs.Lexemes.{value_of}
 use Rattle.rs_text.specs.Lexing.{Front, front, front_of, word_front, number_front, arrow_front, mark_front, word_length, number_length}

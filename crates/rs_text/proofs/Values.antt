@@ -4,10 +4,9 @@ use Rattle.std.proofs.lemmas.Bool.Decides.{nat_tests}
 use Rattle.std.proofs.lemmas.List.Folds.{list_all-append}
 use Rattle.std.specs.Fmt.{decimal}
 use Rattle.std.specs.List.{list_all}
-use Rattle.rs_text.specs.Bytes.{is_digit}
+use Rattle.rs_text.specs.Bytes.{is_digit, begins}
 use Rattle.rs_text.specs.Signs.{number}
 use Rattle.rs_text.specs.Tokens.{IsToken}
-use Rattle.rs_text.specs.Words.{begins}
 use Rattle.rs_text.specs.Lexemes.{value_behind, value_of}
 
 -- further digits only make a number greater

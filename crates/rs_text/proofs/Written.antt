@@ -1,6 +1,6 @@
 -- A text that is written for tokens is cut into them.
 use Rattle.std.specs.Fmt.{decimal}
-use Rattle.rs_text.specs.Bytes.{is_digit}
+use Rattle.rs_text.specs.Bytes.{is_digit, is_letter, is_word_byte, begins, is_blank}
 use Rattle.rs_text.specs.Signs.{number}
 use Rattle.rs_text.proofs.Values.{decimal_token}
 use Rattle.std.proofs.Common.{Bool, codes, ◌≢◌, not, nat_le, ◌&&◌, if◌then◌else◌, inl, inr}
@@ -8,9 +8,8 @@ use Rattle.std.proofs.lemmas.Bool.Decides.{leb_tells}
 use Rattle.std.proofs.lemmas.Slice.Eq.{bytes_eq-Decides}
 use Rattle.std.specs.List.{list_all}
 use Rattle.std.specs.Str.{bytes_eq}
-use Rattle.rs_text.specs.Bytes.{is_letter, is_word_byte}
 use Rattle.rs_text.specs.Signs.{rec_word, end_word, plain, word_sign}
-use Rattle.rs_text.specs.Words.{begins, is_word, is_role_word}
+use Rattle.rs_text.specs.Words.{is_word, is_role_word}
 use Rattle.rs_text.proofs.Starts.{word_is, plain_sign}
 use Rattle.std.proofs.Common.{◌≡◌, ℕ, suc, ◌+◌, ◌≤◌, List, [], ◌∷◌, ◌++◌, length, drop, true, false, refl, sym, ap, ◌∙◌, subst, append_assoc, length-append, add-zero, arith}
 use Rattle.std.proofs.lemmas.Grind.{flat_map-append}
@@ -18,7 +17,6 @@ use Rattle.std.proofs.lemmas.List.{drop-drop}
 use Rattle.std.proofs.lemmas.List.Elements.{All-cons, All-nil}
 use Rattle.std.proofs.Math.Seq.{drop-append_seam}
 use Rattle.std.specs.List.{flat_map, All}
-use Rattle.rs_text.specs.Bytes.{is_blank}
 use Rattle.rs_text.specs.Lexemes.{Lexeme, is_last, signs_of}
 use Rattle.rs_text.specs.Lexing.{Lexed, next_lexeme, placed, front_of}
 use Rattle.rs_text.specs.Signs.{Sign}

@@ -1,5 +1,5 @@
 -- Believed: the bytes of which tokens are made.
-use Rattle.std.specs.Prelude.{ℕ, Bool, nat_le, ◌==◌, ◌||◌, ◌&&◌}
+use Rattle.std.specs.Prelude.{ℕ, List, [], ◌∷◌, Bool, false, nat_le, ◌==◌, ◌||◌, ◌&&◌}
 
 -- space, tab, CR and LF
 abbrev pub is_blank : ℕ → Bool
@@ -16,3 +16,8 @@ is_digit b = nat_le 48 b && nat_le b 57
 -- what a word is made of
 abbrev pub is_word_byte : ℕ → Bool
 is_word_byte b = is_letter b || is_digit b
+
+-- there is a first byte, and it passes
+abbrev pub begins : (ℕ → Bool) → List ℕ → Bool
+begins test [] = false
+begins test (b ∷ bs) = test b

@@ -7,6 +7,7 @@ pub mod Tokens
 pub mod Lexing
 pub mod Places
 pub mod Names
+pub mod NamePlaces
 pub mod Tables
 pub mod Sound
 pub mod Faults

@@ -1,5 +1,5 @@
 -- Believed: names by their places, and names that recursions bind.
-use Rattle.std.specs.Prelude.{◌≡◌, ◌≢◌, ◌<◌, slice_get, ℕ, Bool, suc, List, [], ◌∷◌, ◌++◌, Option, Some, None, if◌then◌else◌}
+use Rattle.std.specs.Prelude.{ℕ, Bool, true, false, suc, List, [], ◌∷◌, ◌++◌, Option, Some, None, if◌then◌else◌}
 use Rattle.std.specs.List.{list_any}
 use Rattle.std.specs.Str.{bytes_eq}
 
@@ -11,11 +11,6 @@ place_from n name (x ∷ xs) = if bytes_eq x name then Some n else place_from (s
 -- the first place of a name among names, from 0
 abbrev pub place_of : List ℕ → List (List ℕ) → Option ℕ
 place_of name names = place_from 0 name names
-
--- the name stands at the place and at none before it
-pub record StandsFirst (name : List ℕ) (names : List (List ℕ)) (place : ℕ) : Type 0 where
-  pub there : slice_get names place ≡ Some name
-  pub first : (k : ℕ) → k < place → slice_get names k ≢ Some name
 
 -- the name is one of these
 abbrev pub is_among : List ℕ → List (List ℕ) → Bool
@@ -35,21 +30,12 @@ abbrev pub bound_to : List ℕ → Bound → Option ℕ
 bound_to name [] = None
 bound_to name (b ∷ bs) = if bytes_eq b.0 name then Some b.1 else bound_to name bs
 
--- the text, where there is one
-abbrev pub text_or_none : Option (List ℕ) → List ℕ
-text_or_none None = []
-text_or_none (Some text) = text
-
 -- the number, where there is one
 abbrev pub number_or : Option ℕ → ℕ
 number_or None = 0
 number_or (Some n) = n
 
--- the last number that a name is bound to, by bindings in order
-abbrev pub last_bound : List ℕ → Bound → Option ℕ → Option ℕ
-last_bound name [] found = found
-last_bound name (b ∷ bs) found = last_bound name bs (if bytes_eq b.0 name then Some b.1 else found)
-
--- the name at a place, or nothing
-abbrev pub name_at : List (List ℕ) → ℕ → List ℕ
-name_at names k = text_or_none (slice_get names k)
+-- no name stands twice
+abbrev pub differ : List (List ℕ) → Bool
+differ [] = true
+differ (x ∷ xs) = if is_among x xs then false else differ xs

@@ -1,8 +1,8 @@
 -- Believed: names that a text can have.
-use Rattle.std.specs.Prelude.{◌≡◌, ◌≢◌, ℕ, List, [], ◌∷◌, Bool, true, false, ◌&&◌, if◌then◌else◌}
+use Rattle.std.specs.Prelude.{◌≡◌, ◌≢◌, Bool, true, ◌&&◌}
 use Rattle.std.specs.List.{list_all, All, AllPairs}
 use Rattle.rs_model.specs.Data.{Names_data}
-use Rattle.rs_text.specs.Names.{is_among}
+use Rattle.rs_text.specs.Names.{differ}
 use Rattle.rs_text.specs.Words.{is_word, is_role_word}
 
 -- the names of roles differ and are words other than rec and end, the names of labels differ and are words
@@ -11,11 +11,6 @@ pub record IsSound (names : Names_data) : Type 0 where
   pub roles_are_words : All (λ x. is_role_word x ≡ true) names.roles
   pub labels_differ : AllPairs (λ x y. x ≢ y) names.labels
   pub labels_are_words : All (λ x. is_word x ≡ true) names.labels
-
--- no name stands twice
-abbrev pub differ : List (List ℕ) → Bool
-differ [] = true
-differ (x ∷ xs) = if is_among x xs then false else differ xs
 
 -- the test of it
 abbrev pub are_sound : Names_data → Bool

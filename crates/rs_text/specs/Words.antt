@@ -1,14 +1,9 @@
 -- Believed: words.
-use Rattle.std.specs.Prelude.{ℕ, List, [], ◌∷◌, length, codes, not, nat_le, Bool, false, ◌&&◌}
+use Rattle.std.specs.Prelude.{ℕ, List, length, codes, not, nat_le, Bool, ◌&&◌}
 use Rattle.std.specs.List.{list_all}
 use Rattle.std.specs.Str.{bytes_eq}
 use Rattle.rs_model.specs.declared.limits.TheConstants.{MOST_NAME_BYTES}
-use Rattle.rs_text.specs.Bytes.{is_letter, is_word_byte}
-
--- there is a first byte, and it passes
-abbrev pub begins : (ℕ → Bool) → List ℕ → Bool
-begins test [] = false
-begins test (b ∷ bs) = test b
+use Rattle.rs_text.specs.Bytes.{begins, is_letter, is_word_byte}
 
 -- a letter or _, then letters, digits and _: 1 to 64 bytes
 abbrev pub is_word : List ℕ → Bool

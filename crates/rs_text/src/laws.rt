@@ -2,14 +2,14 @@
 ghost use Rattle.std.specs.Prelude.{◌≡◌, ◌≢◌, ◌≤◌, ◌↔◌, ◌||◌, ◌++◌, ◌∷◌, ◌+◌, ℕ, List, [], Bool, Some, None, drop, length, slice_get, true, false};
 ghost use Rattle.std.specs.Fmt.{decimal};
 ghost use Rattle.std.specs.List.{All, list_all};
-ghost use Rattle.rs_text.specs.Bytes.{is_blank, is_digit, is_word_byte};
+ghost use Rattle.rs_text.specs.Bytes.{is_blank, is_digit, is_word_byte, begins};
 ghost use Rattle.rs_text.specs.Lexemes.{Lexeme, is_last, signs_of};
 ghost use Rattle.rs_text.specs.Lexing.{Lexed, next_lexeme};
-ghost use Rattle.rs_text.specs.Names.{place_of, is_among, grown, StandsFirst};
+ghost use Rattle.rs_text.specs.Names.{place_of, is_among, grown, differ};
+ghost use Rattle.rs_text.specs.NamePlaces.{StandsFirst};
 ghost use Rattle.rs_text.specs.Signs.{Sign, finish, number, plain, word_sign};
-ghost use Rattle.rs_text.specs.Sound.{differ};
 ghost use Rattle.rs_text.specs.Tokens.{AreTokens, IsNext, IsToken, IsWithin};
-ghost use Rattle.rs_text.specs.Words.{begins, is_role_word, is_word};
+ghost use Rattle.rs_text.specs.Words.{is_role_word, is_word};
 ghost use Rattle.rs_text.specs.Writing.{IsWritten};
 
 /// What is cut off from the front of a text is its next token, and nothing else is.

@@ -1,9 +1,10 @@
 ghost use Rattle.std.specs.Prelude.{◌≡◌, ◌↔◌, IsTrue, ◌++◌, ◌∷◌, [], length, OnOk, OnErr, IfOk};
 ghost use Rattle.std.specs.List.{list_all};
 ghost use Rattle.rs_text.specs.Names.{place_of, is_among};
+ghost use Rattle.rs_text.specs.Names as naming;
 ghost use Rattle.rs_text.specs.Bytes as bytes;
 ghost use Rattle.rs_text.specs.Words as words;
-ghost use Rattle.rs_text.specs.Words.{begins};
+ghost use Rattle.rs_text.specs.Bytes.{begins};
 ghost use Rattle.rs_text.specs.Sound as spec;
 
 use crate::lexing::{is_digit, is_letter};
@@ -52,7 +53,7 @@ fn passes(names: &Names) -> bool
 }
 
 fn differ(names: &[Name]) -> bool
-    ensures { result ≡ spec.differ names.now }
+    ensures { result ≡ naming.differ names.now }
 {
     for (place, name) in names.iter().enumerate() {
         let (_, later) = names.split_at(place + 1);

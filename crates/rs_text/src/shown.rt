@@ -1,7 +1,7 @@
 //! How printers write names and sorts.
 
 ghost use Rattle.std.specs.Prelude.{◌≡◌, ◌++◌, OnOk};
-ghost use Rattle.rs_text.specs.Names.{name_at};
+ghost use Rattle.rs_text.specs.NamePlaces.{name_at};
 ghost use Rattle.rs_text.specs.Shown.{shown_sort, shown_text};
 
 use crate::output::Text;

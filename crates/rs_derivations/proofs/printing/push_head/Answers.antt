@@ -1,6 +1,6 @@
 use Rattle.std.proofs.Common.{codes}
 use Rattle.std.proofs.lemmas.Result.{on_ok_weaker}
-use Rattle.rs_text.specs.Names.{name_at}
+use Rattle.rs_text.specs.NamePlaces.{name_at}
 use Rattle.rs_derivations.specs.Texts.{bound_text}
 use Rattle.rs_derivations.proofs.Joins.{three}
 use Rattle.rs_derivations.proofs.printing.push_head.Goals as goal

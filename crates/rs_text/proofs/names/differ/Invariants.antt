@@ -1,5 +1,5 @@
 use Rattle.std.proofs.Common.{◌≡◌, drop}
-use Rattle.rs_text.specs.Sound.{differ}
+use Rattle.rs_text.specs.Names.{differ}
 use Rattle.rs_text.proofs.names.differ.Given as goal
 
 abbrev pub invariant-loop-place : goal.invariant-loop-place
