@@ -1,16 +1,18 @@
 -- The choices of one talk alone, and where they lead.
-use Rattle.std.proofs.Common.{◌≡◌, ◌≢◌, ◌⊎◌, inl, inr, ℕ, zero, suc, Bool, true, false, List, [], ◌∷◌, ◌++◌, length, get_or, map, Option, Some, None, slice_get, refl, sym, ap, ◌∙◌, subst, arith, if◌then◌else◌, ◌==◌, ◌||◌, append-nil}
-use Rattle.std.specs.List.{flat_map, list_any}
-use Rattle.std.specs.Prelude.{IfSome}
+use Rattle.std.proofs.Common.{◌≡◌, ◌≢◌, ◌⊎◌, inl, inr, ℕ, zero, suc, ◌<◌, Bool, true, false, List, [], ◌∷◌, ◌++◌, length, map, Some, slice_get, refl, sym, ap, ◌∙◌, subst, arith, if◌then◌else◌, ◌==◌, ◌||◌, append-nil}
+use Rattle.std.specs.List.{All, flat_map, list_any}
 use Rattle.std.proofs.lemmas.Bool.Decides.{eqb_tells}
 use Rattle.std.proofs.lemmas.Option.{none-some, same_Some}
 use Rattle.rs_model.specs.Data.{Protocol_data}
 use Rattle.rs_model.specs.declared.graph.Arm.{Arm}
 use Rattle.rs_model.specs.declared.graph.Label.{Label}
-use Rattle.rs_model.specs.declared.graph.Node.TheVariants.{Talk}
+use Rattle.rs_model.specs.declared.graph.Node.{Node}
+use Rattle.rs_model.specs.declared.graph.Node.TheVariants.{Finished, Talk}
 use Rattle.rs_model.specs.declared.graph.Role.{Role}
 use Rattle.rs_wellformed.specs.WellFormed.{IsWellFormed}
-use Rattle.rs_project.specs.Marks.{labelled_nexts, labelled_nexts_of, next_labelled}
+use Rattle.rs_project.specs.Numbered.{nexts_of}
+use Rattle.rs_project.specs.Marks.{Among, labelled_nexts, labelled_nexts_of, arms_in}
+use Rattle.rs_project.proofs.Cycles.{all-by}
 use Rattle.rs_project.specs.Projection.{Choice, choice_of, choices_of, first_choices, merged_choices}
 
 abbrev Once : List Arm → Type 0
@@ -22,11 +24,6 @@ later-once x arms once i j a b ea eb e = let q : suc i ≡ suc j = once (suc i) 
 label-is : (a b : Arm) → a.label.0 ≡ b.label.0 → a.label ≡ b.label
 label-is a b e = let L : ℕ → Label = λ n. record { 0 = n } in ap L e
 
-pub only-one : (xs : List ℕ) (d : ℕ) → length xs ≡ 1 → xs ≡ get_or xs 0 d ∷ []
-only-one [] d e = let bad : ⊥ = omega arith in absurd bad
-only-one (x ∷ []) d e = refl
-only-one (x ∷ y ∷ xs) d e = let bad : ⊥ = omega arith in absurd bad
-
 -- where the label leads
 
 none-labelled : (label : Label) (arms : List Arm) → ((i : ℕ) (a : Arm) → slice_get arms i ≡ Some a → a.label.0 ≢ label.0) → labelled_nexts label arms ≡ []
@@ -36,26 +33,27 @@ none-labelled label (a ∷ arms) h = elim (eqb_tells a.label.0 label.0) [
   | inr p ↦ subst (λ (b : Bool). (if b then a.next ∷ labelled_nexts label arms else labelled_nexts label arms) ≡ []) (sym p.0) (none-labelled label arms (λ i b e. h (suc i) b e))
 ]
 
-one-labelled : (label : Label) (arms : List Arm) (n : ℕ) → Once arms → next_labelled label arms ≡ Some n → labelled_nexts label arms ≡ n ∷ []
-one-labelled label [] n once e = absurd (none-some n e)
-one-labelled label (a ∷ arms) n once e = elim (eqb_tells a.label.0 label.0) [
-  | inl p ↦ (let q : a.next ≡ n = same_Some a.next n (subst (λ (b : Bool). (if b then Some a.next else next_labelled label arms) ≡ Some n) p.0 e) in
-      let rest : labelled_nexts label arms ≡ [] = none-labelled label arms (λ i b eb same. (let z : zero ≡ suc i = once zero (suc i) a b refl eb (label-is a b (p.1 ∙ sym same)) in let bad : ⊥ = omega arith in bad)) in
-      subst (λ (b : Bool). (if b then a.next ∷ labelled_nexts label arms else labelled_nexts label arms) ≡ n ∷ []) (sym p.0) (ap (λ (z : ℕ). z ∷ labelled_nexts label arms) q ∙ ap (λ (z : List ℕ). n ∷ z) rest))
-  | inr p ↦ subst (λ (b : Bool). (if b then a.next ∷ labelled_nexts label arms else labelled_nexts label arms) ≡ n ∷ []) (sym p.0)
-      (one-labelled label arms n (later-once a arms once) (subst (λ (b : Bool). (if b then Some a.next else next_labelled label arms) ≡ Some n) p.0 e))
+one-labelled : (label : Label) (arms : List Arm) (place : ℕ) (a : Arm) → Once arms → slice_get arms place ≡ Some a → a.label ≡ label → labelled_nexts label arms ≡ a.next ∷ []
+one-labelled label [] place a once at e = absurd (none-some a at)
+one-labelled label (x ∷ arms) zero a once at e =
+    let xa : x ≡ a = same_Some x a at in
+    elim (eqb_tells x.label.0 label.0) [
+      | inl p ↦ (let rest : labelled_nexts label arms ≡ [] = none-labelled label arms (λ i b eb same. (let z : zero ≡ suc i = once zero (suc i) x b refl eb (label-is x b (p.1 ∙ sym same)) in let bad : ⊥ = omega arith in bad)) in
+          subst (λ (b : Bool). (if b then x.next ∷ labelled_nexts label arms else labelled_nexts label arms) ≡ a.next ∷ []) (sym p.0)
+          (ap (λ (z : Arm). z.next ∷ labelled_nexts label arms) xa ∙ ap (λ (z : List ℕ). a.next ∷ z) rest))
+      | inr p ↦ absurd (p.1 (ap (λ (z : Arm). z.label.0) xa ∙ ap (λ (z : Label). z.0) e))
+    ]
+one-labelled label (x ∷ arms) (suc place) a once at e = elim (eqb_tells x.label.0 label.0) [
+  | inl p ↦ (let z : zero ≡ suc place = once zero (suc place) x a refl at (label-is x a (p.1 ∙ sym (ap (λ (z : Label). z.0) e))) in let bad : ⊥ = omega arith in absurd bad)
+  | inr p ↦ subst (λ (b : Bool). (if b then x.next ∷ labelled_nexts label arms else labelled_nexts label arms) ≡ a.next ∷ []) (sym p.0) (one-labelled label arms place a (later-once x arms once) at e)
 ]
 
-pub start-alone : (pr : Protocol_data) (talks : List ℕ) (t : ℕ) (label : Label) (sender receiver : Role) (arms : List Arm) (n : ℕ) → IsWellFormed pr → talks ≡ t ∷ [] → slice_get pr.nodes t ≡ Some (Talk sender receiver arms)
-    → next_labelled label arms ≡ Some n → flat_map (λ k. labelled_nexts_of label (slice_get pr.nodes k)) talks ≡ n ∷ []
-start-alone pr talks t label sender receiver arms n wf et en e =
-    let one : labelled_nexts_of label (slice_get pr.nodes t) ≡ n ∷ [] = ap (λ o. labelled_nexts_of label o) en ∙ one-labelled label arms n (wf.talks t sender receiver arms en).once e in
-    ap (λ (z : List ℕ). flat_map (λ k. labelled_nexts_of label (slice_get pr.nodes k)) z) et ∙ append-nil (labelled_nexts_of label (slice_get pr.nodes t)) ∙ one
-
-pub starts-alone : (pr : Protocol_data) (talks : List ℕ) (t : ℕ) (label : Label) (sender receiver : Role) (arms : List Arm) (o : Option ℕ) → IsWellFormed pr → talks ≡ t ∷ [] → slice_get pr.nodes t ≡ Some (Talk sender receiver arms)
-    → o ≡ next_labelled label arms → IfSome o (λ n. flat_map (λ k. labelled_nexts_of label (slice_get pr.nodes k)) talks ≡ n ∷ [])
-starts-alone pr talks t label sender receiver arms None wf et en e = tt
-starts-alone pr talks t label sender receiver arms (Some n) wf et en e = start-alone pr talks t label sender receiver arms n wf et en (sym e)
+pub start-alone : (pr : Protocol_data) (t : ℕ) (node : Node) (place : ℕ) (a : Arm) → IsWellFormed pr → slice_get pr.nodes t ≡ Some node → slice_get (arms_in node) place ≡ Some a
+    → a.next ∷ [] ≡ flat_map (λ k. labelled_nexts_of a.label (slice_get pr.nodes k)) (t ∷ [])
+start-alone pr t Finished place a wf en at = absurd (none-some a at)
+start-alone pr t (Talk sender receiver arms) place a wf en at =
+    let one : labelled_nexts_of a.label (slice_get pr.nodes t) ≡ a.next ∷ [] = ap (λ o. labelled_nexts_of a.label o) en ∙ one-labelled a.label arms place a (wf.talks t sender receiver arms en).once at refl in
+    sym (append-nil (labelled_nexts_of a.label (slice_get pr.nodes t)) ∙ one)
 
 -- the choices
 
@@ -86,8 +84,31 @@ first-same (x ∷ arms) earlier once new =
       | inr p ↦ p.0
     ]
 
-pub choices-alone : (pr : Protocol_data) (talks : List ℕ) (t : ℕ) (sender receiver : Role) (arms : List Arm) → IsWellFormed pr → talks ≡ t ∷ [] → slice_get pr.nodes t ≡ Some (Talk sender receiver arms) → map choice_of arms ≡ merged_choices pr talks
+choices-alone : (pr : Protocol_data) (talks : List ℕ) (t : ℕ) (sender receiver : Role) (arms : List Arm) → IsWellFormed pr → talks ≡ t ∷ [] → slice_get pr.nodes t ≡ Some (Talk sender receiver arms) → map choice_of arms ≡ merged_choices pr talks
 choices-alone pr talks t sender receiver arms wf et en =
     let flat : flat_map (λ n. choices_of (slice_get pr.nodes n)) talks ≡ map choice_of arms =
     ap (λ (z : List ℕ). flat_map (λ n. choices_of (slice_get pr.nodes n)) z) et ∙ append-nil (choices_of (slice_get pr.nodes t)) ∙ ap (λ o. choices_of o) en in
     sym (ap (λ (z : List Choice). first_choices z []) flat ∙ first-same arms [] (wf.talks t sender receiver arms en).once (λ i a e. refl))
+
+pub choices-in : (pr : Protocol_data) (t : ℕ) (node : Node) → IsWellFormed pr → slice_get pr.nodes t ≡ Some node → map choice_of (arms_in node) ≡ merged_choices pr (t ∷ [])
+choices-in pr t Finished wf en = sym (ap (λ o. first_choices (choices_of o ++ []) []) en)
+choices-in pr t (Talk sender receiver arms) wf en = choices-alone pr (t ∷ []) t sender receiver arms wf refl en
+
+pub next-in : (pr : Protocol_data) (t : ℕ) (node : Node) (place : ℕ) (a : Arm) → IsWellFormed pr → slice_get pr.nodes t ≡ Some node → slice_get (arms_in node) place ≡ Some a → All (λ s. s < length pr.nodes) (a.next ∷ [])
+next-in pr t Finished place a wf en at = absurd (none-some a at)
+next-in pr t (Talk sender receiver arms) place a wf en at = all-by (λ s. s < length pr.nodes) (a.next ∷ []) (λ x m. only x m)
+  where
+    only : (x : ℕ) → Among (a.next ∷ []) x → x < length pr.nodes
+    only x (inl e) = let P : ℕ → Type 0 = λ z. z < length pr.nodes in subst P e ((wf.talks t sender receiver arms en).nexts place a at)
+    only x (inr bad) = absurd bad
+
+pub no-nexts : (arms : List Arm) → map choice_of arms ≡ [] → [] ≡ nexts_of arms
+no-nexts [] e = refl
+no-nexts (a ∷ arms) e = absurd (cc (e))
+
+pub no-talks : (xs : List ℕ) → true ≡ (length xs == 0) → xs ≡ []
+no-talks [] e = refl
+no-talks (x ∷ xs) e = elim (eqb_tells (length (x ∷ xs)) 0) [
+  | inl p ↦ (let q = p.1 in absurd (omega (arith, q)))
+  | inr p ↦ (let q = p.0 in absurd (cc (e, q)))
+]

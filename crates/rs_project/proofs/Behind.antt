@@ -1,6 +1,7 @@
 -- What is met behind a label, and what the role does in a state.
-use Rattle.std.proofs.Common.{◌≡◌, ◌≢◌, inl, inr, ℕ, zero, suc, ◌<◌, Bool, true, false, List, [], ◌∷◌, length, Option, Some, None, slice_get, refl, sym, ap, ◌∙◌, subst, arith, if◌then◌else◌, ◌==◌}
+use Rattle.std.proofs.Common.{◌≡◌, ◌≢◌, inl, inr, ℕ, zero, suc, ◌<◌, Bool, true, false, List, [], ◌∷◌, length, Option, Some, None, Result, Ok, Err, slice_get, refl, sym, ap, ◌∙◌, subst, arith, if◌then◌else◌, ◌==◌}
 use Rattle.std.specs.List.{All, flat_map}
+use Rattle.std.specs.Prelude.{IfOk, IfErr}
 use Rattle.std.proofs.lemmas.Bool.Decides.{eqb_tells}
 use Rattle.rs_model.specs.Data.{Protocol_data}
 use Rattle.rs_model.specs.declared.graph.Arm.{Arm}
@@ -15,7 +16,7 @@ use Rattle.rs_project.specs.Graph.{Involves}
 use Rattle.rs_project.specs.Marks.{Among, StartMeets, StartEnds, labelled_nexts, labelled_nexts_of}
 use Rattle.rs_project.specs.Projection.{Agree, BothSend, BothReceive, LeadsOn}
 use Rattle.rs_project.specs.Refusals.{IsFront}
-use Rattle.rs_project.specs.Working.{IsFrontBehind, NumberFault, FindFault}
+use Rattle.rs_project.specs.Working.{Adds, FaultFrom, FindFault, Finds, FindsFrom, IsFrontBehind, IsFrontFrom, NumberFault}
 use Rattle.rs_project.specs.declared.projecting.ProjFault.{ProjFault}
 use Rattle.rs_project.specs.declared.projecting.ProjFault.TheVariants.{Unmergeable, Unreached, TooManyStates, NoMemory}
 use Rattle.rs_project.proofs.Cycles.{all-by, next-within}
@@ -98,12 +99,35 @@ front-behind pr role talks label f is = record {
   );
 }
 
-pub find-fault : (pr : Protocol_data) (role : Role) (old : List Front_data) (talks : List ℕ) (label : Label) (f : Front_data) → IsFrontBehind pr role talks label f
-    → (e : ProjFault) → NumberFault role old f e → FindFault pr role old talks label e
-find-fault pr role old talks label f is (Unmergeable r a b) h = absurd h
-find-fault pr role old talks label f is (Unreached r n) h = absurd h
-find-fault pr role old talks label f is (TooManyStates r) h = (h.0, record { front = f; is = is; many = h.1; new = h.2 })
-find-fault pr role old talks label f is NoMemory h = tt
+-- behind the label are the starts
+
+pub finds-behind : (pr : Protocol_data) (role : Role) (old : List Front_data) (talks : List ℕ) (label : Label) (starts : List ℕ) (new : List Front_data) (n : ℕ) → starts ≡ starts-of pr talks label
+    → FindsFrom pr role old starts new n → Finds pr role old talks label new n
+finds-behind pr role old talks label starts new n e f =
+    let P : List ℕ → Type 0 = λ z. IsFrontFrom pr role z f.front in
+    record { front = f.front; is = front-behind pr role talks label f.front (subst P e f.is); adds = f.adds }
+
+pub fault-behind : (pr : Protocol_data) (role : Role) (old : List Front_data) (talks : List ℕ) (label : Label) (starts : List ℕ) → starts ≡ starts-of pr talks label
+    → (e : ProjFault) → FaultFrom pr role old starts e → FindFault pr role old talks label e
+fault-behind pr role old talks label starts e (Unmergeable r a b) h = absurd h
+fault-behind pr role old talks label starts e (Unreached r n) h = absurd h
+fault-behind pr role old talks label starts e (TooManyStates r) h =
+    let P : List ℕ → Type 0 = λ z. IsFrontFrom pr role z h.1.front in
+    (h.0, record { front = h.1.front; is = front-behind pr role talks label h.1.front (subst P e h.1.is); many = h.1.many; new = h.1.new })
+fault-behind pr role old talks label starts e NoMemory h = tt
+
+pub finds-from : (pr : Protocol_data) (role : Role) (old : List Front_data) (starts : List ℕ) (new : List Front_data) (f : Front_data) (r : Result ℕ ProjFault) → IsFrontFrom pr role starts f
+    → IfOk r (λ n. Adds old f new n) → IfOk r (λ n. FindsFrom pr role old starts new n)
+finds-from pr role old starts new f (Ok n) is h = record { front = f; is = is; adds = h }
+finds-from pr role old starts new f (Err e) is h = tt
+
+pub fault-from : (pr : Protocol_data) (role of : Role) (old : List Front_data) (starts : List ℕ) (f : Front_data) (r : Result ℕ ProjFault) → of ≡ role → IsFrontFrom pr role starts f
+    → IfErr r (λ e. NumberFault of old f e) → IfErr r (λ e. FaultFrom pr role old starts e)
+fault-from pr role of old starts f (Ok n) same is h = tt
+fault-from pr role of old starts f (Err (Unmergeable r a b)) same is h = absurd h
+fault-from pr role of old starts f (Err (Unreached r n)) same is h = absurd h
+fault-from pr role of old starts f (Err (TooManyStates r)) same is h = (h.0 ∙ same, record { front = f; is = is; many = h.1; new = h.2 })
+fault-from pr role of old starts f (Err NoMemory) same is h = tt
 
 -- an involved talk is no end
 pub no-finish : (pr : Protocol_data) (role : Role) (t : ℕ) (node : Node) → Involves pr role t → slice_get pr.nodes t ≡ Some node → node ≡ Finished → ⊥

@@ -7,16 +7,16 @@ use Rattle.rs_project.specs.Data.{Front_data}
 use Rattle.rs_project.specs.Filing.{AreFiled, IsChained, First, Later, bucket_on}
 use Rattle.rs_project.specs.Working.{IsNew}
 
-kept-at : {X : Type 0} (xs : List X) (y : X) (i : ℕ) (x : X) → slice_get xs i ≡ Some x → slice_get (xs ++ (y ∷ [])) i ≡ Some x
+pub kept-at : {X : Type 0} (xs : List X) (y : X) (i : ℕ) (x : X) → slice_get xs i ≡ Some x → slice_get (xs ++ (y ∷ [])) i ≡ Some x
 kept-at [] y i x e = absurd (none-some x e)
 kept-at (z ∷ xs) y zero x e = e
 kept-at (z ∷ xs) y (suc i) x e = kept-at xs y i x e
 
-new-at : {X : Type 0} (xs : List X) (y : X) → slice_get (xs ++ (y ∷ [])) (length xs) ≡ Some y
+pub new-at : {X : Type 0} (xs : List X) (y : X) → slice_get (xs ++ (y ∷ [])) (length xs) ≡ Some y
 new-at [] y = refl
 new-at (z ∷ xs) y = new-at xs y
 
-either-at : {X : Type 0} (xs : List X) (y : X) (i : ℕ) (x : X) → slice_get (xs ++ (y ∷ [])) i ≡ Some x → (slice_get xs i ≡ Some x) ⊎ ((i ≡ length xs) × (y ≡ x))
+pub either-at : {X : Type 0} (xs : List X) (y : X) (i : ℕ) (x : X) → slice_get (xs ++ (y ∷ [])) i ≡ Some x → (slice_get xs i ≡ Some x) ⊎ ((i ≡ length xs) × (y ≡ x))
 either-at [] y zero x e = inr (refl, same_Some y x e)
 either-at [] y (suc i) x e = absurd (none-some x e)
 either-at (z ∷ xs) y zero x e = inl e
@@ -42,7 +42,7 @@ pub unchained : (links : List ℕ) (k n : ℕ) → k ≡ 0 → IsChained links k
 unchained links _ n q (First _) = let bad : ⊥ = omega arith in bad
 unchained links _ n q (Later m next _ e c) = let bad : ⊥ = omega arith in bad
 
-zero-at : (k n : ℕ) → get_or (replicate {A = ℕ} k 0) n 0 ≡ 0
+pub zero-at : (k n : ℕ) → get_or (replicate {A = ℕ} k 0) n 0 ≡ 0
 zero-at zero zero = refl
 zero-at zero (suc n) = refl
 zero-at (suc k) zero = refl

@@ -14,6 +14,7 @@ pub mod Notes
 pub mod Alone
 pub mod Numbers
 pub mod Buckets
+pub mod Singles
 pub mod Behind
 pub mod Steps
 pub mod Lockstep

@@ -7,6 +7,7 @@ use Rattle.rs_model.specs.Data.{Protocol_data}
 use Rattle.rs_model.specs.declared.graph.Node.{Node}
 use Rattle.rs_model.specs.declared.graph.Role.{Role}
 use Rattle.rs_project.specs.Data.{Front_data}
+use Rattle.rs_project.specs.Filing.{lone_front}
 use Rattle.rs_project.specs.Graph.{PathStep, LeadsTo, IsPath, Involves, PassesBy, AllPassBy, MeetsFirst, MeetsTheEnd}
 use Rattle.rs_project.specs.Marks.{Among, MeetsOnly, StandsFor, StartEnds, StartMeets, nexts_of_node}
 use Rattle.rs_project.specs.Refusals.{IsFront}
@@ -72,7 +73,7 @@ meets-only pr role start n i s = record {
     none last [] path earlier idle = idle n ([], sym path) i
     none last (a ∷ ss) path earlier idle = let P : ℕ → Type 0 = λ z. Involves pr role z in earlier.0.uninvolved (subst P (sym path.1) i)
 
-pub lone-front : (pr : Protocol_data) (role : Role) (starts : List ℕ) (start talk : ℕ) (f : Front_data) → starts ≡ start ∷ [] → f ≡ record { talks = talk ∷ []; ends = false } → MeetsOnly pr role start talk
+pub lone-front : (pr : Protocol_data) (role : Role) (starts : List ℕ) (start talk : ℕ) (f : Front_data) → starts ≡ start ∷ [] → f ≡ lone_front talk → MeetsOnly pr role start talk
     → IsFront f (StartMeets pr role starts) (StartEnds pr role starts)
 lone-front pr role starts start talk f es ef only = rw (es, ef) record {
   rising = λ i j d lt h. absurd (omega (arith, lt, h));
@@ -102,7 +103,7 @@ lone-front pr role starts start talk f es ef only = rw (es, ef) record {
       | inr bad ↦ bad
     ]
 
-pub lone-result : {E : Type 0} (pr : Protocol_data) (role : Role) (starts : List ℕ) (start talk : ℕ) (r : Result Front_data E) → starts ≡ start ∷ [] → MeetsOnly pr role start talk → IfOk r (λ f. f ≡ record { talks = talk ∷ []; ends = false })
+pub lone-result : {E : Type 0} (pr : Protocol_data) (role : Role) (starts : List ℕ) (start talk : ℕ) (r : Result Front_data E) → starts ≡ start ∷ [] → MeetsOnly pr role start talk → IfOk r (λ f. f ≡ lone_front talk)
     → IfOk r (λ f. IsFront f (StartMeets pr role starts) (StartEnds pr role starts))
 lone-result pr role starts start talk (Ok f) es only is = lone-front pr role starts start talk f es is only
 lone-result pr role starts start talk (Err e) es only is = tt

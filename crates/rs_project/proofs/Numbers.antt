@@ -1,5 +1,6 @@
 -- Fronts by their numbers.
-use Rattle.std.proofs.Common.{◌≡◌, ◌⊎◌, inl, inr, ℕ, zero, suc, ◌+◌, ◌<◌, Bool, true, false, List, [], ◌∷◌, ◌++◌, length, map, take, drop, Option, Some, None, slice_get, refl, sym, ap, ap₂, ◌∙◌, subst, subst₂, arith, if◌then◌else◌, ◌==◌, length-append}
+use Rattle.std.proofs.lemmas.List.{take_all}
+use Rattle.std.proofs.Common.{◌≡◌, ◌⊎◌, inl, inr, ℕ, zero, suc, ◌+◌, ◌<◌, ◌≤◌, Bool, true, false, List, [], ◌∷◌, ◌++◌, length, map, take, drop, Option, Some, None, slice_get, refl, sym, ap, ap₂, ◌∙◌, subst, subst₂, arith, if◌then◌else◌, ◌==◌, length-append}
 use Rattle.std.specs.List.{AllPairs, flat_map, list_any}
 use Rattle.rs_model.specs.Data.{Protocol_data}
 use Rattle.rs_model.specs.declared.graph.Arm.{Arm}
@@ -301,3 +302,6 @@ arms-fault pr role old mid talks choices i a row at d (Unmergeable r x y) h = ab
 arms-fault pr role old mid talks choices i a row at d (Unreached r n) h = absurd h
 arms-fault pr role old mid talks choices i a row at d (TooManyStates r) h = (h.0, too-many pr role old mid talks choices i a row at d h.1)
 arms-fault pr role old mid talks choices i a row at d NoMemory h = tt
+
+pub taken-all : (arms : List Arm) (i : ℕ) → length arms ≤ i → map choice_of (take i arms) ≡ map choice_of arms
+taken-all arms i e = ap (λ (z : List Arm). map choice_of z) (take_all i arms e)

@@ -204,7 +204,7 @@ labelled_nexts_of label None = []
 labelled_nexts_of label (Some Finished) = []
 labelled_nexts_of label (Some (Talk sender receiver arms)) = labelled_nexts label arms
 
--- where the first arm with the label leads
-abbrev pub next_labelled : Label → List Arm → Option ℕ
-next_labelled label [] = None
-next_labelled label (a ∷ arms) = if a.label.0 == label.0 then Some a.next else next_labelled label arms
+-- the arms of a node
+abbrev pub arms_in : Node → List Arm
+arms_in Finished = []
+arms_in (Talk sender receiver arms) = arms

@@ -11,7 +11,7 @@ use Rattle.rs_model.specs.declared.machines.State.TheVariants.{Done, Puts, Takes
 use Rattle.rs_model.specs.Talks.{Talks}
 use Rattle.rs_project.specs.Data.{Front_data}
 use Rattle.rs_project.specs.Graph.{Involves, MeetsFirst, MeetsTheEnd}
-use Rattle.rs_project.specs.Marks.{Among}
+use Rattle.rs_project.specs.Marks.{Among, StartEnds, StartMeets}
 use Rattle.rs_project.specs.Order.{IsOnce, Numbered, Worked}
 use Rattle.rs_project.specs.Numbered.{nexts_behind}
 use Rattle.rs_project.specs.Projection.{Choice, choice_of, merged_choices, MeetsBehind, EndsBehind}
@@ -22,6 +22,10 @@ use Rattle.rs_project.specs.declared.projecting.ProjFault.TheVariants.{Unmergeab
 -- the front is what the role meets first behind the label
 abbrev pub IsFrontBehind : Protocol_data → Role → List ℕ → Label → Front_data → Type 0
 IsFrontBehind protocol role talks label front = IsFront front (MeetsBehind protocol role talks label) (EndsBehind protocol role talks label)
+
+-- the front is what the role meets first from the starts
+abbrev pub IsFrontFrom : Protocol_data → Role → List ℕ → Front_data → Type 0
+IsFrontFrom protocol role starts front = IsFront front (StartMeets protocol role starts) (StartEnds protocol role starts)
 
 -- the front stands nowhere among these
 abbrev pub IsNew : List Front_data → Front_data → Type 0
@@ -43,6 +47,26 @@ NumberFault role old front (TooManyStates r) = (r ≡ role) × (length old ≡ M
 NumberFault role old front (Unmergeable r a b) = ⊥
 NumberFault role old front (Unreached r n) = ⊥
 NumberFault role old front NoMemory = Unit {0}
+
+-- the number of the front from the starts
+pub record FindsFrom (protocol : Protocol_data) (role : Role) (old : List Front_data) (starts : List ℕ) (new : List Front_data) (n : ℕ) : Type 0 where
+  pub front : Front_data
+  pub is : IsFrontFrom protocol role starts front
+  pub adds : Adds old front new n
+
+-- there are 1,024 fronts, and the one from the starts is another one
+pub record FindsNoneFrom (protocol : Protocol_data) (role : Role) (old : List Front_data) (starts : List ℕ) : Type 0 where
+  pub front : Front_data
+  pub is : IsFrontFrom protocol role starts front
+  pub many : length old ≡ MOST_STATES
+  pub new : IsNew old front
+
+-- what a fault of finding the front from the starts tells
+abbrev pub FaultFrom : Protocol_data → Role → List Front_data → List ℕ → ProjFault → Type 0
+FaultFrom protocol role old starts (TooManyStates r) = (r ≡ role) × FindsNoneFrom protocol role old starts
+FaultFrom protocol role old starts (Unmergeable r a b) = ⊥
+FaultFrom protocol role old starts (Unreached r n) = ⊥
+FaultFrom protocol role old starts NoMemory = Unit {0}
 
 -- the number of the front behind a label
 pub record Finds (protocol : Protocol_data) (role : Role) (old : List Front_data) (talks : List ℕ) (label : Label) (new : List Front_data) (n : ℕ) : Type 0 where

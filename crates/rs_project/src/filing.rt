@@ -1,5 +1,5 @@
-ghost use Rattle.std.specs.Prelude.{◌≡◌, ◌<◌, ◌≤◌, ◌+◌, ◌^◌, ◌++◌, ◌∷◌, [], ℕ, true, false, length, slice_get, Some, IfOk, OnOk, OnErr, MatchOption};
-ghost use Rattle.rs_project.specs.Filing.{IsChained, bucket_on};
+ghost use Rattle.std.specs.Prelude.{◌≡◌, ◌<◌, ◌≤◌, ◌+◌, ◌^◌, ◌++◌, ◌∷◌, [], ℕ, true, false, length, slice_get, slice_index_or, Some, IfOk, IfSome, OnOk, OnErr, MatchOption};
+ghost use Rattle.rs_project.specs.Filing.{IsChained, bucket_on, lone_front, with_number};
 ghost use Rattle.rs_project.specs.Working.{IsNew};
 
 use crate::fronts::Front;
@@ -10,35 +10,38 @@ use std::marker::Model;
 const BUCKETS: usize = 251;
 
 /// Fronts in the order in which they were found, with an index by which one is found again: of each bucket the head of a
-/// chain of numbers, and of each number the next of its chain. Each is one more than the number; 0 ends a chain.
+/// chain of numbers, and of each number the next of its chain. A front of one talk alone is found by the talk. Each is one
+/// more than the number; 0 is none.
 #[derive(Drop)]
 pub struct Fronts {
     items: Vec<Front>,
     heads: Vec<u32>,
     links: Vec<u32>,
+    lone: Vec<u32>,
 }
 
 impl Model for Fronts {
     ghost use Rattle.std.specs.Prelude.{List};
     ghost use Rattle.rs_project.specs.Data.{Front_data};
-    ghost use Rattle.rs_project.specs.Filing.{AreFiled};
+    ghost use Rattle.rs_project.specs.Filing.{AreFiled, AreLone};
 
     ghost Value = { List Front_data };
 
     ghost view = { λ f. f.items.items };
 
-    ghost invariant = { λ f. AreFiled f.items.items f.heads.items f.links.items };
+    ghost invariant = { λ f. AreFiled f.items.items f.heads.items f.links.items × AreLone f.items.items f.lone.items };
 }
 
 impl Fronts {
-    /// No fronts, with room for so many.
-    pub fn with_room(alloc: Global, room: usize) -> Result<Fronts, NoMemory>
+    /// No fronts, with room for so many, of so many talks.
+    pub fn with_room(alloc: Global, room: usize, talks: usize) -> Result<Fronts, NoMemory>
         ensures { IfOk result (λ f. f ≡ []) }
     {
         Ok(Fronts {
             items: Vec::with_capacity(alloc, room)?,
             heads: vec![in alloc; 0; BUCKETS]?,
             links: Vec::with_capacity(alloc, room)?,
+            lone: vec![in alloc; 0; talks]?,
         })
     }
 
@@ -72,6 +75,17 @@ impl Fronts {
         number_along(&self.items, &self.links, head, front)
     }
 
+    /// The number of the front of this talk alone, where it was found before.
+    pub fn number_of_lone(&self, talk: u32) -> Option<u32>
+        ensures { MatchOption result (IsNew self.now (lone_front talk)) (λ n. slice_get self.now n ≡ Some (lone_front talk)) }
+    {
+        let number = number_at(&self.lone, talk);
+        if number == 0 {
+            return None;
+        }
+        Some(number - 1)
+    }
+
     /// Adds a front at the end.
     pub fn add(&mut self, front: Front) -> Result<(), NoMemory>
         requires few { length self.old + 1 < 2 ^ 32 }
@@ -81,12 +95,51 @@ impl Fronts {
         let bucket = bucket_of(&front.talks);
         let number = self.items.len() as u32;
         let head = self.heads[bucket];
+        let talk = front.lone_talk();
+        make_room(&mut self.lone, talk)?;
         self.items.reserve(1)?;
         self.links.reserve(1)?;
         self.items.push_reserved(front);
         self.links.push_reserved(head);
         self.heads[bucket] = number + 1;
+        set_number(&mut self.lone, talk, number + 1);
         Ok(())
+    }
+}
+
+// What stands for the talk.
+fn number_at(numbers: &[u32], talk: u32) -> u32
+    ensures { result ≡ slice_index_or numbers.now talk 0 }
+{
+    match numbers.get(talk as usize) {
+        Some(number) => *number,
+        None => 0,
+    }
+}
+
+// Makes a place for the talk.
+fn make_room(numbers: &mut Vec<u32>, talk: Option<u32>) -> Result<(), NoMemory>
+    ensures same { (n : ℕ) → slice_index_or numbers.new.items n 0 ≡ slice_index_or numbers.old.items n 0 }
+    ensures room { OnOk result (IfSome talk (λ t. t < length numbers.new.items)) }
+{
+    let Some(talk) = talk else {
+        return Ok(());
+    };
+    let talk = talk as usize;
+    if talk < numbers.len() {
+        return Ok(());
+    }
+    numbers.resize(talk + 1, 0)?;
+    Ok(())
+}
+
+// Notes the number for the talk.
+fn set_number(numbers: &mut Vec<u32>, talk: Option<u32>, number: u32)
+    requires { IfSome talk (λ t. t < length numbers.old.items) }
+    ensures { numbers.new.items ≡ with_number talk number numbers.old.items }
+{
+    if let Some(talk) = talk {
+        numbers[talk as usize] = number;
     }
 }
 

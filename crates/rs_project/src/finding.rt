@@ -1,43 +1,43 @@
-ghost use Rattle.std.specs.Prelude.{◌≡◌, ◌<◌, ◌≤◌, ◌∷◌, [], ℕ, true, false, map, length, slice_get, Some, IfOk, IfErr, MatchOption};
+ghost use Rattle.std.specs.Prelude.{◌≡◌, ◌<◌, ◌≤◌, ◌∷◌, [], ℕ, map, length, slice_get, Some, IfOk, IfErr};
 ghost use Rattle.std.specs.List.{All};
-ghost use Rattle.rs_project.specs.Marks.{IsSurvey};
-ghost use Rattle.rs_project.specs.Order.{IsOnce};
+ghost use Rattle.rs_project.specs.Filing.{lone_front};
+ghost use Rattle.rs_project.specs.Marks.{IsSurvey, arms_in};
 ghost use Rattle.rs_project.specs.Numbered.{nexts_of};
 ghost use Rattle.rs_project.specs.Projection.{choice_of, merged_choices};
-ghost use Rattle.rs_project.specs.Working.{Adds, AreFound, ArmsFault, Discovers, FindFault, Finds, IsFrontBehind, IsNew, NumberFault};
+ghost use Rattle.rs_project.specs.Working.{Adds, AreFound, ArmsFault, Discovers, FaultFrom, FindsFrom, IsNew, NumberFault};
 ghost use Rattle.rs_wellformed.specs.WellFormed.{IsWellFormed};
 
 use crate::ProjFault;
 use crate::filing::Fronts;
-use crate::fronts::{Front, front_of};
-use crate::merging::{only_start, starts_behind};
+use crate::fronts::{Front, marked_front};
+use crate::merging::{merged_arms, starts_behind};
 use crate::spreading::Marks;
+use crate::straight::{lone_front, only_talk};
 use crate::surveying::Survey;
-use rs_model::{Arm, Arms, Label, MOST_STATES, NoMemory, Protocol, Role};
+use rs_model::{Arm, Arms, MOST_STATES, Node, Protocol, Role};
 use std::alloc::Global;
 
-/// The arms of the state that stands for these talks, with these choices. Fronts that weren't found before are added.
-pub fn arms_of(
+/// The arms of the state that stands for this talk alone. Fronts that weren't found before are added.
+pub fn lone_arms(
     alloc: Global,
     protocol: &Protocol,
     survey: &Survey,
     marks: &mut Marks,
-    talks: &[u32],
-    choices: &[Arm],
+    talk: u32,
     fronts: &mut Fronts,
 ) -> Result<Arms, ProjFault>
     requires well_formed { IsWellFormed protocol.now }
     requires survey { IsSurvey protocol.now survey.now.role survey.now }
-    requires talks { All (λ t. t < length protocol.now.nodes) talks.now }
-    requires choices { map choice_of choices.now ≡ merged_choices protocol.now talks.now }
+    requires talk { talk < length protocol.now.nodes }
     requires found { AreFound protocol.now survey.now.role fronts.old }
-    ensures ok { IfOk result (λ arms. Discovers protocol.now survey.now.role fronts.old talks.now (map choice_of choices.now) fronts.new (nexts_of arms)) }
-    ensures choices { IfOk result (λ arms. map choice_of arms ≡ map choice_of choices.now) }
-    ensures err { IfErr result (λ e. ArmsFault protocol.now survey.now.role fronts.old talks.now (map choice_of choices.now) e) }
+    ensures ok { IfOk result (λ arms. Discovers protocol.now survey.now.role fronts.old (talk ∷ []) (merged_choices protocol.now (talk ∷ [])) fronts.new (nexts_of arms)) }
+    ensures choices { IfOk result (λ arms. map choice_of arms ≡ merged_choices protocol.now (talk ∷ [])) }
+    ensures err { IfErr result (λ e. ArmsFault protocol.now survey.now.role fronts.old (talk ∷ []) (merged_choices protocol.now (talk ∷ [])) e) }
 {
+    let choices = arms_in(&protocol.nodes[talk as usize]);
     let mut arms = Arms::new(alloc);
     for choice in choices {
-        let next = find(alloc, protocol, survey, marks, talks, choice.label, fronts)?;
+        let next = find(alloc, protocol, survey, marks, &[choice.next], fronts)?;
         arms.push(Arm {
             label: choice.label,
             sort: choice.sort,
@@ -47,48 +47,87 @@ pub fn arms_of(
     Ok(arms)
 }
 
-// The number of what the role meets first behind the label.
+fn arms_in(node: &Node) -> &[Arm]
+    ensures { result.now ≡ arms_in node.now }
+{
+    match node {
+        Node::Finished => &[],
+        Node::Talk { arms, .. } => arms.as_slice(),
+    }
+}
+
+/// The arms of the state that stands for these talks together. Fronts that weren't found before are added.
+pub fn joint_arms(
+    alloc: Global,
+    protocol: &Protocol,
+    survey: &Survey,
+    marks: &mut Marks,
+    talks: &[u32],
+    fronts: &mut Fronts,
+) -> Result<Arms, ProjFault>
+    requires well_formed { IsWellFormed protocol.now }
+    requires survey { IsSurvey protocol.now survey.now.role survey.now }
+    requires talks { All (λ t. t < length protocol.now.nodes) talks.now }
+    requires found { AreFound protocol.now survey.now.role fronts.old }
+    ensures ok { IfOk result (λ arms. Discovers protocol.now survey.now.role fronts.old talks.now (merged_choices protocol.now talks.now) fronts.new (nexts_of arms)) }
+    ensures choices { IfOk result (λ arms. map choice_of arms ≡ merged_choices protocol.now talks.now) }
+    ensures err { IfErr result (λ e. ArmsFault protocol.now survey.now.role fronts.old talks.now (merged_choices protocol.now talks.now) e) }
+{
+    let choices = merged_arms(alloc, protocol, talks)?;
+    let mut arms = Arms::new(alloc);
+    for choice in choices.as_slice() {
+        let starts = starts_behind(alloc, protocol, talks, choice.label)?;
+        let next = find(alloc, protocol, survey, marks, starts.as_slice(), fronts)?;
+        arms.push(Arm {
+            label: choice.label,
+            sort: choice.sort,
+            next,
+        })?;
+    }
+    Ok(arms)
+}
+
+// The number of what the role meets first from the starts, which is added where it is new.
 fn find(
     alloc: Global,
     protocol: &Protocol,
     survey: &Survey,
     marks: &mut Marks,
-    talks: &[u32],
-    label: Label,
+    starts: &[u32],
     fronts: &mut Fronts,
 ) -> Result<u32, ProjFault>
     requires well_formed { IsWellFormed protocol.now }
     requires survey { IsSurvey protocol.now survey.now.role survey.now }
-    requires talks { All (λ t. t < length protocol.now.nodes) talks.now }
+    requires starts { All (λ s. s < length protocol.now.nodes) starts.now }
     requires fronts { length fronts.old ≤ MOST_STATES }
-    ensures ok { IfOk result (λ n. Finds protocol.now survey.now.role fronts.old talks.now label fronts.new n) }
-    ensures err { IfErr result (λ e. FindFault protocol.now survey.now.role fronts.old talks.now label e) }
+    ensures ok { IfOk result (λ n. FindsFrom protocol.now survey.now.role fronts.old starts.now fronts.new n) }
+    ensures err { IfErr result (λ e. FaultFrom protocol.now survey.now.role fronts.old starts.now e) }
 {
-    let front = front_behind(alloc, protocol, survey, marks, talks, label)?;
-    let number = number_of(survey.role, fronts, front)?;
-    Ok(number)
+    if let [start] = starts {
+        if let Some(talk) = only_talk(protocol, survey, *start) {
+            return number_of_lone(alloc, survey.role, fronts, talk);
+        }
+    }
+    let front = marked_front(alloc, protocol, survey, marks, starts)?;
+    number_of(survey.role, fronts, front)
 }
 
-fn front_behind(
+// The number of the front of this talk alone, which is added where it is new.
+fn number_of_lone(
     alloc: Global,
-    protocol: &Protocol,
-    survey: &Survey,
-    marks: &mut Marks,
-    talks: &[u32],
-    label: Label,
-) -> Result<Front, NoMemory>
-    requires well_formed { IsWellFormed protocol.now }
-    requires survey { IsSurvey protocol.now survey.now.role survey.now }
-    requires talks { All (λ t. t < length protocol.now.nodes) talks.now }
-    ensures { IfOk result (λ f. IsFrontBehind protocol.now survey.now.role talks.now label f) }
+    role: Role,
+    fronts: &mut Fronts,
+    talk: u32,
+) -> Result<u32, ProjFault>
+    requires { length fronts.old ≤ MOST_STATES }
+    ensures ok { IfOk result (λ n. Adds fronts.old (lone_front talk) fronts.new n) }
+    ensures err { IfErr result (λ e. NumberFault role fronts.old (lone_front talk) e) }
 {
-    if let Some(start) = only_start(protocol, talks, label) {
-        let front = front_of(alloc, protocol, survey, marks, &[start])?;
-        return Ok(front);
+    if let Some(known) = fronts.number_of_lone(talk) {
+        return Ok(known);
     }
-    let starts = starts_behind(alloc, protocol, talks, label)?;
-    let front = front_of(alloc, protocol, survey, marks, &starts)?;
-    Ok(front)
+    let front = lone_front(alloc, talk)?;
+    add_new(role, fronts, front)
 }
 
 // The number of a front, which is added where it is new.
@@ -100,6 +139,15 @@ fn number_of(role: Role, fronts: &mut Fronts, front: Front) -> Result<u32, ProjF
     if let Some(number) = fronts.number_of(&front) {
         return Ok(number);
     }
+    add_new(role, fronts, front)
+}
+
+fn add_new(role: Role, fronts: &mut Fronts, front: Front) -> Result<u32, ProjFault>
+    requires few { length fronts.old ≤ MOST_STATES }
+    requires new { IsNew fronts.old front }
+    ensures ok { IfOk result (λ n. Adds fronts.old front fronts.new n) }
+    ensures err { IfErr result (λ e. NumberFault role fronts.old front e) }
+{
     let number = fronts.len();
     if number == MOST_STATES {
         return Err(ProjFault::TooManyStates { role });

@@ -1,7 +1,8 @@
-ghost use Rattle.std.specs.Prelude.{◌≡◌, ◌↔◌, ◌<◌, ℕ, false, not, length, slice_index_or, IfOk};
+ghost use Rattle.std.specs.Prelude.{◌≡◌, ◌↔◌, ◌<◌, ◌∷◌, [], ℕ, false, not, length, slice_index_or, IfOk, MatchOption};
 ghost use Rattle.std.specs.List.{All, AllPairs, Contains, filter, list_any};
-ghost use Rattle.rs_project.specs.Marks.{IsSurvey, StartEnds, StartMeets};
-ghost use Rattle.rs_project.specs.Refusals.{IsFront};
+ghost use Rattle.rs_project.specs.Filing.{lone_front};
+ghost use Rattle.rs_project.specs.Marks.{IsSurvey};
+ghost use Rattle.rs_project.specs.Working.{IsFrontFrom};
 ghost use Rattle.rs_wellformed.specs.WellFormed.{IsWellFormed};
 
 use crate::spreading::Marks;
@@ -26,6 +27,27 @@ impl Model for Front {
     ghost view = { λ f. record { talks = f.talks.items; ends = f.ends } };
 }
 
+impl Front {
+    /// The talk, where it is all that the role may meet first.
+    pub fn lone_talk(&self) -> Option<u32>
+        ensures { MatchOption result ((t : ℕ) → self.now ≡ lone_front t → ⊥) (λ t. self.now ≡ lone_front t) }
+    {
+        if self.ends {
+            return None;
+        }
+        only_item(&self.talks)
+    }
+}
+
+fn only_item(numbers: &[u32]) -> Option<u32>
+    ensures { MatchOption result ((n : ℕ) → numbers.now ≡ n ∷ [] → ⊥) (λ n. numbers.now ≡ n ∷ []) }
+{
+    match numbers {
+        [number] => Some(*number),
+        _ => None,
+    }
+}
+
 /// What the role may meet first from one of the nodes in `starts`. It is found by marks, whatever they were before.
 pub fn front_of(
     alloc: Global,
@@ -37,13 +59,29 @@ pub fn front_of(
     requires well_formed { IsWellFormed protocol.now }
     requires survey { IsSurvey protocol.now survey.now.role survey.now }
     requires starts { All (λ s. s < length protocol.now.nodes) starts.now }
-    ensures { IfOk result (λ f. IsFront f (StartMeets protocol.now survey.now.role starts.now) (StartEnds protocol.now survey.now.role starts.now)) }
+    ensures { IfOk result (λ f. IsFrontFrom protocol.now survey.now.role starts.now f) }
 {
     if let [start] = starts {
         if let Some(talk) = only_talk(protocol, survey, *start) {
             return lone_front(alloc, talk);
         }
     }
+    marked_front(alloc, protocol, survey, marks, starts)
+}
+
+/// .. where talks with more arms than one may lead to it.
+pub fn marked_front(
+    alloc: Global,
+    protocol: &Protocol,
+    survey: &Survey,
+    marks: &mut Marks,
+    starts: &[u32],
+) -> Result<Front, NoMemory>
+    requires well_formed { IsWellFormed protocol.now }
+    requires survey { IsSurvey protocol.now survey.now.role survey.now }
+    requires starts { All (λ s. s < length protocol.now.nodes) starts.now }
+    ensures { IfOk result (λ f. IsFrontFrom protocol.now survey.now.role starts.now f) }
+{
     marks.spread(protocol, &survey.passing, starts)?;
     let numbers = marks.as_slice();
     let talks = flagged(alloc, numbers, &survey.involved)?;

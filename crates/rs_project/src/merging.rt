@@ -1,7 +1,6 @@
-ghost use Rattle.std.specs.Prelude.{◌≡◌, ◌<◌, ◌++◌, ◌∷◌, [], ◌==◌, map, length, slice_get, Some, IfOk, IfSome, OnOk};
+ghost use Rattle.std.specs.Prelude.{◌≡◌, ◌<◌, ◌++◌, ◌∷◌, [], ◌==◌, map, length, slice_get, Some, IfOk, OnOk};
 ghost use Rattle.std.specs.List.{All, flat_map, list_any};
-ghost use Rattle.rs_project.specs.Marks.{labelled_nexts, labelled_nexts_of, next_labelled};
-ghost use Rattle.rs_wellformed.specs.WellFormed.{IsWellFormed};
+ghost use Rattle.rs_project.specs.Marks.{labelled_nexts, labelled_nexts_of};
 ghost use Rattle.rs_project.specs.Projection.{choice_of, choices_of, first_choices, merged_choices};
 
 use rs_model::{Arm, Label, NoMemory, Node, Protocol};
@@ -68,32 +67,6 @@ pub fn starts_behind(
         add_starts(&mut starts, &protocol.nodes[*talk as usize], label)?;
     }
     Ok(starts)
-}
-
-/// The node to which the talk's arm with the label leads, where there is one talk alone.
-pub fn only_start(protocol: &Protocol, talks: &[u32], label: Label) -> Option<u32>
-    requires well_formed { IsWellFormed protocol.now }
-    requires talks { All (λ t. t < length protocol.now.nodes) talks.now }
-    ensures { IfSome result (λ n. flat_map (λ t. labelled_nexts_of label (slice_get protocol.now.nodes t)) talks.now ≡ n ∷ []) }
-{
-    if talks.len() != 1 {
-        return None;
-    }
-    match &protocol.nodes[talks[0] as usize] {
-        Node::Finished => None,
-        Node::Talk { arms, .. } => next_labelled(arms.as_slice(), label),
-    }
-}
-
-fn next_labelled(arms: &[Arm], label: Label) -> Option<u32>
-    ensures { result ≡ next_labelled label arms.now }
-{
-    for arm in arms {
-        if arm.label == label {
-            return Some(arm.next);
-        }
-    }
-    None
 }
 
 fn add_starts(starts: &mut Vec<u32>, node: &Node, label: Label) -> Result<(), NoMemory>

@@ -1,5 +1,5 @@
-ghost use Rattle.std.specs.Prelude.{◌≡◌, ◌⊎◌, ◌<◌, ◌≤◌, ◌^◌, ℕ, map, length, IfOk, IfErr, IfSome};
-ghost use Rattle.std.specs.List.{All, Contains};
+ghost use Rattle.std.specs.Prelude.{◌≡◌, ◌⊎◌, ◌<◌, ◌≤◌, ◌^◌, ◌∷◌, [], ℕ, map, length, IfOk, IfErr};
+ghost use Rattle.std.specs.List.{Contains};
 ghost use Rattle.rs_model.specs.declared.limits.TheConstants.{MOST_STATES};
 ghost use Rattle.rs_model.specs.WellFormed.{IsWellFormedMachine};
 ghost use Rattle.rs_project.specs.Graph.{Involves, MeetsFirst, MeetsTheEnd};
@@ -12,13 +12,12 @@ ghost use Rattle.rs_wellformed.specs.WellFormed.{IsWellFormed};
 
 use crate::clashes::first_clash;
 use crate::filing::Fronts;
-use crate::finding::arms_of;
+use crate::finding::{joint_arms, lone_arms};
 use crate::fronts::{Front, front_of};
-use crate::merging::merged_arms;
 use crate::rounds::first_unreached;
 use crate::spreading::Marks;
 use crate::surveying::{Survey, survey_of};
-use rs_model::{Arm, Arms, Machine, NoMemory, Node, Protocol, Role, State};
+use rs_model::{Arms, Machine, NoMemory, Node, Protocol, Role, State};
 use smallvec::SmallVec;
 use std::alloc::{AllocError, AllocFailed, Global};
 use std::marker::Model;
@@ -126,7 +125,7 @@ fn work(
     ensures err { IfErr result (λ e. (e ≡ ProjFault.NoMemory) ⊎ FirstRefusal protocol.now survey.now.role e) }
 {
     let room = usual_size(&survey.involved);
-    let mut fronts = Fronts::with_room(alloc, room)?;
+    let mut fronts = Fronts::with_room(alloc, room, protocol.nodes.len())?;
     fronts.add(start)?;
     let mut states: Vec<State> = Vec::with_capacity(alloc, room)?;
     while states.len() < fronts.len() {
@@ -153,6 +152,50 @@ fn usual_size(involved: &[bool]) -> usize {
 }
 
 fn state_of(
+    alloc: Global,
+    protocol: &Protocol,
+    survey: &Survey,
+    marks: &mut Marks,
+    number: usize,
+    fronts: &mut Fronts,
+) -> Result<State, ProjFault>
+    requires well_formed { IsWellFormed protocol.now }
+    requires survey { IsSurvey protocol.now survey.now.role survey.now }
+    requires found { AreFound protocol.now survey.now.role fronts.old }
+    requires number { number < length fronts.old }
+    ensures ok { IfOk result (λ s. WorksOn protocol.now survey.now.role fronts.old number fronts.new s) }
+    ensures err { IfErr result (λ e. StateFault protocol.now survey.now.role fronts.old number e) }
+{
+    let front = &fronts.as_slice()[number];
+    if let Some(talk) = front.lone_talk() {
+        return lone_state(alloc, protocol, survey, marks, talk, fronts);
+    }
+    joint_state(alloc, protocol, survey, marks, number, fronts)
+}
+
+// The state that stands for this talk alone.
+fn lone_state(
+    alloc: Global,
+    protocol: &Protocol,
+    survey: &Survey,
+    marks: &mut Marks,
+    talk: u32,
+    fronts: &mut Fronts,
+) -> Result<State, ProjFault>
+    requires well_formed { IsWellFormed protocol.now }
+    requires survey { IsSurvey protocol.now survey.now.role survey.now }
+    requires found { AreFound protocol.now survey.now.role fronts.old }
+    requires involved { Involves protocol.now survey.now.role talk }
+    ensures ok { IfOk result (λ s. Discovers protocol.now survey.now.role fronts.old (talk ∷ []) (merged_choices protocol.now (talk ∷ [])) fronts.new (nexts_behind s)) }
+    ensures shape { IfOk result (λ s. HasShape protocol.now survey.now.role (talk ∷ []) s) }
+    ensures err { IfErr result (λ e. ArmsFault protocol.now survey.now.role fronts.old (talk ∷ []) (merged_choices protocol.now (talk ∷ [])) e) }
+{
+    let arms = lone_arms(alloc, protocol, survey, marks, talk, fronts)?;
+    Ok(act_of(protocol, survey.role, &[talk], arms))
+}
+
+// The state that stands for the members of the front together.
+fn joint_state(
     alloc: Global,
     protocol: &Protocol,
     survey: &Survey,
@@ -199,47 +242,8 @@ fn merged_state(
     ensures shape { IfOk result (λ s. HasShape protocol.now survey.now.role talks.now s) }
     ensures err { IfErr result (λ e. ArmsFault protocol.now survey.now.role fronts.old talks.now (merged_choices protocol.now talks.now) e) }
 {
-    let arms = arms_behind(alloc, protocol, survey, marks, talks, fronts)?;
+    let arms = joint_arms(alloc, protocol, survey, marks, talks, fronts)?;
     Ok(act_of(protocol, survey.role, talks, arms))
-}
-
-// The arms of that state: those of the one talk, or those of all together.
-fn arms_behind(
-    alloc: Global,
-    protocol: &Protocol,
-    survey: &Survey,
-    marks: &mut Marks,
-    talks: &[u32],
-    fronts: &mut Fronts,
-) -> Result<Arms, ProjFault>
-    requires well_formed { IsWellFormed protocol.now }
-    requires survey { IsSurvey protocol.now survey.now.role survey.now }
-    requires found { AreFound protocol.now survey.now.role fronts.old }
-    requires talks { All (λ t. t < length protocol.now.nodes) talks.now }
-    ensures ok { IfOk result (λ arms. Discovers protocol.now survey.now.role fronts.old talks.now (merged_choices protocol.now talks.now) fronts.new (nexts_of arms)) }
-    ensures choices { IfOk result (λ arms. map choice_of arms ≡ merged_choices protocol.now talks.now) }
-    ensures err { IfErr result (λ e. ArmsFault protocol.now survey.now.role fronts.old talks.now (merged_choices protocol.now talks.now) e) }
-{
-    if let Some(arms) = only_arms(protocol, talks) {
-        return arms_of(alloc, protocol, survey, marks, talks, arms, fronts);
-    }
-    let choices = merged_arms(alloc, protocol, talks)?;
-    arms_of(alloc, protocol, survey, marks, talks, &choices, fronts)
-}
-
-// The arms of the talk, where there is one alone.
-fn only_arms<'a>(protocol: &'a Protocol, talks: &[u32]) -> Option<&'a [Arm]>
-    requires well_formed { IsWellFormed protocol.now }
-    requires talks { All (λ t. t < length protocol.now.nodes) talks.now }
-    ensures { IfSome result (λ arms. map choice_of arms.now ≡ merged_choices protocol.now talks.now) }
-{
-    if talks.len() != 1 {
-        return None;
-    }
-    match &protocol.nodes[talks[0] as usize] {
-        Node::Finished => None,
-        Node::Talk { arms, .. } => Some(arms.as_slice()),
-    }
 }
 
 // The state of a role that does what it does in the first of these talks, or of one that is done where there are none.

@@ -1,4 +1,5 @@
-ghost use Rattle.std.specs.Prelude.{◌≡◌, ◌<◌, ◌∷◌, [], false, length, IfOk, IfSome};
+ghost use Rattle.std.specs.Prelude.{◌≡◌, ◌<◌, ◌∷◌, [], length, IfOk, IfSome};
+ghost use Rattle.rs_project.specs.Filing.{lone_front};
 ghost use Rattle.rs_project.specs.Marks.{IsSurvey, MeetsOnly, nexts_of_node};
 ghost use Rattle.rs_wellformed.specs.WellFormed.{IsWellFormed};
 
@@ -42,7 +43,7 @@ fn only_next(node: &Node) -> Option<u32>
 
 /// What a role may meet first where it is this talk alone.
 pub fn lone_front(alloc: Global, talk: u32) -> Result<Front, NoMemory>
-    ensures { IfOk result (λ f. f ≡ record { talks = talk ∷ []; ends = false }) }
+    ensures { IfOk result (λ f. f ≡ lone_front talk) }
 {
     let mut talks = Vec::with_capacity(alloc, 1)?;
     talks.push(talk)?;

@@ -1,15 +1,25 @@
-use Rattle.std.proofs.Common.{ap, subst}
-use Rattle.rs_model.specs.declared.graph.Role.{Role}
+use Rattle.std.proofs.Common.{ap}
+use Rattle.rs_project.specs.Filing.{lone_front}
 use Rattle.rs_project.specs.Marks.{Survey_data}
-use Rattle.rs_project.specs.Working.{FindFault, NumberFault}
-use Rattle.rs_project.proofs.Handed.{handed-on}
-use Rattle.rs_project.proofs.Behind.{find-fault}
+use Rattle.rs_project.proofs.Behind.{fault-from, finds-from}
+use Rattle.rs_project.proofs.Lone.{lone-front, one-start}
+use Rattle.std.proofs.Common.{refl}
 use Rattle.rs_project.proofs.finding.find.Goals as goal
 
-pub returns-in_err-number-clause-err : goal.returns-in_err-number-clause-err
-returns-in_err-number-clause-err c =
-    let P : Role → Type 0 = λ z. NumberFault z c.args.fronts.now c.in_ok-front.front c.in_err-number.field-0.0 in
-    handed-on c.from_residual-in_err-number.result c.in_err-number.field-0.0 (λ e. FindFault c.args.protocol.now c.args.survey.now.role c.args.fronts.now c.args.talks.now c.args.label e)
-    c.from_residual-in_err-number.ensures.1
-    (find-fault c.args.protocol.now c.args.survey.now.role c.args.fronts.now c.args.talks.now c.args.label c.in_ok-front.front c.in_ok-front.ensures c.in_err-number.field-0.0
-    (subst P (ap (λ (z : Survey_data). z.role) c.survey.view_is) c.in_err-number.ensures.err))
+pub returns-in-Some-clause-ok : goal.returns-in-Some-clause-ok
+returns-in-Some-clause-ok c =
+    let one = one-start c.args.starts.now 0 c.in-len1.len_at_least c.in-len1.len_below in
+    finds-from c.args.protocol.now c.args.survey.now.role c.args.fronts.now c.args.starts.now c.number_of_lone.new.fronts (lone_front c.in-Some.talk) c.number_of_lone.result
+    (lone-front c.args.protocol.now c.args.survey.now.role c.args.starts.now _ c.in-Some.talk (lone_front c.in-Some.talk) one refl c.in-Some.ensures) c.number_of_lone.ensures.ok
+
+pub returns-in-Some-clause-err : goal.returns-in-Some-clause-err
+returns-in-Some-clause-err c =
+    let one = one-start c.args.starts.now 0 c.in-len1.len_at_least c.in-len1.len_below in
+    fault-from c.args.protocol.now c.args.survey.now.role c.survey.inside.role c.args.fronts.now c.args.starts.now (lone_front c.in-Some.talk) c.number_of_lone.result (ap (λ (z : Survey_data). z.role) c.survey.view_is)
+    (lone-front c.args.protocol.now c.args.survey.now.role c.args.starts.now _ c.in-Some.talk (lone_front c.in-Some.talk) one refl c.in-Some.ensures) c.number_of_lone.ensures.err
+
+pub returns-clause-ok : goal.returns-clause-ok
+returns-clause-ok c = finds-from c.args.protocol.now c.args.survey.now.role c.args.fronts.now c.args.starts.now c.number_of.new.fronts c.in_ok-front.front c.number_of.result c.in_ok-front.ensures c.number_of.ensures.ok
+
+pub returns-clause-err : goal.returns-clause-err
+returns-clause-err c = fault-from c.args.protocol.now c.args.survey.now.role c.survey.inside.role c.args.fronts.now c.args.starts.now c.in_ok-front.front c.number_of.result (ap (λ (z : Survey_data). z.role) c.survey.view_is) c.in_ok-front.ensures c.number_of.ensures.err

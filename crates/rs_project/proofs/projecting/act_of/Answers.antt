@@ -1,9 +1,14 @@
-use Rattle.std.proofs.Common.{rules, arith, ◌≡◌, Some, get_or, length, vec_len, ap, sym, ◌∙◌}
+use Rattle.std.proofs.Common.{rules, arith, ◌≡◌, ℕ, List, Some, get_or, length, vec_len, ap, sym, ◌∙◌}
 use Rattle.rs_project.proofs.Lists.{contains, read-via}
 use Rattle.rs_project.proofs.Meetings.{place-among}
 use Rattle.rs_project.proofs.Surveys.{role-by, role-eq}
 use Rattle.rs_project.proofs.Behind.{no-finish, involved-within, send-each, receive-each, some-talks, not-none}
+use Rattle.rs_project.proofs.Alone.{no-nexts, no-talks}
+use Rattle.rs_project.specs.Projection.{merged_choices}
 use Rattle.rs_project.proofs.projecting.act_of.Goals as goal
+
+pub returns-then-is_empty-clause-nexts : goal.returns-then-is_empty-clause-nexts
+returns-then-is_empty-clause-nexts c = no-nexts c.args.arms (c.requires.choices ∙ ap (λ (z : List ℕ). merged_choices c.args.protocol.now z) (no-talks c.args.talks.now c.if-is_empty.ensures))
 
 pub index-requires : goal.index-requires
 index-requires c =

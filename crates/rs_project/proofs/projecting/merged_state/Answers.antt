@@ -6,8 +6,8 @@ use Rattle.rs_project.specs.Projection.{Agree}
 use Rattle.rs_project.proofs.Steps.{talks-within}
 use Rattle.rs_project.proofs.projecting.merged_state.Goals as goal
 
-pub arms_behind-requires-clause-talks : goal.arms_behind-requires-clause-talks
-arms_behind-requires-clause-talks c = talks-within c.args.protocol.now c.args.survey.now.role c.args.talks.now c.requires.involved
+pub joint_arms-requires-clause-talks : goal.joint_arms-requires-clause-talks
+joint_arms-requires-clause-talks c = talks-within c.args.protocol.now c.args.survey.now.role c.args.talks.now c.requires.involved
 
 pub act_of-requires-clause-agree : goal.act_of-requires-clause-agree
 act_of-requires-clause-agree c =

@@ -20,22 +20,22 @@ loop-marks-init c =
 
 pub returns-in_err-state-clause-err : goal.returns-in_err-state-clause-err
 returns-in_err-state-clause-err c =
-    let n : c.len-in-loop-marks-2.result ≡ length c.loop-marks.states.items = search rules in
+    let n : c.len-in-loop-marks-3.result ≡ length c.loop-marks.states.items = search rules in
     let P : ℕ → Type 0 = λ z. StateFault c.args.protocol.now c.args.survey.now.role c.loop-marks.fronts z c.in_err-state.field-0.0 in
     handed-on c.from_residual-in_err-state.result c.in_err-state.field-0.0 (λ e. (e ≡ NoMemory) ⊎ FirstRefusal c.args.protocol.now c.args.survey.now.role e) c.from_residual-in_err-state.ensures.1
     (work-fault c.args.protocol.now c.args.survey.now.role c.loop-marks.fronts c.loop-marks.states.items c.requires.reached c.loop-marks.invariant c.in_err-state.field-0.0 (subst P n c.in_err-state.ensures.err))
 
 pub loop-marks-preserved : goal.loop-marks-preserved
 loop-marks-preserved c =
-    let n : c.len-in-loop-marks-2.result ≡ length c.loop-marks.states.items = search rules in
+    let n : c.len-in-loop-marks-3.result ≡ length c.loop-marks.states.items = search rules in
     let P : ℕ → Type 0 = λ z. WorksOn c.args.protocol.now c.args.survey.now.role c.loop-marks.fronts z c.state_of.new.fronts c.in_ok-state.state in
     working-on c.args.protocol.now c.args.survey.now.role c.loop-marks.fronts c.state_of.new.fronts c.loop-marks.states.items c.push_reserved.new.self.items c.in_ok-state.state
     (c.push_reserved.ensures.items ∙ ap (λ (z : List State). z ++ c.in_ok-state.state ∷ []) c.in_ok-reserve.ensures.items) c.loop-marks.invariant (subst P n c.in_ok-state.ensures.ok)
 
 pub returns-clause-ok : goal.returns-clause-ok
 returns-clause-ok c =
-    let a : c.len.result ≡ length c.loop-marks.states.items = search rules in
-    let b : c.len-in-loop-marks.result ≡ length c.loop-marks.fronts = search rules in
+    let a : c.len-in-loop-marks.result ≡ length c.loop-marks.states.items = search rules in
+    let b : c.len-in-loop-marks-2.result ≡ length c.loop-marks.fronts = search rules in
     let le : length c.loop-marks.fronts ≤ length c.loop-marks.states.items = (let f = c.loop-marks-test.false in omega (arith, a, b, f)) in
     let sets : List (List ℕ) = map (λ (s : Vec ℕ Global). s.items) c.in_ok-sets.sets.items in
     let P : Role → Type 0 = λ z. IsNumberedProjection c.args.protocol.now c.args.survey.now.role record { machine = record { role = z; states = c.loop-marks.states.items; start = 0 }; sets = sets } in
