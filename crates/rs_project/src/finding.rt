@@ -12,7 +12,7 @@ use crate::filing::Fronts;
 use crate::fronts::{Front, marked_front};
 use crate::merging::{merged_arms, starts_behind};
 use crate::spreading::Marks;
-use crate::straight::{lone_front, only_talk};
+use crate::straight::{lone_front, only_talk, straight_front};
 use crate::surveying::Survey;
 use rs_model::{Arm, Arms, MOST_STATES, Node, Protocol, Role};
 use std::alloc::Global;
@@ -107,6 +107,8 @@ fn find(
         if let Some(talk) = only_talk(protocol, survey, *start) {
             return number_of_lone(alloc, survey.role, fronts, talk);
         }
+    } else if let Some(front) = straight_front(alloc, protocol, survey, starts)? {
+        return number_of(survey.role, fronts, front);
     }
     let front = marked_front(alloc, protocol, survey, marks, starts)?;
     number_of(survey.role, fronts, front)

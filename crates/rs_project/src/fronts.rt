@@ -106,8 +106,8 @@ fn flagged(alloc: Global, numbers: &[u32], flags: &[bool]) -> Result<Vec<u32>, N
     Ok(those)
 }
 
-// The numbers in order, each once.
-fn in_order(mut numbers: Vec<u32>) -> Vec<u32>
+/// The numbers in order, each once.
+pub fn in_order(mut numbers: Vec<u32>) -> Vec<u32>
     ensures rising { AllPairs (λ (n m : ℕ). n < m) result.items }
     ensures same { (n : ℕ) → Contains result.items n ↔ Contains numbers.items n }
 {

@@ -19,7 +19,7 @@ returns-in-Some-clause-err c =
     (lone-front c.args.protocol.now c.args.survey.now.role c.args.starts.now _ c.in-Some.talk (lone_front c.in-Some.talk) one refl c.in-Some.ensures) c.number_of_lone.ensures.err
 
 pub returns-clause-ok : goal.returns-clause-ok
-returns-clause-ok c = finds-from c.args.protocol.now c.args.survey.now.role c.args.fronts.now c.args.starts.now c.number_of.new.fronts c.in_ok-front.front c.number_of.result c.in_ok-front.ensures c.number_of.ensures.ok
+returns-clause-ok c = finds-from c.args.protocol.now c.args.survey.now.role c.args.fronts.now c.args.starts.now c.number_of-2.new.fronts c.in_ok-front-2.front c.number_of-2.result c.in_ok-front-2.ensures c.number_of-2.ensures.ok
 
 pub returns-clause-err : goal.returns-clause-err
-returns-clause-err c = fault-from c.args.protocol.now c.args.survey.now.role c.survey.inside.role c.args.fronts.now c.args.starts.now c.in_ok-front.front c.number_of.result (ap (λ (z : Survey_data). z.role) c.survey.view_is) c.in_ok-front.ensures c.number_of.ensures.err
+returns-clause-err c = fault-from c.args.protocol.now c.args.survey.now.role c.survey.inside.role c.args.fronts.now c.args.starts.now c.in_ok-front-2.front c.number_of-2.result (ap (λ (z : Survey_data). z.role) c.survey.view_is) c.in_ok-front-2.ensures c.number_of-2.ensures.err

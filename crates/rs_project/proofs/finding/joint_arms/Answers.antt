@@ -27,7 +27,7 @@ find-requires-clause-starts c =
     let choices = c.as_slice-choice-items.result.now in
     let a : Arm = get_or choices c.loop-choice.choice-index record { label = record { 0 = 0 }; sort = unit; next = 0 } in
     let P : List ℕ → Type 0 = λ z. All (λ s. s < length c.args.protocol.now.nodes) z in
-    subst P (sym (c.as_slice.ensures.value ∙ c.in_ok-starts.ensures)) (starts-within c.args.protocol.now c.args.talks.now a.label c.requires.well_formed)
+    subst P (sym (c.as_slice.ensures ∙ c.in_ok-starts.ensures)) (starts-within c.args.protocol.now c.args.talks.now a.label c.requires.well_formed)
 
 pub returns-in_err-next-clause-err : goal.returns-in_err-next-clause-err
 returns-in_err-next-clause-err c =
@@ -37,14 +37,14 @@ returns-in_err-next-clause-err c =
     let choices = c.as_slice-choice-items.result.now in
     let a : Arm = get_or choices c.loop-choice.choice-index record { label = record { 0 = 0 }; sort = unit; next = 0 } in
     let at = slice_get-get_or choices c.loop-choice.choice-index _ c.loop-choice-test.true in
-    let same = ap (λ (z : List Arm). map choice_of z) c.as_slice-choice-items.ensures.value ∙ c.in_ok-choices.ensures in
+    let same = ap (λ (z : List Arm). map choice_of z) c.as_slice-choice-items.ensures ∙ c.in_ok-choices.ensures in
     let Q : List Choice → Type 0 = λ z. ArmsFault pr role c.args.fronts.now talks z c.in_err-next.field-0.0 in
     handed-on c.from_residual-in_err-next.result c.in_err-next.field-0.0 (λ e. ArmsFault pr role c.args.fronts.now talks (merged_choices pr talks) e)
     c.from_residual-in_err-next.ensures.1
     (subst Q same
     (arms-fault pr role c.args.fronts.now c.loop-choice.fronts talks choices c.loop-choice.choice-index a (nexts_of c.loop-choice.arms)
     at c.loop-choice.invariant.discovers c.in_err-next.field-0.0
-    (fault-behind pr role c.loop-choice.fronts talks a.label c.as_slice.result.now (c.as_slice.ensures.value ∙ c.in_ok-starts.ensures) c.in_err-next.field-0.0 c.in_err-next.ensures.err)))
+    (fault-behind pr role c.loop-choice.fronts talks a.label c.as_slice.result.now (c.as_slice.ensures ∙ c.in_ok-starts.ensures) c.in_err-next.field-0.0 c.in_err-next.ensures.err)))
 
 pub loop-choice-preserved : goal.loop-choice-preserved
 loop-choice-preserved c =
@@ -54,11 +54,11 @@ loop-choice-preserved c =
     let choices = c.as_slice-choice-items.result.now in
     let a : Arm = get_or choices c.loop-choice.choice-index record { label = record { 0 = 0 }; sort = unit; next = 0 } in
     let at = slice_get-get_or choices c.loop-choice.choice-index _ c.loop-choice-test.true in
-    let same = ap (λ (z : List Arm). map choice_of z) c.as_slice-choice-items.ensures.value ∙ c.in_ok-choices.ensures in
+    let same = ap (λ (z : List Arm). map choice_of z) c.as_slice-choice-items.ensures ∙ c.in_ok-choices.ensures in
     record {
       discovers = arm-more pr role c.args.survey.now c.args.fronts.now c.loop-choice.fronts c.find.new.fronts talks choices c.loop-choice.choice-index a
           c.loop-choice.arms c.push.new.self c.in_ok-next.next c.requires.survey same at c.in_ok-push.ensures.ok c.loop-choice.invariant.discovers
-          (finds-behind pr role c.loop-choice.fronts talks a.label c.as_slice.result.now c.find.new.fronts c.in_ok-next.next (c.as_slice.ensures.value ∙ c.in_ok-starts.ensures) c.in_ok-next.ensures.ok);
+          (finds-behind pr role c.loop-choice.fronts talks a.label c.as_slice.result.now c.find.new.fronts c.in_ok-next.next (c.as_slice.ensures ∙ c.in_ok-starts.ensures) c.in_ok-next.ensures.ok);
       same = same-more choices c.loop-choice.choice-index a c.loop-choice.arms c.push.new.self c.in_ok-next.next at c.in_ok-push.ensures.ok c.loop-choice.invariant.same;
     }
 
@@ -66,11 +66,11 @@ pub returns-clause-ok : goal.returns-clause-ok
 returns-clause-ok c =
     let pr = c.args.protocol.now in
     let talks = c.args.talks.now in
-    let same = ap (λ (z : List Arm). map choice_of z) c.as_slice-choice-items.ensures.value ∙ c.in_ok-choices.ensures in
+    let same = ap (λ (z : List Arm). map choice_of z) c.as_slice-choice-items.ensures ∙ c.in_ok-choices.ensures in
     let Q : List Choice → Type 0 = λ z. Discovers pr c.args.survey.now.role c.args.fronts.now talks z c.loop-choice.fronts (nexts_of c.loop-choice.arms) in
     subst Q (taken-all c.as_slice-choice-items.result.now c.loop-choice.choice-index (let f = c.loop-choice-test.false in omega (arith, f)) ∙ same) c.loop-choice.invariant.discovers
 
 pub returns-clause-choices : goal.returns-clause-choices
 returns-clause-choices c =
     c.loop-choice.invariant.same ∙ taken-all c.as_slice-choice-items.result.now c.loop-choice.choice-index (let f = c.loop-choice-test.false in omega (arith, f))
-    ∙ ap (λ (z : List Arm). map choice_of z) c.as_slice-choice-items.ensures.value ∙ c.in_ok-choices.ensures
+    ∙ ap (λ (z : List Arm). map choice_of z) c.as_slice-choice-items.ensures ∙ c.in_ok-choices.ensures
