@@ -7,6 +7,7 @@ pub mod Surveys
 pub mod Cycles
 pub mod Peels
 pub mod Lone
+pub mod Routes
 pub mod Merged
 pub mod Meetings
 pub mod Agreeing

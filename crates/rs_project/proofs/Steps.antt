@@ -1,7 +1,6 @@
 -- The work on the states, state by state.
-use Rattle.std.proofs.Common.{◌≡◌, ◌⊎◌, inl, inr, ℕ, zero, suc, ◌<◌, ◌≤◌, Bool, true, false, List, [], ◌∷◌, ◌++◌, length, map, Result, Ok, Err, Some, slice_get, refl, sym, ap, ap₂, ◌∙◌, subst, subst₂, arith, length-append}
+use Rattle.std.proofs.Common.{◌≡◌, ◌⊎◌, inl, inr, ℕ, zero, suc, ◌<◌, ◌≤◌, Bool, true, false, List, [], ◌∷◌, ◌++◌, length, map, Some, slice_get, refl, sym, ap, ap₂, ◌∙◌, subst, subst₂, arith, length-append}
 use Rattle.std.specs.List.{All, Contains}
-use Rattle.std.specs.Prelude.{IfOk, IfErr}
 use Rattle.rs_model.specs.Data.{Protocol_data}
 use Rattle.rs_model.specs.declared.graph.Arm.{Arm}
 use Rattle.rs_model.specs.declared.graph.Role.{Role}
@@ -304,13 +303,3 @@ lone-involved pr role t u inv (inr bad) = absurd bad
 
 pub lone-merges : (pr : Protocol_data) (role : Role) (t : ℕ) → IsWellFormed pr → Involves pr role t → Merges pr role (lone_front t)
 lone-merges pr role t wf inv = merges-by pr role (lone_front t) wf (λ u m. lone-involved pr role t u inv m) (λ h k lt short. absurd (omega (arith, lt, short))) (λ e. absurd (cc (e)))
-
-pub lone-works : (pr : Protocol_data) (role : Role) (old new : List Front_data) (number t : ℕ) (r : Result State ProjFault) → IsWellFormed pr → Involves pr role t → slice_get old number ≡ Some (lone_front t)
-    → IfOk r (λ s. Discovers pr role old (t ∷ []) (merged_choices pr (t ∷ [])) new (nexts_behind s)) → IfOk r (λ s. HasShape pr role (t ∷ []) s) → IfOk r (λ s. WorksOn pr role old number new s)
-lone-works pr role old new number t (Ok s) wf inv here d shape = works-on pr role old new number (lone_front t) (t ∷ []) s refl here (lone-merges pr role t wf inv) d shape
-lone-works pr role old new number t (Err e) wf inv here d shape = tt
-
-pub lone-fault : (pr : Protocol_data) (role : Role) (old : List Front_data) (number t : ℕ) (r : Result State ProjFault) → IsWellFormed pr → Involves pr role t → slice_get old number ≡ Some (lone_front t)
-    → IfErr r (λ e. ArmsFault pr role old (t ∷ []) (merged_choices pr (t ∷ [])) e) → IfErr r (λ e. StateFault pr role old number e)
-lone-fault pr role old number t (Ok s) wf inv here h = tt
-lone-fault pr role old number t (Err e) wf inv here h = state-fault pr role old number (lone_front t) (t ∷ []) refl here (lone-merges pr role t wf inv) e h

@@ -136,7 +136,7 @@ pub is-survey : (pr : Protocol_data) (role : Role) (involved awaited passing : L
     → length awaited ≡ length pr.nodes → length passing ≡ length involved
     → ((r : Role) → AllAwaited pr r involved → AllAwaited pr r awaited) → HasFlags involved awaited → IsSettled pr awaited
     → ((n : ℕ) → n < length involved → get_or passing n false ≡ (get_or awaited n false && not (get_or involved n false)))
-    → IsSurvey pr role record { role = role; involved = involved; awaited = awaited; passing = passing }
+    → IsSurvey pr role record { protocol = pr; role = role; involved = involved; awaited = awaited; passing = passing }
 is-survey pr role involved awaited passing e asize psize sound has settled each = record {
   involved_size = isize;
   awaited_size = asize;

@@ -1,5 +1,6 @@
 -- Steps: how the number of a front is found again: along a chain of numbers. Each stands in it as one more than it is; 0 ends a chain.
 use Rattle.std.specs.Prelude.{◌≡◌, ℕ, suc, ◌≤◌, ◌+◌, ◌*◌, ◌%◌, false, List, [], ◌∷◌, length, Option, None, Some, slice_get, slice_index_or, slice_set}
+use Rattle.rs_model.specs.declared.limits.TheConstants.{MOST_STATES}
 use Rattle.rs_project.specs.Data.{Front_data}
 
 -- the bucket of a front with these talks, where those before lead to bucket `seen`
@@ -33,3 +34,9 @@ pub record AreLone (fronts : List Front_data) (numbers : List ℕ) : Type 0 wher
 abbrev pub with_number : Option ℕ → ℕ → List ℕ → List ℕ
 with_number None number numbers = numbers
 with_number (Some talk) number numbers = slice_set numbers talk number
+
+-- .. and there are at most 1,024
+pub record AreKept (fronts : List Front_data) (heads links numbers : List ℕ) : Type 0 where
+  pub filed : AreFiled fronts heads links
+  pub lone : AreLone fronts numbers
+  pub few : length fronts ≤ MOST_STATES

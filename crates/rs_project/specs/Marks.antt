@@ -1,5 +1,5 @@
 -- Steps: what the search over the graph keeps: flags of nodes.
-use Rattle.std.specs.Prelude.{◌≡◌, ◌≢◌, ◌⊎◌, ◌↔◌, ℕ, ◌<◌, ◌≤◌, Bool, true, false, suc, List, [], ◌∷◌, ◌++◌, length, drop, slice_index_or, slice_set, if◌then◌else◌, ◌==◌, ◌||◌, Option, None, Some, slice_get}
+use Rattle.std.specs.Prelude.{◌≡◌, ◌≢◌, ◌⊎◌, ◌↔◌, ℕ, ◌<◌, ◌≤◌, ◌^◌, Bool, true, false, suc, List, [], ◌∷◌, ◌++◌, length, drop, slice_index_or, slice_set, if◌then◌else◌, ◌==◌, ◌||◌, Option, None, Some, slice_get}
 use Rattle.std.specs.List.{All, AllPairs}
 use Rattle.rs_model.specs.Data.{Protocol_data}
 use Rattle.rs_model.specs.declared.graph.Arm.{Arm}
@@ -7,6 +7,7 @@ use Rattle.rs_model.specs.declared.graph.Label.{Label}
 use Rattle.rs_model.specs.declared.graph.Node.{Node}
 use Rattle.rs_model.specs.declared.graph.Node.TheVariants.{Finished, Talk}
 use Rattle.rs_model.specs.declared.graph.Role.{Role}
+use Rattle.rs_wellformed.specs.WellFormed.{IsWellFormed}
 use Rattle.rs_project.specs.Numbered.{nexts_of}
 use Rattle.rs_project.specs.Graph.{PathStep, LeadsTo, IsPath, IsReached, IsReachedFrom, Involves, IsIdle, PassesBy, AllPassBy, MeetsFirst, MeetsTheEnd, IsUnreached}
 
@@ -147,6 +148,7 @@ pub record HasUnreached (protocol : Protocol_data) (role : Role) (flags : List B
 
 -- what is known of the nodes for the role: which involve the role, from which a talk of it can be reached, and which pass by it
 pub record Survey_data : Type 0 where
+  pub protocol : Protocol_data
   pub role : Role
   pub involved : List Bool
   pub awaited : List Bool
@@ -161,6 +163,12 @@ pub record IsSurvey (protocol : Protocol_data) (role : Role) (survey : Survey_da
   pub awaited : (n : ℕ) → IsOn survey.awaited n → IsAwaited protocol role n
   pub idle : (n : ℕ) → (IsOn survey.awaited n → ⊥) → IsIdle protocol role n
   pub passing : (n : ℕ) → IsOn survey.passing n ↔ PassesBy protocol role n
+
+-- the protocol is well formed, its nodes have numbers below 2^32, and the survey tells the truth of each
+pub record IsKnown (known : Survey_data) : Type 0 where
+  pub well_formed : IsWellFormed known.protocol
+  pub few : length known.protocol.nodes < 2 ^ 32
+  pub survey : IsSurvey known.protocol known.role known
 
 -- the talk involves the role, and is the one that it meets first from node n; nor does it meet the end
 pub record MeetsOnly (protocol : Protocol_data) (role : Role) (n talk : ℕ) : Type 0 where

@@ -1,4 +1,5 @@
-ghost use Rattle.std.specs.Prelude.{◌≡◌, ◌<◌, ◌≤◌, ◌+◌, ◌^◌, ◌++◌, ◌∷◌, [], ℕ, true, false, length, slice_get, slice_index_or, Some, IfOk, IfSome, OnOk, OnErr, MatchOption};
+ghost use Rattle.std.specs.Prelude.{◌≡◌, ◌<◌, ◌≤◌, ◌++◌, ◌∷◌, [], ℕ, true, false, length, slice_get, slice_index_or, Some, IfOk, IfSome, OnOk, OnErr, MatchOption};
+ghost use Rattle.rs_model.specs.declared.limits.TheConstants.{MOST_STATES};
 ghost use Rattle.rs_project.specs.Filing.{IsChained, bucket_on, lone_front, with_number};
 ghost use Rattle.rs_project.specs.Working.{IsNew};
 
@@ -23,13 +24,13 @@ pub struct Fronts {
 impl Model for Fronts {
     ghost use Rattle.std.specs.Prelude.{List};
     ghost use Rattle.rs_project.specs.Data.{Front_data};
-    ghost use Rattle.rs_project.specs.Filing.{AreFiled, AreLone};
+    ghost use Rattle.rs_project.specs.Filing.{AreKept};
 
     ghost Value = { List Front_data };
 
     ghost view = { λ f. f.items.items };
 
-    ghost invariant = { λ f. AreFiled f.items.items f.heads.items f.links.items × AreLone f.items.items f.lone.items };
+    ghost invariant = { λ f. AreKept f.items.items f.heads.items f.links.items f.lone.items };
 }
 
 impl Fronts {
@@ -62,7 +63,8 @@ impl Fronts {
 
     /// How many there are.
     pub fn len(&self) -> usize
-        ensures { result ≡ length self.now }
+        ensures is { result ≡ length self.now }
+        ensures few { result ≤ MOST_STATES }
     {
         self.items.len()
     }
@@ -88,7 +90,7 @@ impl Fronts {
 
     /// Adds a front at the end.
     pub fn add(&mut self, front: Front) -> Result<(), NoMemory>
-        requires few { length self.old + 1 < 2 ^ 32 }
+        requires { length self.old < MOST_STATES }
         ensures ok { OnOk result (self.new ≡ self.old ++ (front ∷ [])) }
         ensures err { OnErr result (self.new ≡ self.old) }
     {

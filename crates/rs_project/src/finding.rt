@@ -1,43 +1,40 @@
 ghost use Rattle.std.specs.Prelude.{◌≡◌, ◌<◌, ◌≤◌, ◌∷◌, [], ℕ, map, length, slice_get, Some, IfOk, IfErr};
 ghost use Rattle.std.specs.List.{All};
 ghost use Rattle.rs_project.specs.Filing.{lone_front};
-ghost use Rattle.rs_project.specs.Marks.{IsSurvey, arms_in};
+ghost use Rattle.rs_project.specs.Marks.{arms_in};
 ghost use Rattle.rs_project.specs.Numbered.{nexts_of};
 ghost use Rattle.rs_project.specs.Projection.{choice_of, merged_choices};
 ghost use Rattle.rs_project.specs.Working.{Adds, AreFound, ArmsFault, Discovers, FaultFrom, FindsFrom, IsNew, NumberFault};
-ghost use Rattle.rs_wellformed.specs.WellFormed.{IsWellFormed};
 
 use crate::ProjFault;
 use crate::filing::Fronts;
 use crate::fronts::{Front, marked_front};
 use crate::merging::{merged_arms, starts_behind};
 use crate::spreading::Marks;
-use crate::straight::{lone_front, only_talk};
+use crate::straight::{lone_front, only_talk, straight_front};
 use crate::surveying::Survey;
-use rs_model::{Arm, Arms, MOST_STATES, Node, Protocol, Role};
+use rs_model::{Arm, Arms, MOST_STATES, Node, Role};
 use std::alloc::Global;
 
 /// The arms of the state that stands for this talk alone. Fronts that weren't found before are added.
 pub fn lone_arms(
     alloc: Global,
-    protocol: &Protocol,
     survey: &Survey,
     marks: &mut Marks,
     talk: u32,
     fronts: &mut Fronts,
 ) -> Result<Arms, ProjFault>
-    requires well_formed { IsWellFormed protocol.now }
-    requires survey { IsSurvey protocol.now survey.now.role survey.now }
-    requires talk { talk < length protocol.now.nodes }
-    requires found { AreFound protocol.now survey.now.role fronts.old }
-    ensures ok { IfOk result (λ arms. Discovers protocol.now survey.now.role fronts.old (talk ∷ []) (merged_choices protocol.now (talk ∷ [])) fronts.new (nexts_of arms)) }
-    ensures choices { IfOk result (λ arms. map choice_of arms ≡ merged_choices protocol.now (talk ∷ [])) }
-    ensures err { IfErr result (λ e. ArmsFault protocol.now survey.now.role fronts.old (talk ∷ []) (merged_choices protocol.now (talk ∷ [])) e) }
+    requires talk { talk < length survey.now.protocol.nodes }
+    requires found { AreFound survey.now.protocol survey.now.role fronts.old }
+    ensures ok { IfOk result (λ arms. Discovers survey.now.protocol survey.now.role fronts.old (talk ∷ []) (merged_choices survey.now.protocol (talk ∷ [])) fronts.new (nexts_of arms)) }
+    ensures choices { IfOk result (λ arms. map choice_of arms ≡ merged_choices survey.now.protocol (talk ∷ [])) }
+    ensures err { IfErr result (λ e. ArmsFault survey.now.protocol survey.now.role fronts.old (talk ∷ []) (merged_choices survey.now.protocol (talk ∷ [])) e) }
 {
+    let protocol = survey.protocol;
     let choices = arms_in(&protocol.nodes[talk as usize]);
     let mut arms = Arms::new(alloc);
     for choice in choices {
-        let next = find(alloc, protocol, survey, marks, &[choice.next], fronts)?;
+        let next = find(alloc, survey, marks, &[choice.next], fronts)?;
         arms.push(Arm {
             label: choice.label,
             sort: choice.sort,
@@ -59,25 +56,22 @@ fn arms_in(node: &Node) -> &[Arm]
 /// The arms of the state that stands for these talks together. Fronts that weren't found before are added.
 pub fn joint_arms(
     alloc: Global,
-    protocol: &Protocol,
     survey: &Survey,
     marks: &mut Marks,
     talks: &[u32],
     fronts: &mut Fronts,
 ) -> Result<Arms, ProjFault>
-    requires well_formed { IsWellFormed protocol.now }
-    requires survey { IsSurvey protocol.now survey.now.role survey.now }
-    requires talks { All (λ t. t < length protocol.now.nodes) talks.now }
-    requires found { AreFound protocol.now survey.now.role fronts.old }
-    ensures ok { IfOk result (λ arms. Discovers protocol.now survey.now.role fronts.old talks.now (merged_choices protocol.now talks.now) fronts.new (nexts_of arms)) }
-    ensures choices { IfOk result (λ arms. map choice_of arms ≡ merged_choices protocol.now talks.now) }
-    ensures err { IfErr result (λ e. ArmsFault protocol.now survey.now.role fronts.old talks.now (merged_choices protocol.now talks.now) e) }
+    requires talks { All (λ t. t < length survey.now.protocol.nodes) talks.now }
+    requires found { AreFound survey.now.protocol survey.now.role fronts.old }
+    ensures ok { IfOk result (λ arms. Discovers survey.now.protocol survey.now.role fronts.old talks.now (merged_choices survey.now.protocol talks.now) fronts.new (nexts_of arms)) }
+    ensures choices { IfOk result (λ arms. map choice_of arms ≡ merged_choices survey.now.protocol talks.now) }
+    ensures err { IfErr result (λ e. ArmsFault survey.now.protocol survey.now.role fronts.old talks.now (merged_choices survey.now.protocol talks.now) e) }
 {
-    let choices = merged_arms(alloc, protocol, talks)?;
+    let choices = merged_arms(alloc, survey.protocol, talks)?;
     let mut arms = Arms::new(alloc);
     for choice in choices.as_slice() {
-        let starts = starts_behind(alloc, protocol, talks, choice.label)?;
-        let next = find(alloc, protocol, survey, marks, starts.as_slice(), fronts)?;
+        let starts = starts_behind(alloc, survey.protocol, talks, choice.label)?;
+        let next = find(alloc, survey, marks, starts.as_slice(), fronts)?;
         arms.push(Arm {
             label: choice.label,
             sort: choice.sort,
@@ -90,25 +84,23 @@ pub fn joint_arms(
 // The number of what the role meets first from the starts, which is added where it is new.
 fn find(
     alloc: Global,
-    protocol: &Protocol,
     survey: &Survey,
     marks: &mut Marks,
     starts: &[u32],
     fronts: &mut Fronts,
 ) -> Result<u32, ProjFault>
-    requires well_formed { IsWellFormed protocol.now }
-    requires survey { IsSurvey protocol.now survey.now.role survey.now }
-    requires starts { All (λ s. s < length protocol.now.nodes) starts.now }
-    requires fronts { length fronts.old ≤ MOST_STATES }
-    ensures ok { IfOk result (λ n. FindsFrom protocol.now survey.now.role fronts.old starts.now fronts.new n) }
-    ensures err { IfErr result (λ e. FaultFrom protocol.now survey.now.role fronts.old starts.now e) }
+    requires { All (λ s. s < length survey.now.protocol.nodes) starts.now }
+    ensures ok { IfOk result (λ n. FindsFrom survey.now.protocol survey.now.role fronts.old starts.now fronts.new n) }
+    ensures err { IfErr result (λ e. FaultFrom survey.now.protocol survey.now.role fronts.old starts.now e) }
 {
     if let [start] = starts {
-        if let Some(talk) = only_talk(protocol, survey, *start) {
+        if let Some(talk) = only_talk(survey, *start) {
             return number_of_lone(alloc, survey.role, fronts, talk);
         }
+    } else if let Some(front) = straight_front(alloc, survey, starts)? {
+        return number_of(survey.role, fronts, front);
     }
-    let front = marked_front(alloc, protocol, survey, marks, starts)?;
+    let front = marked_front(alloc, survey, marks, starts)?;
     number_of(survey.role, fronts, front)
 }
 
@@ -119,7 +111,6 @@ fn number_of_lone(
     fronts: &mut Fronts,
     talk: u32,
 ) -> Result<u32, ProjFault>
-    requires { length fronts.old ≤ MOST_STATES }
     ensures ok { IfOk result (λ n. Adds fronts.old (lone_front talk) fronts.new n) }
     ensures err { IfErr result (λ e. NumberFault role fronts.old (lone_front talk) e) }
 {
@@ -132,7 +123,6 @@ fn number_of_lone(
 
 // The number of a front, which is added where it is new.
 fn number_of(role: Role, fronts: &mut Fronts, front: Front) -> Result<u32, ProjFault>
-    requires { length fronts.old ≤ MOST_STATES }
     ensures ok { IfOk result (λ n. Adds fronts.old front fronts.new n) }
     ensures err { IfErr result (λ e. NumberFault role fronts.old front e) }
 {
@@ -143,8 +133,7 @@ fn number_of(role: Role, fronts: &mut Fronts, front: Front) -> Result<u32, ProjF
 }
 
 fn add_new(role: Role, fronts: &mut Fronts, front: Front) -> Result<u32, ProjFault>
-    requires few { length fronts.old ≤ MOST_STATES }
-    requires new { IsNew fronts.old front }
+    requires { IsNew fronts.old front }
     ensures ok { IfOk result (λ n. Adds fronts.old front fronts.new n) }
     ensures err { IfErr result (λ e. NumberFault role fronts.old front e) }
 {

@@ -1,14 +1,12 @@
 ghost use Rattle.std.specs.Prelude.{◌≡◌, ◌↔◌, ◌<◌, ◌∷◌, [], ℕ, false, not, length, slice_index_or, IfOk, MatchOption};
 ghost use Rattle.std.specs.List.{All, AllPairs, Contains, filter, list_any};
 ghost use Rattle.rs_project.specs.Filing.{lone_front};
-ghost use Rattle.rs_project.specs.Marks.{IsSurvey};
 ghost use Rattle.rs_project.specs.Working.{IsFrontFrom};
-ghost use Rattle.rs_wellformed.specs.WellFormed.{IsWellFormed};
 
 use crate::spreading::Marks;
 use crate::straight::{lone_front, only_talk};
 use crate::surveying::Survey;
-use rs_model::{NoMemory, Protocol};
+use rs_model::NoMemory;
 use std::alloc::Global;
 use std::marker::Model;
 
@@ -51,38 +49,32 @@ fn only_item(numbers: &[u32]) -> Option<u32>
 /// What the role may meet first from one of the nodes in `starts`. It is found by marks, whatever they were before.
 pub fn front_of(
     alloc: Global,
-    protocol: &Protocol,
     survey: &Survey,
     marks: &mut Marks,
     starts: &[u32],
 ) -> Result<Front, NoMemory>
-    requires well_formed { IsWellFormed protocol.now }
-    requires survey { IsSurvey protocol.now survey.now.role survey.now }
-    requires starts { All (λ s. s < length protocol.now.nodes) starts.now }
-    ensures { IfOk result (λ f. IsFrontFrom protocol.now survey.now.role starts.now f) }
+    requires starts { All (λ s. s < length survey.now.protocol.nodes) starts.now }
+    ensures { IfOk result (λ f. IsFrontFrom survey.now.protocol survey.now.role starts.now f) }
 {
     if let [start] = starts {
-        if let Some(talk) = only_talk(protocol, survey, *start) {
+        if let Some(talk) = only_talk(survey, *start) {
             return lone_front(alloc, talk);
         }
     }
-    marked_front(alloc, protocol, survey, marks, starts)
+    marked_front(alloc, survey, marks, starts)
 }
 
 /// .. where talks with more arms than one may lead to it.
 pub fn marked_front(
     alloc: Global,
-    protocol: &Protocol,
     survey: &Survey,
     marks: &mut Marks,
     starts: &[u32],
 ) -> Result<Front, NoMemory>
-    requires well_formed { IsWellFormed protocol.now }
-    requires survey { IsSurvey protocol.now survey.now.role survey.now }
-    requires starts { All (λ s. s < length protocol.now.nodes) starts.now }
-    ensures { IfOk result (λ f. IsFrontFrom protocol.now survey.now.role starts.now f) }
+    requires starts { All (λ s. s < length survey.now.protocol.nodes) starts.now }
+    ensures { IfOk result (λ f. IsFrontFrom survey.now.protocol survey.now.role starts.now f) }
 {
-    marks.spread(protocol, &survey.passing, starts)?;
+    marks.spread(survey.protocol, &survey.passing, starts)?;
     let numbers = marks.as_slice();
     let talks = flagged(alloc, numbers, &survey.involved)?;
     let ends = has_unflagged(numbers, &survey.awaited);
@@ -106,8 +98,8 @@ fn flagged(alloc: Global, numbers: &[u32], flags: &[bool]) -> Result<Vec<u32>, N
     Ok(those)
 }
 
-// The numbers in order, each once.
-fn in_order(mut numbers: Vec<u32>) -> Vec<u32>
+/// The numbers in order, each once.
+pub fn in_order(mut numbers: Vec<u32>) -> Vec<u32>
     ensures rising { AllPairs (λ (n m : ℕ). n < m) result.items }
     ensures same { (n : ℕ) → Contains result.items n ↔ Contains numbers.items n }
 {

@@ -4,21 +4,26 @@ ghost use Rattle.rs_project.specs.Marks.{labelled_nexts, labelled_nexts_of};
 ghost use Rattle.rs_project.specs.Projection.{choice_of, choices_of, first_choices, merged_choices};
 
 use rs_model::{Arm, Label, NoMemory, Node, Protocol};
+use smallvec::SmallVec;
 use std::alloc::Global;
 
 /// The arms of the talks, one talk after the other, each label once.
-pub fn merged_arms(alloc: Global, protocol: &Protocol, talks: &[u32]) -> Result<Vec<Arm>, NoMemory>
+pub fn merged_arms(
+    alloc: Global,
+    protocol: &Protocol,
+    talks: &[u32],
+) -> Result<SmallVec<Arm, 4>, NoMemory>
     requires { All (λ t. t < length protocol.now.nodes) talks.now }
     ensures { IfOk result (λ v. map choice_of v.items ≡ merged_choices protocol.now talks.now) }
 {
-    let mut merged = Vec::new(alloc);
+    let mut merged = SmallVec::new(alloc);
     for talk in talks {
         add_node(&mut merged, &protocol.nodes[*talk as usize])?;
     }
     Ok(merged)
 }
 
-fn add_node(merged: &mut Vec<Arm>, node: &Node) -> Result<(), NoMemory>
+fn add_node(merged: &mut SmallVec<Arm, 4>, node: &Node) -> Result<(), NoMemory>
     ensures { OnOk result (map choice_of merged.new.items ≡ map choice_of merged.old.items ++ first_choices (choices_of (Some node.now)) (map choice_of merged.old.items)) }
 {
     match node {
@@ -27,7 +32,7 @@ fn add_node(merged: &mut Vec<Arm>, node: &Node) -> Result<(), NoMemory>
     }
 }
 
-fn add_arms(merged: &mut Vec<Arm>, arms: &[Arm]) -> Result<(), NoMemory>
+fn add_arms(merged: &mut SmallVec<Arm, 4>, arms: &[Arm]) -> Result<(), NoMemory>
     ensures { OnOk result (map choice_of merged.new.items ≡ map choice_of merged.old.items ++ first_choices (map choice_of arms.now) (map choice_of merged.old.items)) }
 {
     for arm in arms {
@@ -36,7 +41,7 @@ fn add_arms(merged: &mut Vec<Arm>, arms: &[Arm]) -> Result<(), NoMemory>
     Ok(())
 }
 
-fn add_arm(merged: &mut Vec<Arm>, arm: Arm) -> Result<(), NoMemory>
+fn add_arm(merged: &mut SmallVec<Arm, 4>, arm: Arm) -> Result<(), NoMemory>
     ensures { OnOk result (map choice_of merged.new.items ≡ map choice_of merged.old.items ++ first_choices (choice_of arm ∷ []) (map choice_of merged.old.items)) }
 {
     if has_label(merged.as_slice(), arm.label) {
@@ -58,18 +63,18 @@ pub fn starts_behind(
     protocol: &Protocol,
     talks: &[u32],
     label: Label,
-) -> Result<Vec<u32>, NoMemory>
+) -> Result<SmallVec<u32, 4>, NoMemory>
     requires { All (λ t. t < length protocol.now.nodes) talks.now }
     ensures { IfOk result (λ v. v.items ≡ flat_map (λ t. labelled_nexts_of label (slice_get protocol.now.nodes t)) talks.now) }
 {
-    let mut starts = Vec::new(alloc);
+    let mut starts = SmallVec::new(alloc);
     for talk in talks {
         add_starts(&mut starts, &protocol.nodes[*talk as usize], label)?;
     }
     Ok(starts)
 }
 
-fn add_starts(starts: &mut Vec<u32>, node: &Node, label: Label) -> Result<(), NoMemory>
+fn add_starts(starts: &mut SmallVec<u32, 4>, node: &Node, label: Label) -> Result<(), NoMemory>
     ensures { OnOk result (starts.new.items ≡ starts.old.items ++ labelled_nexts_of label (Some node.now)) }
 {
     match node {
@@ -78,7 +83,7 @@ fn add_starts(starts: &mut Vec<u32>, node: &Node, label: Label) -> Result<(), No
     }
 }
 
-fn add_nexts(starts: &mut Vec<u32>, arms: &[Arm], label: Label) -> Result<(), NoMemory>
+fn add_nexts(starts: &mut SmallVec<u32, 4>, arms: &[Arm], label: Label) -> Result<(), NoMemory>
     ensures { OnOk result (starts.new.items ≡ starts.old.items ++ labelled_nexts label arms.now) }
 {
     for arm in arms {

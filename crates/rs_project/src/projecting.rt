@@ -3,7 +3,7 @@ ghost use Rattle.std.specs.List.{Contains};
 ghost use Rattle.rs_model.specs.declared.limits.TheConstants.{MOST_STATES};
 ghost use Rattle.rs_model.specs.WellFormed.{IsWellFormedMachine};
 ghost use Rattle.rs_project.specs.Graph.{Involves, MeetsFirst, MeetsTheEnd};
-ghost use Rattle.rs_project.specs.Marks.{Among, IsSurvey};
+ghost use Rattle.rs_project.specs.Marks.{Among};
 ghost use Rattle.rs_project.specs.Numbered.{IsNumberedProjection, nexts_behind, nexts_of};
 ghost use Rattle.rs_project.specs.Projection.{Agree, choice_of, merged_choices};
 ghost use Rattle.rs_project.specs.Refusals.{FirstRefusal, IsFront, NoneUnreached};
@@ -101,35 +101,32 @@ pub fn project(alloc: Global, protocol: &Protocol, role: Role) -> Result<Project
     ensures err { IfErr result (λ e. (e ≡ ProjFault.NoMemory) ⊎ FirstRefusal protocol.now role e) }
 {
     let survey = survey_of(alloc, protocol, role)?;
-    if let Some(node) = first_unreached(alloc, protocol, &survey)? {
+    if let Some(node) = first_unreached(alloc, &survey)? {
         return Err(ProjFault::Unreached { role, node });
     }
     let mut marks = Marks::new(alloc);
-    let start = front_of(alloc, protocol, &survey, &mut marks, &[protocol.root])?;
-    let projection = work(alloc, protocol, &survey, &mut marks, start)?;
+    let start = front_of(alloc, &survey, &mut marks, &[protocol.root])?;
+    let projection = work(alloc, &survey, &mut marks, start)?;
     Ok(projection)
 }
 
 fn work(
     alloc: Global,
-    protocol: &Protocol,
     survey: &Survey,
     marks: &mut Marks,
     start: Front,
 ) -> Result<Projection, ProjFault>
-    requires well_formed { IsWellFormed protocol.now }
-    requires survey { IsSurvey protocol.now survey.now.role survey.now }
-    requires reached { NoneUnreached protocol.now survey.now.role }
-    requires start { IsFront start (MeetsFirst protocol.now survey.now.role protocol.now.root) (MeetsTheEnd protocol.now survey.now.role protocol.now.root) }
-    ensures ok { IfOk result (λ p. IsNumberedProjection protocol.now survey.now.role p) }
-    ensures err { IfErr result (λ e. (e ≡ ProjFault.NoMemory) ⊎ FirstRefusal protocol.now survey.now.role e) }
+    requires reached { NoneUnreached survey.now.protocol survey.now.role }
+    requires start { IsFront start (MeetsFirst survey.now.protocol survey.now.role survey.now.protocol.root) (MeetsTheEnd survey.now.protocol survey.now.role survey.now.protocol.root) }
+    ensures ok { IfOk result (λ p. IsNumberedProjection survey.now.protocol survey.now.role p) }
+    ensures err { IfErr result (λ e. (e ≡ ProjFault.NoMemory) ⊎ FirstRefusal survey.now.protocol survey.now.role e) }
 {
     let room = usual_size(&survey.involved);
-    let mut fronts = Fronts::with_room(alloc, room, protocol.nodes.len())?;
+    let mut fronts = Fronts::with_room(alloc, room, survey.involved.len())?;
     fronts.add(start)?;
     let mut states: Vec<State> = Vec::with_capacity(alloc, room)?;
     while states.len() < fronts.len() {
-        let state = state_of(alloc, protocol, survey, marks, states.len(), &mut fronts)?;
+        let state = state_of(alloc, survey, marks, states.len(), &mut fronts)?;
         states.reserve(1)?;
         states.push_reserved(state);
     }
@@ -153,65 +150,40 @@ fn usual_size(involved: &[bool]) -> usize {
 
 fn state_of(
     alloc: Global,
-    protocol: &Protocol,
     survey: &Survey,
     marks: &mut Marks,
     number: usize,
     fronts: &mut Fronts,
 ) -> Result<State, ProjFault>
-    requires well_formed { IsWellFormed protocol.now }
-    requires survey { IsSurvey protocol.now survey.now.role survey.now }
-    requires found { AreFound protocol.now survey.now.role fronts.old }
+    requires found { AreFound survey.now.protocol survey.now.role fronts.old }
     requires number { number < length fronts.old }
-    ensures ok { IfOk result (λ s. WorksOn protocol.now survey.now.role fronts.old number fronts.new s) }
-    ensures err { IfErr result (λ e. StateFault protocol.now survey.now.role fronts.old number e) }
+    ensures ok { IfOk result (λ s. WorksOn survey.now.protocol survey.now.role fronts.old number fronts.new s) }
+    ensures err { IfErr result (λ e. StateFault survey.now.protocol survey.now.role fronts.old number e) }
 {
+    let role = survey.role;
     let front = &fronts.as_slice()[number];
     if let Some(talk) = front.lone_talk() {
-        return lone_state(alloc, protocol, survey, marks, talk, fronts);
+        let arms = lone_arms(alloc, survey, marks, talk, fronts)?;
+        return Ok(act_of(survey.protocol, role, &[talk], arms));
     }
-    joint_state(alloc, protocol, survey, marks, number, fronts)
-}
-
-// The state that stands for this talk alone.
-fn lone_state(
-    alloc: Global,
-    protocol: &Protocol,
-    survey: &Survey,
-    marks: &mut Marks,
-    talk: u32,
-    fronts: &mut Fronts,
-) -> Result<State, ProjFault>
-    requires well_formed { IsWellFormed protocol.now }
-    requires survey { IsSurvey protocol.now survey.now.role survey.now }
-    requires found { AreFound protocol.now survey.now.role fronts.old }
-    requires involved { Involves protocol.now survey.now.role talk }
-    ensures ok { IfOk result (λ s. Discovers protocol.now survey.now.role fronts.old (talk ∷ []) (merged_choices protocol.now (talk ∷ [])) fronts.new (nexts_behind s)) }
-    ensures shape { IfOk result (λ s. HasShape protocol.now survey.now.role (talk ∷ []) s) }
-    ensures err { IfErr result (λ e. ArmsFault protocol.now survey.now.role fronts.old (talk ∷ []) (merged_choices protocol.now (talk ∷ [])) e) }
-{
-    let arms = lone_arms(alloc, protocol, survey, marks, talk, fronts)?;
-    Ok(act_of(protocol, survey.role, &[talk], arms))
+    joint_state(alloc, survey, marks, number, fronts)
 }
 
 // The state that stands for the members of the front together.
 fn joint_state(
     alloc: Global,
-    protocol: &Protocol,
     survey: &Survey,
     marks: &mut Marks,
     number: usize,
     fronts: &mut Fronts,
 ) -> Result<State, ProjFault>
-    requires well_formed { IsWellFormed protocol.now }
-    requires survey { IsSurvey protocol.now survey.now.role survey.now }
-    requires found { AreFound protocol.now survey.now.role fronts.old }
+    requires found { AreFound survey.now.protocol survey.now.role fronts.old }
     requires number { number < length fronts.old }
-    ensures ok { IfOk result (λ s. WorksOn protocol.now survey.now.role fronts.old number fronts.new s) }
-    ensures err { IfErr result (λ e. StateFault protocol.now survey.now.role fronts.old number e) }
+    ensures ok { IfOk result (λ s. WorksOn survey.now.protocol survey.now.role fronts.old number fronts.new s) }
+    ensures err { IfErr result (λ e. StateFault survey.now.protocol survey.now.role fronts.old number e) }
 {
     let front = &fronts.as_slice()[number];
-    let found = first_clash(alloc, protocol, survey.role, front)?;
+    let found = first_clash(alloc, survey.protocol, survey.role, front)?;
     if let Some(clash) = found {
         return Err(ProjFault::Unmergeable {
             role: survey.role,
@@ -220,30 +192,8 @@ fn joint_state(
         });
     }
     let talks: SmallVec<u32, 4> = SmallVec::from_slice(alloc, &front.talks)?;
-    let state = merged_state(alloc, protocol, survey, marks, talks.as_slice(), fronts)?;
-    Ok(state)
-}
-
-// The state that stands for these talks, which don't clash.
-fn merged_state(
-    alloc: Global,
-    protocol: &Protocol,
-    survey: &Survey,
-    marks: &mut Marks,
-    talks: &[u32],
-    fronts: &mut Fronts,
-) -> Result<State, ProjFault>
-    requires well_formed { IsWellFormed protocol.now }
-    requires survey { IsSurvey protocol.now survey.now.role survey.now }
-    requires found { AreFound protocol.now survey.now.role fronts.old }
-    requires involved { (t : ℕ) → Among talks.now t → Involves protocol.now survey.now.role t }
-    requires agree { (one other : ℕ) → Contains talks.now one → Contains talks.now other → Agree protocol.now survey.now.role one other }
-    ensures ok { IfOk result (λ s. Discovers protocol.now survey.now.role fronts.old talks.now (merged_choices protocol.now talks.now) fronts.new (nexts_behind s)) }
-    ensures shape { IfOk result (λ s. HasShape protocol.now survey.now.role talks.now s) }
-    ensures err { IfErr result (λ e. ArmsFault protocol.now survey.now.role fronts.old talks.now (merged_choices protocol.now talks.now) e) }
-{
-    let arms = joint_arms(alloc, protocol, survey, marks, talks, fronts)?;
-    Ok(act_of(protocol, survey.role, talks, arms))
+    let arms = joint_arms(alloc, survey, marks, talks.as_slice(), fronts)?;
+    Ok(act_of(survey.protocol, survey.role, talks.as_slice(), arms))
 }
 
 // The state of a role that does what it does in the first of these talks, or of one that is done where there are none.

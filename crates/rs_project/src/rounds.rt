@@ -1,33 +1,25 @@
-ghost use Rattle.std.specs.Prelude.{◌≡◌, ◌<◌, ◌≤◌, ◌^◌, ◌&&◌, ℕ, true, false, length, replicate, slice_index_or, IfOk, MatchOption};
-ghost use Rattle.rs_project.specs.Graph.{IsReached, IsUnreached};
-ghost use Rattle.rs_project.specs.Marks.{IsLeft, IsLive, IsOn, IsSurvey, nexts_of_node};
+ghost use Rattle.std.specs.Prelude.{◌≡◌, ◌<◌, ◌≤◌, ◌&&◌, ℕ, true, false, length, replicate, slice_index_or, IfOk, MatchOption};
+ghost use Rattle.rs_project.specs.Graph.{IsReached, IsUnreached, PassesBy};
+ghost use Rattle.rs_project.specs.Marks.{IsLeft, IsLive, nexts_of_node};
 ghost use Rattle.rs_project.specs.Numbered.{nexts_of};
 ghost use Rattle.rs_project.specs.Refusals.{NoneUnreached};
-ghost use Rattle.rs_wellformed.specs.WellFormed.{IsWellFormed};
 
 use crate::peeling::{peel, sweep};
 use crate::spreading::spread;
 use crate::surveying::Survey;
-use rs_model::{Arm, NoMemory, Node, Protocol};
+use rs_model::{Arm, NoMemory, Node};
 use std::alloc::Global;
 
 /// The least node that the session may reach and then go round for ever, with the role left waiting.
-pub fn first_unreached(
-    alloc: Global,
-    protocol: &Protocol,
-    survey: &Survey,
-) -> Result<Option<u32>, NoMemory>
-    requires well_formed { IsWellFormed protocol.now }
-    requires few { length protocol.now.nodes < 2 ^ 32 }
-    requires survey { IsSurvey protocol.now survey.now.role survey.now }
-    ensures { IfOk result (λ o. MatchOption o (NoneUnreached protocol.now survey.now.role) (λ node. IsUnreached protocol.now survey.now.role node × ((n : ℕ) → IsUnreached protocol.now survey.now.role n → node ≤ n))) }
+pub fn first_unreached(alloc: Global, survey: &Survey) -> Result<Option<u32>, NoMemory>
+    ensures { IfOk result (λ o. MatchOption o (NoneUnreached survey.now.protocol survey.now.role) (λ node. IsUnreached survey.now.protocol survey.now.role node × ((n : ℕ) → IsUnreached survey.now.protocol survey.now.role n → node ≤ n))) }
 {
-    if !may_go_round(alloc, protocol, survey)? {
+    if !may_go_round(alloc, survey)? {
         return Ok(None);
     }
-    let left = left_nodes(alloc, protocol, survey)?;
-    for number in 0..left.len() {
-        let unreached = is_unreached(alloc, protocol, survey, &left, number as u32)?;
+    let left = left_nodes(alloc, survey)?;
+    for number in 0..survey.involved.len() {
+        let unreached = is_unreached(alloc, survey, &left, number as u32)?;
         if unreached {
             return Ok(Some(number as u32));
         }
@@ -37,56 +29,47 @@ pub fn first_unreached(
 
 // Whether some nodes that pass by the role are left by two sweeps: the second one sees what the first did to the nodes to
 // which arms lead back.
-fn may_go_round(alloc: Global, protocol: &Protocol, survey: &Survey) -> Result<bool, NoMemory>
-    requires well_formed { IsWellFormed protocol.now }
-    requires survey { IsSurvey protocol.now survey.now.role survey.now }
-    ensures { IfOk result (λ b. b ≡ false → NoneUnreached protocol.now survey.now.role) }
+fn may_go_round(alloc: Global, survey: &Survey) -> Result<bool, NoMemory>
+    ensures { IfOk result (λ b. b ≡ false → NoneUnreached survey.now.protocol survey.now.role) }
 {
     let mut left = Vec::from_slice(alloc, &survey.passing)?;
-    if !sweep(protocol, &mut left) {
+    if !sweep(survey.protocol, &mut left) {
         return Ok(false);
     }
-    Ok(sweep(protocol, &mut left))
+    Ok(sweep(survey.protocol, &mut left))
 }
 
 fn is_unreached(
     alloc: Global,
-    protocol: &Protocol,
     survey: &Survey,
     left: &[bool],
     number: u32,
 ) -> Result<bool, NoMemory>
-    requires well_formed { IsWellFormed protocol.now }
-    requires survey { IsSurvey protocol.now survey.now.role survey.now }
-    requires left { IsLeft protocol.now survey.now.role left.now }
-    requires node { number < length protocol.now.nodes }
-    ensures sound { IfOk result (λ b. b ≡ true → IsUnreached protocol.now survey.now.role number) }
-    ensures whole { IfOk result (λ b. b ≡ false → IsUnreached protocol.now survey.now.role number → ⊥) }
+    requires left { IsLeft survey.now.protocol survey.now.role left.now }
+    requires node { number < length survey.now.protocol.nodes }
+    ensures sound { IfOk result (λ b. b ≡ true → IsUnreached survey.now.protocol survey.now.role number) }
+    ensures whole { IfOk result (λ b. b ≡ false → IsUnreached survey.now.protocol survey.now.role number → ⊥) }
 {
     if !left[number as usize] {
         return Ok(false);
     }
-    goes_round(alloc, protocol, survey, number)
+    goes_round(alloc, survey, number)
 }
 
 // Nodes that pass by the role and are reached from the root, without those from which one can't go on so for ever.
-fn left_nodes(alloc: Global, protocol: &Protocol, survey: &Survey) -> Result<Vec<bool>, NoMemory>
-    requires well_formed { IsWellFormed protocol.now }
-    requires few { length protocol.now.nodes < 2 ^ 32 }
-    requires survey { IsSurvey protocol.now survey.now.role survey.now }
-    ensures { IfOk result (λ v. IsLeft protocol.now survey.now.role v.items) }
+fn left_nodes(alloc: Global, survey: &Survey) -> Result<Vec<bool>, NoMemory>
+    ensures { IfOk result (λ v. IsLeft survey.now.protocol survey.now.role v.items) }
 {
-    let mut left = live_nodes(alloc, protocol, survey)?;
-    peel(alloc, protocol, &mut left)?;
+    let mut left = live_nodes(alloc, survey)?;
+    peel(alloc, survey.protocol, &mut left)?;
     Ok(left)
 }
 
 // The nodes that pass by the role and are reached from the root.
-fn live_nodes(alloc: Global, protocol: &Protocol, survey: &Survey) -> Result<Vec<bool>, NoMemory>
-    requires well_formed { IsWellFormed protocol.now }
-    requires survey { IsSurvey protocol.now survey.now.role survey.now }
-    ensures { IfOk result (λ v. IsLive protocol.now survey.now.role v.items) }
+fn live_nodes(alloc: Global, survey: &Survey) -> Result<Vec<bool>, NoMemory>
+    ensures { IfOk result (λ v. IsLive survey.now.protocol survey.now.role v.items) }
 {
+    let protocol = survey.protocol;
     let every = vec![in alloc; true; protocol.nodes.len()]?;
     let reached = spread(alloc, protocol, &every, &[protocol.root])?;
     let live = common(alloc, &reached, &survey.passing)?;
@@ -106,19 +89,13 @@ fn common(alloc: Global, ours: &[bool], theirs: &[bool]) -> Result<Vec<bool>, No
 }
 
 // Whether one can come from the node, which is reached and passes by the role, back to it through nodes that pass by the role.
-fn goes_round(
-    alloc: Global,
-    protocol: &Protocol,
-    survey: &Survey,
-    number: u32,
-) -> Result<bool, NoMemory>
-    requires well_formed { IsWellFormed protocol.now }
-    requires survey { IsSurvey protocol.now survey.now.role survey.now }
-    requires reached { IsReached protocol.now number }
-    requires passing { IsOn survey.now.passing number }
-    ensures sound { IfOk result (λ b. b ≡ true → IsUnreached protocol.now survey.now.role number) }
-    ensures whole { IfOk result (λ b. b ≡ false → IsUnreached protocol.now survey.now.role number → ⊥) }
+fn goes_round(alloc: Global, survey: &Survey, number: u32) -> Result<bool, NoMemory>
+    requires reached { IsReached survey.now.protocol number }
+    requires passing { PassesBy survey.now.protocol survey.now.role number }
+    ensures sound { IfOk result (λ b. b ≡ true → IsUnreached survey.now.protocol survey.now.role number) }
+    ensures whole { IfOk result (λ b. b ≡ false → IsUnreached survey.now.protocol survey.now.role number → ⊥) }
 {
+    let protocol = survey.protocol;
     let starts = starts_from(alloc, &protocol.nodes[number as usize])?;
     let marks = spread(alloc, protocol, &survey.passing, &starts)?;
     Ok(marks[number as usize])

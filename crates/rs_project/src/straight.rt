@@ -1,20 +1,23 @@
 ghost use Rattle.std.specs.Prelude.{◌≡◌, ◌<◌, ◌∷◌, [], length, IfOk, IfSome};
+ghost use Rattle.std.specs.List.{All};
 ghost use Rattle.rs_project.specs.Filing.{lone_front};
-ghost use Rattle.rs_project.specs.Marks.{IsSurvey, MeetsOnly, nexts_of_node};
-ghost use Rattle.rs_wellformed.specs.WellFormed.{IsWellFormed};
+ghost use Rattle.rs_project.specs.Working.{IsFrontFrom};
+ghost use Rattle.rs_project.specs.Marks.{MeetsOnly, nexts_of_node};
 
-use crate::fronts::Front;
+use crate::fronts::{Front, in_order};
 use crate::surveying::Survey;
-use rs_model::{NoMemory, Node, Protocol};
+use rs_model::{NoMemory, Node};
 use std::alloc::Global;
 
+// From more nodes than these marks lead to the talks at less cost.
+const FEW: usize = 4;
+
 /// The one talk that the role meets from a node, where talks with one arm alone lead to it.
-pub fn only_talk(protocol: &Protocol, survey: &Survey, start: u32) -> Option<u32>
-    requires well_formed { IsWellFormed protocol.now }
-    requires survey { IsSurvey protocol.now survey.now.role survey.now }
-    requires start { start < length protocol.now.nodes }
-    ensures { IfSome result (λ talk. MeetsOnly protocol.now survey.now.role start talk) }
+pub fn only_talk(survey: &Survey, start: u32) -> Option<u32>
+    requires start { start < length survey.now.protocol.nodes }
+    ensures { IfSome result (λ talk. MeetsOnly survey.now.protocol survey.now.role start talk) }
 {
+    let protocol = survey.protocol;
     let mut node = start;
     for _ in 0..protocol.nodes.len() {
         if survey.involved[node as usize] {
@@ -39,6 +42,31 @@ fn only_next(node: &Node) -> Option<u32>
             _ => None,
         },
     }
+}
+
+/// What the role may meet first from few nodes, where talks with one arm alone lead to it from each.
+pub fn straight_front(
+    alloc: Global,
+    survey: &Survey,
+    starts: &[u32],
+) -> Result<Option<Front>, NoMemory>
+    requires starts { All (λ s. s < length survey.now.protocol.nodes) starts.now }
+    ensures { IfOk result (λ found. IfSome found (λ f. IsFrontFrom survey.now.protocol survey.now.role starts.now f)) }
+{
+    if starts.len() > FEW {
+        return Ok(None);
+    }
+    let mut talks = Vec::new(alloc);
+    for start in starts {
+        let Some(talk) = only_talk(survey, *start) else {
+            return Ok(None);
+        };
+        talks.push(talk)?;
+    }
+    Ok(Some(Front {
+        talks: in_order(talks),
+        ends: false,
+    }))
 }
 
 /// What a role may meet first where it is this talk alone.

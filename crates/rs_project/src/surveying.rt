@@ -1,8 +1,8 @@
-ghost use Rattle.std.specs.Prelude.{◌≡◌, ◌↔◌, ◌≤◌, ◌<◌, ◌&&◌, ℕ, true, false, not, map, length, slice_index_or, slice_get, Some, IfOk};
+ghost use Rattle.std.specs.Prelude.{◌≡◌, ◌↔◌, ◌≤◌, ◌<◌, ◌^◌, ◌&&◌, ℕ, true, false, not, map, length, slice_index_or, slice_get, Some, IfOk};
 ghost use Rattle.rs_model.specs.declared.graph.Node.{Node};
 ghost use Rattle.rs_model.specs.declared.graph.Role.{Role};
 ghost use Rattle.rs_project.specs.Graph.{Involves, IsIdle};
-ghost use Rattle.rs_project.specs.Marks.{AllAwaited, HasFlags, IsOn, IsSettled, IsSurvey, LeadsWithin, any_on, involves_role, leads_on, unmarked};
+ghost use Rattle.rs_project.specs.Marks.{AllAwaited, HasFlags, IsOn, IsSettled, LeadsWithin, any_on, involves_role, leads_on, unmarked};
 ghost use Rattle.rs_wellformed.specs.WellFormed.{IsWellFormed};
 ghost use Rattle.std.specs.List.{All};
 
@@ -10,34 +10,43 @@ use rs_model::{Arm, NoMemory, Node, Protocol, Role};
 use std::alloc::Global;
 use std::marker::Model;
 
-/// What is known of the nodes of a protocol for one role: whether a node is a talk that involves the role, whether such a
+/// A well-formed protocol, and what is known of its nodes for one role: whether a node is a talk that involves the role, whether such a
 /// talk can be reached from it, and whether it passes by the role.
 #[derive(Drop)]
-pub struct Survey {
+pub struct Survey<'a> {
+    pub protocol: &'a Protocol,
     pub role: Role,
     pub involved: Vec<bool>,
     pub awaited: Vec<bool>,
     pub passing: Vec<bool>,
 }
 
-impl Model for Survey {
-    ghost use Rattle.rs_project.specs.Marks.{Survey_data};
+impl<'a> Model for Survey<'a> {
+    ghost use Rattle.rs_project.specs.Marks.{IsKnown, Survey_data};
 
     ghost Value = { Survey_data };
 
-    ghost view = { λ s. record { role = s.role; involved = s.involved.items; awaited = s.awaited.items; passing = s.passing.items } };
+    ghost view = { λ s. record { protocol = s.protocol.now; role = s.role; involved = s.involved.items; awaited = s.awaited.items; passing = s.passing.items } };
+
+    ghost invariant = { λ s. IsKnown (record { protocol = s.protocol.now; role = s.role; involved = s.involved.items; awaited = s.awaited.items; passing = s.passing.items }) };
 }
 
 /// What is known of the protocol's nodes for the role.
-pub fn survey_of(alloc: Global, protocol: &Protocol, role: Role) -> Result<Survey, NoMemory>
-    requires { IsWellFormed protocol.now }
-    ensures survey { IfOk result (λ s. IsSurvey protocol.now role s) }
+pub fn survey_of<'a>(
+    alloc: Global,
+    protocol: &'a Protocol,
+    role: Role,
+) -> Result<Survey<'a>, NoMemory>
+    requires well_formed { IsWellFormed protocol.now }
+    requires few { length protocol.now.nodes < 2 ^ 32 }
+    ensures protocol { IfOk result (λ s. s.protocol ≡ protocol.now) }
     ensures role { IfOk result (λ s. s.role ≡ role) }
 {
     let involved = involved_nodes(alloc, protocol, role)?;
     let awaited = awaited_nodes(alloc, protocol, &involved)?;
     let passing = passing_nodes(alloc, &involved, &awaited)?;
     Ok(Survey {
+        protocol,
         role,
         involved,
         awaited,

@@ -3,74 +3,72 @@ use Rattle.std.specs.List.{All}
 use Rattle.std.proofs.lemmas.Option.{slice_get-get_or}
 use Rattle.rs_model.specs.declared.graph.Arm.{Arm}
 use Rattle.rs_model.specs.declared.values.Sort.TheVariants.{Unit as unit}
+use Rattle.rs_project.specs.Marks.{Survey_data, IsKnown}
 use Rattle.rs_project.specs.Numbered.{nexts_of}
 use Rattle.rs_project.specs.Projection.{Choice, choice_of, merged_choices}
 use Rattle.rs_project.specs.Working.{ArmsFault, Discovers}
-use Rattle.rs_project.proofs.Behind.{fault-behind, finds-behind, starts-within}
+use Rattle.rs_project.proofs.Behind.{fault-behind, finds-behind, starts-of, starts-within}
 use Rattle.rs_project.proofs.Handed.{handed-on}
 use Rattle.rs_project.proofs.Numbers.{discovers-none, arm-more, same-more, arms-fault, taken-all}
 use Rattle.rs_project.proofs.finding.joint_arms.Goals as goal
 
 pub loop-choice-init : goal.loop-choice-init
 loop-choice-init c =
-    let P : List Arm → Type 0 = λ z. Discovers c.args.protocol.now c.args.survey.now.role c.args.fronts.now c.args.talks.now [] c.args.fronts.now (nexts_of z) in
+    let P : List Arm → Type 0 = λ z. Discovers c.args.survey.now.protocol c.args.survey.now.role c.args.fronts.now c.args.talks.now [] c.args.fronts.now (nexts_of z) in
     record {
-      discovers = subst P (sym c.new-arms.ensures) (discovers-none c.args.protocol.now c.args.survey.now.role c.args.fronts.now c.args.talks.now c.requires.found);
+      discovers = subst P (sym c.new-arms.ensures) (discovers-none c.args.survey.now.protocol c.args.survey.now.role c.args.fronts.now c.args.talks.now c.requires.found);
       same = ap (λ (z : List Arm). map choice_of z) c.new-arms.ensures;
     }
 
-pub find-requires-clause-fronts : goal.find-requires-clause-fronts
-find-requires-clause-fronts c = c.loop-choice.invariant.discovers.found.few
-
-pub find-requires-clause-starts : goal.find-requires-clause-starts
-find-requires-clause-starts c =
+pub find-requires : goal.find-requires
+find-requires c =
     let choices = c.as_slice-choice-items.result.now in
     let a : Arm = get_or choices c.loop-choice.choice-index record { label = record { 0 = 0 }; sort = unit; next = 0 } in
-    let P : List ℕ → Type 0 = λ z. All (λ s. s < length c.args.protocol.now.nodes) z in
-    subst P (sym (c.as_slice.ensures.value ∙ c.in_ok-starts.ensures)) (starts-within c.args.protocol.now c.args.talks.now a.label c.requires.well_formed)
+    let P : List ℕ → Type 0 = λ z. All (λ s. s < length c.args.survey.now.protocol.nodes) z in
+    subst P (sym (c.as_slice.ensures ∙ c.in_ok-starts.ensures ∙ ap (λ (z : Survey_data). starts-of z.protocol c.args.talks.now a.label) c.survey.view_is)) (starts-within c.args.survey.now.protocol c.args.talks.now a.label (subst IsKnown c.survey.view_is c.survey.invariant).well_formed)
 
 pub returns-in_err-next-clause-err : goal.returns-in_err-next-clause-err
 returns-in_err-next-clause-err c =
-    let pr = c.args.protocol.now in
+    let pr = c.args.survey.now.protocol in
     let role = c.args.survey.now.role in
     let talks = c.args.talks.now in
     let choices = c.as_slice-choice-items.result.now in
     let a : Arm = get_or choices c.loop-choice.choice-index record { label = record { 0 = 0 }; sort = unit; next = 0 } in
     let at = slice_get-get_or choices c.loop-choice.choice-index _ c.loop-choice-test.true in
-    let same = ap (λ (z : List Arm). map choice_of z) c.as_slice-choice-items.ensures.value ∙ c.in_ok-choices.ensures in
+    let same = ap (λ (z : List Arm). map choice_of z) c.as_slice-choice-items.ensures ∙ c.in_ok-choices.ensures ∙ ap (λ (z : Survey_data). merged_choices z.protocol c.args.talks.now) c.survey.view_is in
     let Q : List Choice → Type 0 = λ z. ArmsFault pr role c.args.fronts.now talks z c.in_err-next.field-0.0 in
     handed-on c.from_residual-in_err-next.result c.in_err-next.field-0.0 (λ e. ArmsFault pr role c.args.fronts.now talks (merged_choices pr talks) e)
     c.from_residual-in_err-next.ensures.1
     (subst Q same
     (arms-fault pr role c.args.fronts.now c.loop-choice.fronts talks choices c.loop-choice.choice-index a (nexts_of c.loop-choice.arms)
     at c.loop-choice.invariant.discovers c.in_err-next.field-0.0
-    (fault-behind pr role c.loop-choice.fronts talks a.label c.as_slice.result.now (c.as_slice.ensures.value ∙ c.in_ok-starts.ensures) c.in_err-next.field-0.0 c.in_err-next.ensures.err)))
+    (fault-behind pr role c.loop-choice.fronts talks a.label c.as_slice.result.now (c.as_slice.ensures ∙ c.in_ok-starts.ensures ∙ ap (λ (z : Survey_data). starts-of z.protocol c.args.talks.now a.label) c.survey.view_is) c.in_err-next.field-0.0 c.in_err-next.ensures.err)))
 
 pub loop-choice-preserved : goal.loop-choice-preserved
 loop-choice-preserved c =
-    let pr = c.args.protocol.now in
+    let pr = c.args.survey.now.protocol in
     let role = c.args.survey.now.role in
     let talks = c.args.talks.now in
     let choices = c.as_slice-choice-items.result.now in
     let a : Arm = get_or choices c.loop-choice.choice-index record { label = record { 0 = 0 }; sort = unit; next = 0 } in
     let at = slice_get-get_or choices c.loop-choice.choice-index _ c.loop-choice-test.true in
-    let same = ap (λ (z : List Arm). map choice_of z) c.as_slice-choice-items.ensures.value ∙ c.in_ok-choices.ensures in
+    let same = ap (λ (z : List Arm). map choice_of z) c.as_slice-choice-items.ensures ∙ c.in_ok-choices.ensures ∙ ap (λ (z : Survey_data). merged_choices z.protocol c.args.talks.now) c.survey.view_is in
     record {
       discovers = arm-more pr role c.args.survey.now c.args.fronts.now c.loop-choice.fronts c.find.new.fronts talks choices c.loop-choice.choice-index a
-          c.loop-choice.arms c.push.new.self c.in_ok-next.next c.requires.survey same at c.in_ok-push.ensures.ok c.loop-choice.invariant.discovers
-          (finds-behind pr role c.loop-choice.fronts talks a.label c.as_slice.result.now c.find.new.fronts c.in_ok-next.next (c.as_slice.ensures.value ∙ c.in_ok-starts.ensures) c.in_ok-next.ensures.ok);
+          c.loop-choice.arms c.push.new.self c.in_ok-next.next (subst IsKnown c.survey.view_is c.survey.invariant).survey same at c.in_ok-push.ensures.ok c.loop-choice.invariant.discovers
+          (finds-behind pr role c.loop-choice.fronts talks a.label c.as_slice.result.now c.find.new.fronts c.in_ok-next.next (c.as_slice.ensures ∙ c.in_ok-starts.ensures ∙ ap (λ (z : Survey_data). starts-of z.protocol c.args.talks.now a.label) c.survey.view_is) c.in_ok-next.ensures.ok);
       same = same-more choices c.loop-choice.choice-index a c.loop-choice.arms c.push.new.self c.in_ok-next.next at c.in_ok-push.ensures.ok c.loop-choice.invariant.same;
     }
 
 pub returns-clause-ok : goal.returns-clause-ok
 returns-clause-ok c =
-    let pr = c.args.protocol.now in
+    let pr = c.args.survey.now.protocol in
     let talks = c.args.talks.now in
-    let same = ap (λ (z : List Arm). map choice_of z) c.as_slice-choice-items.ensures.value ∙ c.in_ok-choices.ensures in
+    let same = ap (λ (z : List Arm). map choice_of z) c.as_slice-choice-items.ensures ∙ c.in_ok-choices.ensures ∙ ap (λ (z : Survey_data). merged_choices z.protocol c.args.talks.now) c.survey.view_is in
     let Q : List Choice → Type 0 = λ z. Discovers pr c.args.survey.now.role c.args.fronts.now talks z c.loop-choice.fronts (nexts_of c.loop-choice.arms) in
     subst Q (taken-all c.as_slice-choice-items.result.now c.loop-choice.choice-index (let f = c.loop-choice-test.false in omega (arith, f)) ∙ same) c.loop-choice.invariant.discovers
 
 pub returns-clause-choices : goal.returns-clause-choices
 returns-clause-choices c =
     c.loop-choice.invariant.same ∙ taken-all c.as_slice-choice-items.result.now c.loop-choice.choice-index (let f = c.loop-choice-test.false in omega (arith, f))
-    ∙ ap (λ (z : List Arm). map choice_of z) c.as_slice-choice-items.ensures.value ∙ c.in_ok-choices.ensures
+    ∙ ap (λ (z : List Arm). map choice_of z) c.as_slice-choice-items.ensures ∙ c.in_ok-choices.ensures ∙ ap (λ (z : Survey_data). merged_choices z.protocol c.args.talks.now) c.survey.view_is

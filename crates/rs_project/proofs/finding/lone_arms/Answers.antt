@@ -2,6 +2,7 @@ use Rattle.std.proofs.Common.{arith, rules, ◌≡◌, ◌∷◌, [], List, map,
 use Rattle.std.proofs.lemmas.Option.{slice_get-get_or}
 use Rattle.rs_model.specs.declared.graph.Arm.{Arm}
 use Rattle.rs_model.specs.declared.values.Sort.TheVariants.{Unit as unit}
+use Rattle.rs_project.specs.Marks.{IsKnown}
 use Rattle.rs_project.specs.Numbered.{nexts_of}
 use Rattle.rs_project.specs.Projection.{Choice, choice_of, merged_choices}
 use Rattle.rs_project.specs.Working.{ArmsFault, Discovers}
@@ -14,27 +15,24 @@ use Rattle.rs_project.proofs.finding.lone_arms.Goals as goal
 
 pub loop-choice-init : goal.loop-choice-init
 loop-choice-init c =
-    let P : List Arm → Type 0 = λ z. Discovers c.args.protocol.now c.args.survey.now.role c.args.fronts.now (c.args.talk ∷ []) [] c.args.fronts.now (nexts_of z) in
+    let P : List Arm → Type 0 = λ z. Discovers c.args.survey.now.protocol c.args.survey.now.role c.args.fronts.now (c.args.talk ∷ []) [] c.args.fronts.now (nexts_of z) in
     record {
-      discovers = subst P (sym c.new-arms.ensures) (discovers-none c.args.protocol.now c.args.survey.now.role c.args.fronts.now (c.args.talk ∷ []) c.requires.found);
+      discovers = subst P (sym c.new-arms.ensures) (discovers-none c.args.survey.now.protocol c.args.survey.now.role c.args.fronts.now (c.args.talk ∷ []) c.requires.found);
       same = ap (λ (z : List Arm). map choice_of z) c.new-arms.ensures;
     }
 
-pub find-requires-clause-fronts : goal.find-requires-clause-fronts
-find-requires-clause-fronts c = c.loop-choice.invariant.discovers.found.few
-
-pub find-requires-clause-starts : goal.find-requires-clause-starts
-find-requires-clause-starts c =
+pub find-requires : goal.find-requires
+find-requires c =
     let a : Arm = get_or c.arms_in-choices.result.now c.loop-choice.choice-index record { label = record { 0 = 0 }; sort = unit; next = 0 } in
     let node = c.index.result.now in
-    let here = read-via c.args.protocol.now.nodes c.protocol.inside.nodes.items c.args.talk node (search rules) c.requires.talk c.index.ensures in
+    let here = read-via c.args.survey.now.protocol.nodes c.protocol.inside.nodes.items c.args.talk node (search rules) c.requires.talk c.index.ensures in
     let P : List Arm → Type 0 = λ z. slice_get z c.loop-choice.choice-index ≡ Some a in
-    next-in c.args.protocol.now c.args.talk node c.loop-choice.choice-index a c.requires.well_formed here
+    next-in c.args.survey.now.protocol c.args.talk node c.loop-choice.choice-index a (subst IsKnown c.survey.view_is c.survey.invariant).well_formed here
     (subst P c.arms_in-choices.ensures (slice_get-get_or c.arms_in-choices.result.now c.loop-choice.choice-index _ c.loop-choice-test.true))
 
 pub returns-in_err-next-clause-err : goal.returns-in_err-next-clause-err
 returns-in_err-next-clause-err c =
-    let pr = c.args.protocol.now in
+    let pr = c.args.survey.now.protocol in
     let role = c.args.survey.now.role in
     let talks = c.args.talk ∷ [] in
     let choices = c.arms_in-choices.result.now in
@@ -43,8 +41,8 @@ returns-in_err-next-clause-err c =
     let node = c.index.result.now in
     let here = read-via pr.nodes c.protocol.inside.nodes.items c.args.talk node (search rules) c.requires.talk c.index.ensures in
     let P : List Arm → Type 0 = λ z. slice_get z c.loop-choice.choice-index ≡ Some a in
-    let starts = start-alone pr c.args.talk node c.loop-choice.choice-index a c.requires.well_formed here (subst P c.arms_in-choices.ensures at) in
-    let same = ap (λ (z : List Arm). map choice_of z) c.arms_in-choices.ensures ∙ choices-in pr c.args.talk node c.requires.well_formed here in
+    let starts = start-alone pr c.args.talk node c.loop-choice.choice-index a (subst IsKnown c.survey.view_is c.survey.invariant).well_formed here (subst P c.arms_in-choices.ensures at) in
+    let same = ap (λ (z : List Arm). map choice_of z) c.arms_in-choices.ensures ∙ choices-in pr c.args.talk node (subst IsKnown c.survey.view_is c.survey.invariant).well_formed here in
     let Q : List Choice → Type 0 = λ z. ArmsFault pr role c.args.fronts.now talks z c.in_err-next.field-0.0 in
     handed-on c.from_residual.result c.in_err-next.field-0.0 (λ e. ArmsFault pr role c.args.fronts.now talks (merged_choices pr talks) e)
     c.from_residual.ensures.1
@@ -54,7 +52,7 @@ returns-in_err-next-clause-err c =
 
 pub loop-choice-preserved : goal.loop-choice-preserved
 loop-choice-preserved c =
-    let pr = c.args.protocol.now in
+    let pr = c.args.survey.now.protocol in
     let role = c.args.survey.now.role in
     let talks = c.args.talk ∷ [] in
     let choices = c.arms_in-choices.result.now in
@@ -63,29 +61,29 @@ loop-choice-preserved c =
     let node = c.index.result.now in
     let here = read-via pr.nodes c.protocol.inside.nodes.items c.args.talk node (search rules) c.requires.talk c.index.ensures in
     let P : List Arm → Type 0 = λ z. slice_get z c.loop-choice.choice-index ≡ Some a in
-    let starts = start-alone pr c.args.talk node c.loop-choice.choice-index a c.requires.well_formed here (subst P c.arms_in-choices.ensures at) in
-    let same = ap (λ (z : List Arm). map choice_of z) c.arms_in-choices.ensures ∙ choices-in pr c.args.talk node c.requires.well_formed here in
+    let starts = start-alone pr c.args.talk node c.loop-choice.choice-index a (subst IsKnown c.survey.view_is c.survey.invariant).well_formed here (subst P c.arms_in-choices.ensures at) in
+    let same = ap (λ (z : List Arm). map choice_of z) c.arms_in-choices.ensures ∙ choices-in pr c.args.talk node (subst IsKnown c.survey.view_is c.survey.invariant).well_formed here in
     record {
       discovers = arm-more pr role c.args.survey.now c.args.fronts.now c.loop-choice.fronts c.find.new.fronts talks choices c.loop-choice.choice-index a
-          c.loop-choice.arms c.push.new.self c.in_ok-next.next c.requires.survey same at c.in_ok-push.ensures.ok c.loop-choice.invariant.discovers
+          c.loop-choice.arms c.push.new.self c.in_ok-next.next (subst IsKnown c.survey.view_is c.survey.invariant).survey same at c.in_ok-push.ensures.ok c.loop-choice.invariant.discovers
           (finds-behind pr role c.loop-choice.fronts talks a.label (a.next ∷ []) c.find.new.fronts c.in_ok-next.next starts c.in_ok-next.ensures.ok);
       same = same-more choices c.loop-choice.choice-index a c.loop-choice.arms c.push.new.self c.in_ok-next.next at c.in_ok-push.ensures.ok c.loop-choice.invariant.same;
     }
 
 pub returns-clause-ok : goal.returns-clause-ok
 returns-clause-ok c =
-    let pr = c.args.protocol.now in
+    let pr = c.args.survey.now.protocol in
     let talks = c.args.talk ∷ [] in
     let node = c.index.result.now in
     let here = read-via pr.nodes c.protocol.inside.nodes.items c.args.talk node (search rules) c.requires.talk c.index.ensures in
-    let same = ap (λ (z : List Arm). map choice_of z) c.arms_in-choices.ensures ∙ choices-in pr c.args.talk node c.requires.well_formed here in
+    let same = ap (λ (z : List Arm). map choice_of z) c.arms_in-choices.ensures ∙ choices-in pr c.args.talk node (subst IsKnown c.survey.view_is c.survey.invariant).well_formed here in
     let Q : List Choice → Type 0 = λ z. Discovers pr c.args.survey.now.role c.args.fronts.now talks z c.loop-choice.fronts (nexts_of c.loop-choice.arms) in
     subst Q (taken-all c.arms_in-choices.result.now c.loop-choice.choice-index (let f = c.loop-choice-test.false in omega (arith, f)) ∙ same) c.loop-choice.invariant.discovers
 
 pub returns-clause-choices : goal.returns-clause-choices
 returns-clause-choices c =
-    let pr = c.args.protocol.now in
+    let pr = c.args.survey.now.protocol in
     let node = c.index.result.now in
     let here = read-via pr.nodes c.protocol.inside.nodes.items c.args.talk node (search rules) c.requires.talk c.index.ensures in
-    let same = ap (λ (z : List Arm). map choice_of z) c.arms_in-choices.ensures ∙ choices-in pr c.args.talk node c.requires.well_formed here in
+    let same = ap (λ (z : List Arm). map choice_of z) c.arms_in-choices.ensures ∙ choices-in pr c.args.talk node (subst IsKnown c.survey.view_is c.survey.invariant).well_formed here in
     c.loop-choice.invariant.same ∙ taken-all c.arms_in-choices.result.now c.loop-choice.choice-index (let f = c.loop-choice-test.false in omega (arith, f)) ∙ same

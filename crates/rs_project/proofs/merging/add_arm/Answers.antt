@@ -7,10 +7,10 @@ use Rattle.rs_project.proofs.merging.add_arm.Goals as goal
 pub returns-then-has_label : goal.returns-then-has_label
 returns-then-has_label c =
     add-known c.args.arm (map choice_of c.args.merged.now.items)
-    (any-labelled c.args.arm.label c.args.merged.now.items c.as_slice.result.now c.has_label.result true c.as_slice.ensures.value c.has_label.ensures c.if-has_label.true)
+    (any-labelled c.args.arm.label c.args.merged.now.items c.as_slice.result.now c.has_label.result true c.as_slice.ensures c.has_label.ensures c.if-has_label.true)
 
 pub returns : goal.returns
 returns c =
     add-new c.args.arm (map choice_of c.args.merged.now.items) (map choice_of c.push.new.self.items)
-    (any-labelled c.args.arm.label c.args.merged.now.items c.as_slice.result.now c.has_label.result false c.as_slice.ensures.value c.has_label.ensures c.if-has_label.false)
-    (ap (λ (z : List Arm). map choice_of z) c.in_ok-push.ensures.items ∙ map-last c.args.merged.now.items c.args.arm)
+    (any-labelled c.args.arm.label c.args.merged.now.items c.as_slice.result.now c.has_label.result false c.as_slice.ensures c.has_label.ensures c.if-has_label.false)
+    (ap (λ (z : List Arm). map choice_of z) c.in_ok-push.ensures.ok ∙ map-last c.args.merged.now.items c.args.arm)

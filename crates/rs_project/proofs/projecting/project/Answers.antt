@@ -1,4 +1,4 @@
-use Rattle.std.proofs.Common.{arith, ◌≤◌, inr, ℕ, [], ◌∷◌, Option, MatchOption, refl, ap, subst}
+use Rattle.std.proofs.Common.{arith, ◌≤◌, inr, ℕ, [], ◌∷◌, Option, MatchOption, refl, ap, subst, subst₂, sym, ◌∙◌}
 use Rattle.rs_model.specs.Data.{Protocol_data}
 use Rattle.rs_model.specs.declared.graph.Role.{Role}
 use Rattle.rs_project.specs.Graph.{IsUnreached}
@@ -11,24 +11,28 @@ use Rattle.rs_project.proofs.projecting.project.Goals as goal
 
 pub returns-in-Some-clause-err : goal.returns-in-Some-clause-err
 returns-in-Some-clause-err c =
-    let pr = c.args.protocol.now in
-    let own = c.in_ok-survey.survey.role in
-    let P : Option ℕ → Type 0 = λ o. MatchOption o (NoneUnreached pr own) (λ node. IsUnreached pr own node × ((n : ℕ) → IsUnreached pr own n → node ≤ n)) in
-    let Q : Role → Type 0 = λ z. IsUnreached pr z c.in-Some.node × ((n : ℕ) → IsUnreached pr z n → c.in-Some.node ≤ n) in
-    let h = subst Q c.in_ok-survey.ensures.role (subst P c.in-Some.is c.in_ok-node.ensures) in
+    let sv = c.in_ok-survey.survey in
+    let P : Option ℕ → Type 0 = λ o. MatchOption o (NoneUnreached sv.protocol sv.role) (λ node. IsUnreached sv.protocol sv.role node × ((n : ℕ) → IsUnreached sv.protocol sv.role n → node ≤ n)) in
+    let Q : Protocol_data → Role → Type 0 = λ y z. IsUnreached y z c.in-Some.node × ((n : ℕ) → IsUnreached y z n → c.in-Some.node ≤ n) in
+    let h = subst₂ Q c.in_ok-survey.ensures.protocol c.in_ok-survey.ensures.role (subst P c.in-Some.is c.in_ok-node.ensures) in
     inr (refl, h.0, h.1)
 
 pub work-requires-clause-start : goal.work-requires-clause-start
 work-requires-clause-start c =
-    let pr = c.args.protocol.now in
-    let own = c.in_ok-survey.survey.role in
-    let P : ℕ → Type 0 = λ z. IsFront c.in_ok-start.start (StartMeets pr own (z ∷ [])) (StartEnds pr own (z ∷ [])) in
-    front-root pr own c.in_ok-start.start (subst P (ap (λ (z : Protocol_data). z.root) c.protocol.view_is) c.in_ok-start.ensures)
+    let sv = c.in_ok-survey.survey in
+    let P : ℕ → Type 0 = λ z. IsFront c.in_ok-start.start (StartMeets sv.protocol sv.role (z ∷ [])) (StartEnds sv.protocol sv.role (z ∷ [])) in
+    front-root sv.protocol sv.role c.in_ok-start.start
+    (subst P (ap (λ (z : Protocol_data). z.root) c.protocol.view_is ∙ sym (ap (λ (z : Protocol_data). z.root) c.in_ok-survey.ensures.protocol)) c.in_ok-start.ensures)
+
+pub returns-clause-ok : goal.returns-clause-ok
+returns-clause-ok c =
+    let P : Protocol_data → Role → Type 0 = λ y z. IsNumberedProjection y z c.in_ok-projection.projection in
+    subst₂ P c.in_ok-survey.ensures.protocol c.in_ok-survey.ensures.role c.in_ok-projection.ensures.ok
 
 pub returns-clause-machine : goal.returns-clause-machine
 returns-clause-machine c =
-    let P : Role → Type 0 = λ z. IsNumberedProjection c.args.protocol.now z c.in_ok-projection.projection in
-    let h = subst P c.in_ok-survey.ensures.role c.in_ok-projection.ensures.ok in
+    let P : Protocol_data → Role → Type 0 = λ y z. IsNumberedProjection y z c.in_ok-projection.projection in
+    let h = subst₂ P c.in_ok-survey.ensures.protocol c.in_ok-survey.ensures.role c.in_ok-projection.ensures.ok in
     projection-machine c.args.protocol.now c.args.role c.in_ok-projection.projection c.requires.well_formed c.requires.role h.is
 
 pub returns-clause-few : goal.returns-clause-few

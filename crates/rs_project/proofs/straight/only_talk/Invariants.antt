@@ -4,6 +4,6 @@ use Rattle.rs_project.proofs.straight.only_talk.Given as goal
 
 abbrev pub invariant-loop : goal.invariant-loop
 invariant-loop l = record {
-  within : l.node < length l.protocol.nodes;
-  stands : StandsFor l.protocol l.survey.role l.start l.node;
+  within : l.node < length l.survey.protocol.nodes;
+  stands : StandsFor l.survey.protocol l.survey.role l.start l.node;
 }

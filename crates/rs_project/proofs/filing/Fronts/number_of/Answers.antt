@@ -8,7 +8,7 @@ use Rattle.rs_project.proofs.filing.Fronts.number_of.Goals as goal
 
 pub returns : goal.returns
 returns c =
-    let size = c.self.invariant.0.buckets in
+    let size = c.self.invariant.filed.buckets in
     let lt = c.bucket_of.ensures.within in
     let b : c.bucket_of.result ≡ bucket_on 0 c.args.front.now.talks = c.bucket_of.ensures.is ∙ ap (λ (z : List ℕ). bucket_on 0 z) (c.deref.ensures.value ∙ ap (λ (z : Front_data). z.talks) c.front.view_is) in
     let head : c.index-head.result.now ≡ get_or c.self.inside.heads.items (bucket_on 0 c.args.front.now.talks) 0 =
@@ -19,5 +19,5 @@ returns c =
     let Q : List Front_data → Type 0 = λ z. MatchOption c.number_along.result ((n : ℕ) → IsChained c.deref-3.result.now c.index-head.result.now n → slice_get z n ≡ Some c.args.front.now → ⊥) (λ n. slice_get z n ≡ Some c.args.front.now) in
     let R : List ℕ → Type 0 = λ z. MatchOption c.number_along.result ((n : ℕ) → IsChained z c.index-head.result.now n → slice_get c.self.inside.items.items n ≡ Some c.args.front.now → ⊥) (λ n. slice_get c.self.inside.items.items n ≡ Some c.args.front.now) in
     subst P c.self.view_is
-    (looked-all c.self.inside.items.items c.self.inside.heads.items c.self.inside.links.items c.args.front.now c.index-head.result.now c.number_along.result c.self.invariant.0 head
+    (looked-all c.self.inside.items.items c.self.inside.heads.items c.self.inside.links.items c.args.front.now c.index-head.result.now c.number_along.result c.self.invariant.filed head
     (subst R c.deref-3.ensures.value (subst Q c.deref-2.ensures.value c.number_along.ensures)))
