@@ -1,4 +1,4 @@
-ghost use Rattle.std.specs.Prelude.{◌≡◌, ◌<◌, ◌≤◌, ◌∷◌, ◌++◌, [], length, map};
+ghost use Rattle.std.specs.Prelude.{◌≡◌, ◌↔◌, IsTrue, ◌<◌, ◌≤◌, ◌∷◌, ◌++◌, [], length, map};
 ghost use Rattle.rs_prefix.specs.Earliest.{without};
 ghost use Rattle.rs_derive.specs.Checks.{names, same_act, same_acts, same_spot, changed, target_spot};
 ghost use Rattle.rs_derive.specs.Derivations.{spot_of};
@@ -115,5 +115,20 @@ fn is_joined(acts: &[Act], front: &[Act], back: &[Act]) -> bool
 pub fn same_acts(acts: &[Act], others: &[Act]) -> bool
     ensures { result ≡ same_acts acts.now others.now }
 {
-    acts == others
+    are_equal(acts, others)
+}
+
+// The same, by as few steps as there are acts.
+fn are_equal(acts: &[Act], others: &[Act]) -> bool
+    ensures { IsTrue result ↔ (acts.now ≡ others.now) }
+{
+    if acts.len() != others.len() {
+        return false;
+    }
+    for i in 0..acts.len() {
+        if acts[i] != others[i] {
+            return false;
+        }
+    }
+    true
 }

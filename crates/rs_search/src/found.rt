@@ -455,13 +455,13 @@ fn first_room(sub: &Machine, above: &Machine) -> usize
     sub.states.len().min(2_000) + above.states.len().min(2_000)
 }
 
-// How many buckets there are: one for each pair of states where these are few, and some for each state.
+// How many buckets there are: one for two pairs of states, as far as these are few, and some for each state.
 fn bucket_count(sub: &Machine, above: &Machine) -> usize
     ensures some { 0 < result }
     ensures few { result < 2 ^ 32 }
 {
-    let pairs = sub.states.len().min(256) * above.states.len().min(256);
-    pairs + first_room(sub, above) * 4 + 1
+    let pairs = sub.states.len().min(2_000) * above.states.len().min(2_000);
+    pairs.min(65_536) / 2 + first_room(sub, above) * 4 + 1
 }
 
 // An index without numbers, with room for some.
@@ -524,7 +524,8 @@ pub fn find_all(
             Err(fault) => return Err(fault),
         };
         choosing = either(choosing, has_choice(turn.any, row.as_slice().len()));
-        rows.push(row)?;
+        rows.reserve(1)?;
+        rows.push_reserved(row);
     }
     Ok(Candidates {
         points,

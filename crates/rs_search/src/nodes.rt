@@ -76,7 +76,9 @@ pub fn nodes_in_order(
     let mut nodes = Vec::with_capacity(alloc, points.len())?;
     for point in points {
         let i = nodes.len();
-        nodes.push(into_node(alloc, point, ranks[i], &rows[i])?)?;
+        let node = into_node(alloc, point, ranks[i], &rows[i])?;
+        nodes.reserve(1)?;
+        nodes.push_reserved(node);
     }
     Ok(nodes)
 }
