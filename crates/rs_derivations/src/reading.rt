@@ -10,6 +10,7 @@ ghost use Rattle.rs_derivations.specs.Feeding as spec;
 ghost use Rattle.rs_derivations.specs.Feeding.{names_read, IsSmall};
 
 use rs_derive::DNode;
+use rs_graph::Row;
 use rs_model::{Act, Label, MOST_BOUND, MOST_CANDIDATES, MOST_LABELS, Name, Role, Sort};
 use rs_prefix::{Kind, Pending};
 use rs_text::{Kind as TokenKind, Stop, TextKind, Token, Wanted, expected, fault, number, seen};
@@ -107,7 +108,7 @@ fn no_node(alloc: Global) -> DNode
         pending: Pending::new(alloc),
         above: 0,
         rank: 0,
-        next: Vec::new(alloc),
+        next: Row::new(alloc),
     }
 }
 

@@ -9,6 +9,7 @@ use Rattle.rs_model.specs.declared.machines.Act.{Act}
 use Rattle.rs_model.specs.declared.machines.Act.TheVariants.{Puts, Takes}
 use Rattle.rs_model.specs.declared.values.Sort.{Sort}
 use Rattle.rs_model.specs.declared.values.Sort.TheVariants as sort
+use Rattle.rs_prefix.specs.Earliest.{without}
 use Rattle.rs_derive.specs.Checks.{same_act, same_acts}
 
 sort_at : ℕ → Sort
@@ -123,3 +124,15 @@ pub drop_one : {A : Type 0} (n : ℕ) (xs : List A) → drop 1 (drop n xs) ≡ d
 drop_one zero xs = refl
 drop_one (suc n) [] = sym (drop-nil (suc n + 1))
 drop_one (suc n) (x ∷ xs) = more n xs x (drop_one n xs)
+
+-- the one act that is owed is made
+
+pub alone : (a : Act) (bs : List Act) (place : ℕ) → place ≡ 0 → length bs ≡ 0 → without (a ∷ bs) place ≡ []
+alone a [] place e l = rw e refl
+alone a (b ∷ bs) place e l = absurd (omega arith)
+
+pub none_left : (r : Bool) (acts pending : List Act) (place : ℕ) → length pending ≡ 1 → place < length pending → (r ≡ true → length acts ≡ 0) → (length acts ≡ 0 → r ≡ true)
+    → r ≡ same_acts acts (without pending place)
+none_left r acts [] place l lt f g = absurd (omega arith)
+none_left r [] (b ∷ bs) place l lt f g = g refl ∙ sym (ap (λ (z : List Act). same_acts [] z) (alone b bs place (omega arith) (omega arith)))
+none_left r (a ∷ as') (b ∷ bs) place l lt f g = bools r false (λ e. let z = f e in absurd (omega arith)) (λ e. absurd (false≢true e)) ∙ sym (ap (λ (z : List Act). same_acts (a ∷ as') z) (alone b bs place (omega arith) (omega arith)))

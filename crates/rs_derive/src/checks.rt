@@ -67,6 +67,7 @@ fn starts(nodes: &[DNode], sub: &Machine, above: &Machine) -> bool
     }
 }
 
+#[inline(always)]
 fn node_fault(
     derivation: &Derivation,
     sub: &Machine,
@@ -91,6 +92,7 @@ fn node_fault(
 }
 
 // The node stands at these states.
+#[inline(always)]
 fn next_fault(
     nodes: &[DNode],
     number: u32,
@@ -109,6 +111,7 @@ fn next_fault(
 }
 
 // The rule applies at the node.
+#[inline(always)]
 fn rule_fault(
     nodes: &[DNode],
     number: u32,

@@ -1,6 +1,7 @@
 ghost use Rattle.std.specs.Prelude.{◌≡◌, ◌<◌, ◌^◌, length, map, All};
 ghost use Rattle.rs_derive.specs.Figures.{IsGreatest};
 
+use rs_graph::Row;
 use rs_model::Role;
 use rs_prefix::Pending;
 use std::marker::Model;
@@ -13,7 +14,7 @@ pub struct DNode {
     pub pending: Pending,
     pub above: u32,
     pub rank: u32,
-    pub next: Vec<u32>,
+    pub next: Row,
 }
 
 impl Model for DNode {
@@ -21,7 +22,7 @@ impl Model for DNode {
 
     ghost Value = { DNode_data };
 
-    ghost view = { λ n. record { state = n.state; pending = n.pending; above = n.above; rank = n.rank; next = n.next.items } };
+    ghost view = { λ n. record { state = n.state; pending = n.pending; above = n.above; rank = n.rank; next = n.next } };
 }
 
 /// How the machine of a role follows its projection: nodes, numbered by their places. Node 0 is the start. No node

@@ -21,6 +21,7 @@ pub struct Source {
 }
 
 // One next, which must name the target.
+#[inline(always)]
 pub fn one_fault(
     nodes: &[DNode],
     source: Source,
@@ -42,6 +43,7 @@ pub fn one_fault(
 }
 
 // One next, which must name what passing one of the projection's sends leads to.
+#[inline(always)]
 pub fn guess_fault(
     nodes: &[DNode],
     source: Source,
@@ -63,6 +65,7 @@ pub fn guess_fault(
 }
 
 // A next for each arm of the projection's receive, which is owed from there on.
+#[inline(always)]
 pub fn follow_fault(
     nodes: &[DNode],
     source: Source,
@@ -73,13 +76,13 @@ pub fn follow_fault(
     requires { IsOnce arms.now }
     ensures { result ≡ nexts_fault nodes.now source.keeps source.rank source.node (map (λ b. owing_receive (spot_of node.now) peer b ∷ []) arms.now) node.now.next 0 }
 {
-    let due = arms.len().min(node.next.len());
+    let due = arms.len().min(node.next.as_slice().len());
     for place in 0..due {
         if let Some(fault) = followed_fault(nodes, source, place as u32, node, peer, arms) {
             return Some(fault);
         }
     }
-    count_fault(source, due as u32, arms.len(), node.next.len())
+    count_fault(source, due as u32, arms.len(), node.next.as_slice().len())
 }
 
 // A next for each arm of the machine's send, which the projection makes too.
@@ -93,16 +96,17 @@ pub fn both_fault(
     requires { IsOnce arms.now }
     ensures { result ≡ nexts_fault nodes.now source.keeps source.rank source.node (map (λ a. both_at node.now.pending a (arm_of theirs.now a.label)) arms.now) node.now.next 0 }
 {
-    let due = arms.len().min(node.next.len());
+    let due = arms.len().min(node.next.as_slice().len());
     for place in 0..due {
         if let Some(fault) = made_fault(nodes, source, place as u32, node, arms, theirs) {
             return Some(fault);
         }
     }
-    count_fault(source, due as u32, arms.len(), node.next.len())
+    count_fault(source, due as u32, arms.len(), node.next.as_slice().len())
 }
 
 // The next for that arm of the projection's receive. No label stands at two arms, so there are at most 65,536 arms.
+#[inline(always)]
 fn followed_fault(
     nodes: &[DNode],
     source: Source,
@@ -116,11 +120,12 @@ fn followed_fault(
 {
     let arm = arms.get(number as usize)?;
     let target = owing(node, peer, *arm);
-    let next = node.next.get(number as usize)?;
+    let next = node.next.as_slice().get(number as usize)?;
     edge_fault(nodes, source, number, *next, node, target)
 }
 
 // The next for that arm of the machine's send.
+#[inline(always)]
 fn made_fault(
     nodes: &[DNode],
     source: Source,
@@ -134,7 +139,7 @@ fn made_fault(
 {
     let arm = arms.get(number as usize)?;
     let their = arm_of(theirs, arm.label);
-    let next = node.next.get(number as usize)?;
+    let next = node.next.as_slice().get(number as usize)?;
     let Some(their) = their else {
         return Some(wrong_next(source, number));
     };
@@ -164,6 +169,7 @@ fn owing(node: &DNode, peer: Role, arm: Arm) -> Target
     }
 }
 
+#[inline(always)]
 fn edge_fault(
     nodes: &[DNode],
     source: Source,
@@ -200,6 +206,7 @@ fn guessed_fault(
     }
 }
 
+#[inline(always)]
 fn judge(source: Source, arm: u32, named: bool, rank: u32) -> Option<DeriveFault>
     ensures { result ≡ judged source.keeps source.rank source.node arm named rank }
 {

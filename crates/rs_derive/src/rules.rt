@@ -29,6 +29,7 @@ impl Rule {
     ghost use Rattle.rs_derive.specs.Rules.{pushes};
 
     /// Whether the move adds an act to what is owed.
+    #[inline(always)]
     pub fn pushes(self) -> bool
         ensures { result ≡ pushes self }
     {
@@ -36,6 +37,7 @@ impl Rule {
     }
 
     /// Whether the edges of the move keep the oldest act that is owed: something is owed, and another act is made.
+    #[inline(always)]
     pub fn keeps_head(self, pending: &Pending) -> bool
         ensures { result ≡ keeps_head pending.now self }
     {
@@ -49,6 +51,7 @@ impl Rule {
 
 /// The rule that applies where so much is owed, the machine stands at a state, and the projection stands there; none
 /// where there is no move. Takes no memory.
+#[inline(always)]
 pub fn rule_at(pending: &Pending, state: &State, there: &State) -> Option<Rule>
     ensures is { result ≡ rule_at pending.now state.now there.now }
     ensures due { (p : Spot) → p.pending ≡ pending.now → due_at p (Some state.now) (Some there.now) ≡ due_of p (arms_at state.now) (arms_at there.now) result }
@@ -57,6 +60,7 @@ pub fn rule_at(pending: &Pending, state: &State, there: &State) -> Option<Rule>
     find_rule(pending, state, there)
 }
 
+#[inline(always)]
 fn find_rule(pending: &Pending, state: &State, there: &State) -> Option<Rule>
     ensures { result ≡ rule_at pending.now state.now there.now }
 {
@@ -68,6 +72,7 @@ fn find_rule(pending: &Pending, state: &State, there: &State) -> Option<Rule>
 }
 
 /// The arms of a state; the end has none.
+#[inline(always)]
 pub fn arms_at(state: &State) -> &[Arm]
     ensures { result.now ≡ arms_at state.now }
 {
@@ -78,6 +83,7 @@ pub fn arms_at(state: &State) -> &[Arm]
 }
 
 // The machine has ended.
+#[inline(always)]
 fn end_rule(pending: &Pending, there: &State) -> Option<Rule>
     ensures { result ≡ end_rule pending.now there.now }
 {
@@ -87,6 +93,7 @@ fn end_rule(pending: &Pending, there: &State) -> Option<Rule>
     }
 }
 
+#[inline(always)]
 fn send_rule(pending: &Pending, peer: Role, arms: &[Arm], there: &State) -> Option<Rule>
     ensures { result ≡ send_rule pending.now peer arms.now there.now (earliest pending.now Send peer) }
 {
@@ -97,6 +104,7 @@ fn send_rule(pending: &Pending, peer: Role, arms: &[Arm], there: &State) -> Opti
     }
 }
 
+#[inline(always)]
 fn receive_rule(pending: &Pending, peer: Role, arms: &[Arm], there: &State) -> Option<Rule>
     ensures { result ≡ receive_rule pending.now arms.now there.now (earliest pending.now Receive peer) }
 {
@@ -108,6 +116,7 @@ fn receive_rule(pending: &Pending, peer: Role, arms: &[Arm], there: &State) -> O
 }
 
 // The machine's only arm must be the send that is owed.
+#[inline(always)]
 fn pay_send_rule(pending: &[Act], place: usize, arms: &[Arm]) -> Option<Rule>
     ensures { result ≡ pay_send_rule place arms.now (slice_get pending.now place) }
 {
@@ -121,6 +130,7 @@ fn pay_send_rule(pending: &[Act], place: usize, arms: &[Arm]) -> Option<Rule>
 }
 
 // The machine must have an arm for the receive that is owed.
+#[inline(always)]
 fn pay_receive_rule(pending: &[Act], place: usize, arms: &[Arm]) -> Option<Rule>
     ensures { result ≡ pay_receive_rule place arms.now (slice_get pending.now place) }
 {
@@ -134,6 +144,7 @@ fn pay_receive_rule(pending: &[Act], place: usize, arms: &[Arm]) -> Option<Rule>
 }
 
 // No send to the peer is owed.
+#[inline(always)]
 fn send_past_rule(peer: Role, arms: &[Arm], there: &State) -> Option<Rule>
     ensures { result ≡ send_past_rule peer arms.now there.now }
 {

@@ -1,4 +1,4 @@
-ghost use Rattle.std.specs.Prelude.{◌≡◌, ◌<◌, ◌≤◌, ◌∷◌, ◌++◌, [], length, map};
+ghost use Rattle.std.specs.Prelude.{◌≡◌, ◌↔◌, IsTrue, ◌<◌, ◌≤◌, ◌∷◌, ◌++◌, [], length, map};
 ghost use Rattle.rs_prefix.specs.Earliest.{without};
 ghost use Rattle.rs_derive.specs.Checks.{names, same_act, same_acts, same_spot, changed, target_spot};
 ghost use Rattle.rs_derive.specs.Derivations.{spot_of};
@@ -28,6 +28,7 @@ pub struct Target {
 }
 
 // Whether the node is where the edge leads from one with these pending acts.
+#[inline(always)]
 pub fn is_target(next: &DNode, pending: &[Act], target: Target) -> bool
     requires { IsWithin (length pending.now) target.change }
     ensures { result ≡ same_spot (spot_of next.now) (target_spot pending.now target) }
@@ -65,6 +66,7 @@ fn is_owing_send(next: &DNode, node: &DNode, peer: Role, arm: Arm) -> bool
     is_target(next, node.pending.as_slice(), target)
 }
 
+#[inline(always)]
 fn is_changed(acts: &[Act], pending: &[Act], change: Change) -> bool
     requires { IsWithin (length pending.now) change }
     ensures { result ≡ same_acts acts.now (changed pending.now change) }
@@ -76,19 +78,27 @@ fn is_changed(acts: &[Act], pending: &[Act], change: Change) -> bool
     }
 }
 
+#[inline(always)]
 fn is_without(acts: &[Act], pending: &[Act], place: usize) -> bool
     requires { place < length pending.now }
     ensures { result ≡ same_acts acts.now (without pending.now place) }
 {
+    if pending.len() == 1 {
+        return acts.is_empty();
+    }
     let (front, rest) = pending.split_at(place);
     let (_, back) = rest.split_at(1);
     is_joined(acts, front, back)
 }
 
+#[inline(always)]
 fn is_with(acts: &[Act], pending: &[Act], act: Act) -> bool
     ensures { result ≡ same_acts acts.now (pending.now ++ act ∷ []) }
 {
-    is_joined(acts, pending, &[act])
+    match (acts, pending) {
+        ([only], []) => *only == act,
+        _ => is_joined(acts, pending, &[act]),
+    }
 }
 
 fn is_joined(acts: &[Act], front: &[Act], back: &[Act]) -> bool
@@ -105,5 +115,20 @@ fn is_joined(acts: &[Act], front: &[Act], back: &[Act]) -> bool
 pub fn same_acts(acts: &[Act], others: &[Act]) -> bool
     ensures { result ≡ same_acts acts.now others.now }
 {
-    acts == others
+    are_equal(acts, others)
+}
+
+// The same, by as few steps as there are acts.
+fn are_equal(acts: &[Act], others: &[Act]) -> bool
+    ensures { IsTrue result ↔ (acts.now ≡ others.now) }
+{
+    if acts.len() != others.len() {
+        return false;
+    }
+    for i in 0..acts.len() {
+        if acts[i] != others[i] {
+            return false;
+        }
+    }
+    true
 }

@@ -1,4 +1,5 @@
 use crate::{DNode, Derivation, DeriveFault, check, longest, top_rank};
+use rs_graph::Row;
 use rs_model::{Act, Arm, Arms, Label, Machine, NoMemory, Role, Sort, State};
 use rs_prefix::Pending;
 use std::alloc::Global;
@@ -56,7 +57,7 @@ fn machine(alloc: Global, role: u8, signs: &str) -> Result<Machine, NoMemory> {
 fn derivation(alloc: Global, bound: u8, signs: &str) -> Result<Derivation, NoMemory> {
     let mut nodes = Vec::new(alloc);
     let mut pending = Pending::new(alloc);
-    let mut next = Vec::new(alloc);
+    let mut next = Row::new(alloc);
     for item in signs.as_bytes().chunks(4) {
         match item {
             [b'>', number_of, ..] => next.push(u32::from(number(*number_of)))?,
@@ -75,7 +76,7 @@ fn derivation(alloc: Global, bound: u8, signs: &str) -> Result<Derivation, NoMem
                 pending: mem::replace(&mut pending, Pending::new(alloc)),
                 above: u32::from(number(*above)),
                 rank: u32::from(number(*rank)),
-                next: mem::replace(&mut next, Vec::new(alloc)),
+                next: mem::replace(&mut next, Row::new(alloc)),
             })?,
             _ => {}
         }

@@ -40,6 +40,7 @@ impl Model for Row {
 
 impl Row {
     /// No numbers.
+    #[inline(always)]
     pub fn new(alloc: Global) -> Row
         ensures { result ≡ [] }
     {
@@ -49,6 +50,7 @@ impl Row {
     }
 
     /// The numbers.
+    #[inline(always)]
     pub fn as_slice(&self) -> &[u32]
         ensures { result.now ≡ self.now }
     {
@@ -65,6 +67,7 @@ impl Row {
     }
 
     /// One number more; where memory is refused nothing changes.
+    #[inline(always)]
     pub fn push(&mut self, n: u32) -> Result<(), NoMemory>
         ensures ok { OnOk result (self.new ≡ self.old ++ n ∷ []) }
         ensures err { OnErr result (self.new ≡ self.old) }

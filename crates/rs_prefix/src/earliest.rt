@@ -22,6 +22,7 @@ pub enum Found {
 }
 
 // Whether the act is of that kind with that peer.
+#[inline(always)]
 pub fn has(act: Act, kind: Kind, peer: Role) -> bool
     ensures { result ≡ has kind peer act }
 {
@@ -33,6 +34,7 @@ pub fn has(act: Act, kind: Kind, peer: Role) -> bool
 }
 
 // Whether an act of that kind with that peer may overtake the pending one.
+#[inline(always)]
 pub fn may_overtake(act: Act, kind: Kind, peer: Role) -> bool
     ensures { result ≡ may_overtake kind peer act }
 {

@@ -26,6 +26,7 @@ impl Model for Pending {
 
 impl Pending {
     /// Nothing owed.
+    #[inline(always)]
     pub fn new(alloc: Global) -> Pending
         ensures { result ≡ [] }
     {
@@ -34,19 +35,37 @@ impl Pending {
         }
     }
 
+    // One act owed, which needs no allocation.
+    #[inline(always)]
+    fn of_one(alloc: Global, act: Act) -> Pending
+        ensures { result ≡ act ∷ [] }
+    {
+        let mut acts = SmallVec::new(alloc);
+        acts.push_reserved(act);
+        Pending { acts }
+    }
+
     /// The same acts in memory of their own.
+    #[inline(always)]
     pub fn copy(&self, alloc: Global) -> Result<Pending, NoMemory>
         ensures { IfOk result (λ p. p ≡ self.now) }
     {
+        if self.acts.is_empty() {
+            return Ok(Pending::new(alloc));
+        }
         Ok(Pending {
             acts: SmallVec::from_slice(alloc, self.acts.as_slice())?,
         })
     }
 
     /// A copy with one act more, the newest.
+    #[inline(always)]
     pub fn copy_with(&self, alloc: Global, act: Act) -> Result<Pending, NoMemory>
         ensures { IfOk result (λ p. p ≡ self.now ++ act ∷ []) }
     {
+        if self.acts.is_empty() {
+            return Ok(Pending::of_one(alloc, act));
+        }
         let mut acts = SmallVec::with_capacity(alloc, self.acts.len().saturating_add(1))?;
         acts.extend_from_slice(self.acts.as_slice())?;
         acts.push(act)?;
@@ -54,10 +73,14 @@ impl Pending {
     }
 
     /// A copy without the act at the place; those behind it close up.
+    #[inline(always)]
     pub fn copy_without(&self, alloc: Global, place: usize) -> Result<Pending, NoMemory>
         requires { place < length self.now }
         ensures { IfOk result (λ p. p ≡ without self.now place) }
     {
+        if self.acts.len() == 1 {
+            return Ok(Pending::new(alloc));
+        }
         let (before, rest) = self.acts.as_slice().split_at(place);
         let (_, behind) = rest.split_at(1);
         let mut acts = SmallVec::with_capacity(alloc, self.acts.len())?;
@@ -78,6 +101,7 @@ impl Pending {
     /// The earliest pending act of the kind with the peer: its place where it may overtake all acts before it, else
     /// the place of the first act that it may not overtake. A send may overtake receives, and sends to others; a
     /// receive may overtake receives from others, and no send. Takes no memory.
+    #[inline(always)]
     pub fn find(&self, kind: Kind, peer: Role) -> Found
         ensures means { Finds self.now kind peer result }
         ensures is { result ≡ earliest self.now kind peer }
@@ -85,6 +109,7 @@ impl Pending {
         self.scan(kind, peer)
     }
 
+    #[inline(always)]
     fn scan(&self, kind: Kind, peer: Role) -> Found
         ensures { result ≡ earliest self.now kind peer }
     {
@@ -108,6 +133,7 @@ impl Pending {
         self.acts.remove(place)
     }
 
+    #[inline(always)]
     pub fn as_slice(&self) -> &[Act]
         ensures { result.now ≡ self.now }
     {

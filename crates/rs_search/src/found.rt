@@ -75,6 +75,7 @@ pub struct Candidates {
 // A great odd number, by which the codes of different acts come apart.
 const CODE_FACTOR: u64 = 11_400_714_819_323_198_485;
 
+#[inline(always)]
 fn act_code(act: Act) -> u64
     ensures code { result ≡ act_code act }
     ensures small { result < 2 ^ 26 }
@@ -85,6 +86,7 @@ fn act_code(act: Act) -> u64
     }
 }
 
+#[inline(always)]
 fn bucket_of(size: usize, p: &Point) -> usize
     requires some { 0 < size }
     requires few { size < 2 ^ 32 }
@@ -92,7 +94,7 @@ fn bucket_of(size: usize, p: &Point) -> usize
     ensures is { result ≡ bucket_of size p.now }
 {
     let mut code = u64::from(p.state)
-        .wrapping_mul(65_599)
+        .wrapping_mul(CODE_FACTOR)
         .wrapping_add(u64::from(p.above));
     for act in p.pending.as_slice() {
         code = code.wrapping_mul(CODE_FACTOR).wrapping_add(act_code(*act));
@@ -109,6 +111,7 @@ pub struct Index {
 }
 
 // The number of a spot, along a chain.
+#[inline(always)]
 fn seek(found: &[Point], links: &[u32], head: u32, p: &Point) -> Option<u32>
     requires size { length links.now ≡ length found.now }
     requires within { head ≤ length found.now }
@@ -127,6 +130,7 @@ fn seek(found: &[Point], links: &[u32], head: u32, p: &Point) -> Option<u32>
 }
 
 // Puts the number of a new spot at the head of its chain.
+#[inline(always)]
 fn file(index: &mut Index, bucket: usize, n: u32) -> Result<(), Fault>
     requires within { bucket < length index.old.heads.items }
     requires fits { n + 1 < 2 ^ 32 }
@@ -143,6 +147,7 @@ fn file(index: &mut Index, bucket: usize, n: u32) -> Result<(), Fault>
 }
 
 // The number of a spot, which is added where it is new.
+#[inline(always)]
 fn number_of(
     found: &mut Vec<Point>,
     index: &mut Index,
@@ -170,7 +175,8 @@ fn number_of(
         Some(n) => Ok(n),
         None => {
             let n = found.len();
-            found.push(p)?;
+            found.reserve(1)?;
+            found.push_reserved(p);
             if n == limit {
                 return Err(Fault::TooLarge);
             }
@@ -181,6 +187,7 @@ fn number_of(
 }
 
 // Adds the number of a spot to the row; the spot is added where it is new.
+#[inline(always)]
 fn name(
     found: &mut Vec<Point>,
     index: &mut Index,
@@ -207,6 +214,7 @@ fn name(
 }
 
 // The number of the spot behind the act that is owed at the place.
+#[inline(always)]
 fn name_paid(
     alloc: Global,
     found: &mut Vec<Point>,
@@ -238,6 +246,7 @@ fn name_paid(
 }
 
 // The numbers of the spots behind arms by which the projection has sent or received.
+#[inline(always)]
 fn name_owing(
     alloc: Global,
     found: &mut Vec<Point>,
@@ -340,6 +349,7 @@ fn name_both(
 }
 
 // The numbers of the spots to which the rule leads.
+#[inline(always)]
 fn name_by(
     alloc: Global,
     found: &mut Vec<Point>,
@@ -384,6 +394,7 @@ fn name_by(
 }
 
 // The numbers of the spots to which the rule leads, if one applies.
+#[inline(always)]
 fn name_all(
     alloc: Global,
     found: &mut Vec<Point>,
@@ -430,6 +441,7 @@ fn start_of(alloc: Global, sub: &Machine, above: &Machine) -> Point
     }
 }
 
+#[inline(always)]
 fn either(a: bool, b: bool) -> bool
     ensures { result ≡ (a || b) }
 {
@@ -443,12 +455,13 @@ fn first_room(sub: &Machine, above: &Machine) -> usize
     sub.states.len().min(2_000) + above.states.len().min(2_000)
 }
 
-// How many buckets there are: some for each state of either machine.
+// How many buckets there are: one for two pairs of states, as far as these are few, and some for each state.
 fn bucket_count(sub: &Machine, above: &Machine) -> usize
     ensures some { 0 < result }
     ensures few { result < 2 ^ 32 }
 {
-    first_room(sub, above) * 16 + 1
+    let pairs = sub.states.len().min(2_000) * above.states.len().min(2_000);
+    pairs.min(65_536) / 2 + first_room(sub, above) * 4 + 1
 }
 
 // An index without numbers, with room for some.
@@ -511,7 +524,8 @@ pub fn find_all(
             Err(fault) => return Err(fault),
         };
         choosing = either(choosing, has_choice(turn.any, row.as_slice().len()));
-        rows.push(row)?;
+        rows.reserve(1)?;
+        rows.push_reserved(row);
     }
     Ok(Candidates {
         points,

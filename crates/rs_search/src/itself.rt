@@ -12,6 +12,7 @@ ghost use Rattle.rs_search.specs.Nodes.{node_of};
 
 use crate::found::Fault;
 use rs_derive::{DNode, Derivation};
+use rs_graph::Row;
 use rs_model::{Act, Arm, MOST_CANDIDATES, Machine, NoMemory, Role, State};
 use rs_prefix::Pending;
 use std::alloc::Global;
@@ -72,8 +73,8 @@ impl Position {
     }
 
     // The node at the position, whose edges keep no head.
-    fn into_node(self, alloc: Global, next: Vec<u32>) -> Result<DNode, NoMemory>
-        ensures { IfOk result (λ n. n ≡ node_of self 0 next.items) }
+    fn into_node(self, alloc: Global, next: Row) -> Result<DNode, NoMemory>
+        ensures { IfOk result (λ n. n ≡ node_of self 0 next) }
     {
         let Position { state, owed, above } = self;
         Ok(DNode {
@@ -137,16 +138,16 @@ fn come_to_one(
     found: &mut Vec<Position>,
     places: &mut Vec<Option<u32>>,
     state: u32,
-) -> Result<Vec<u32>, Fault>
+) -> Result<Row, Fault>
     requires there { state < length places.old.items }
     requires few { length found.old.items ≤ MOST_CANDIDATES }
     requires placed { ArePlaced found.old.items places.old.items }
-    ensures named { IfOk result (λ row. AreNamed found.old.items (even state ∷ []) found.new.items row.items) }
+    ensures named { IfOk result (λ row. AreNamed found.old.items (even state ∷ []) found.new.items row) }
     ensures few { OnOk result (length found.new.items ≤ MOST_CANDIDATES) }
     ensures placed { OnOk result (ArePlaced found.new.items places.new.items) }
     ensures size { OnOk result (length places.new.items ≡ length places.old.items) }
 {
-    let mut row = Vec::with_capacity(alloc, 1)?;
+    let mut row = Row::new(alloc);
     let n = come_to(found, places, state)?;
     row.push(n)?;
     Ok(row)
@@ -158,16 +159,16 @@ fn come_to_all(
     found: &mut Vec<Position>,
     places: &mut Vec<Option<u32>>,
     arms: &[Arm],
-) -> Result<Vec<u32>, Fault>
+) -> Result<Row, Fault>
     requires there { (i : ℕ) (a : Arm) → slice_get arms.now i ≡ Some a → a.next < length places.old.items }
     requires few { length found.old.items ≤ MOST_CANDIDATES }
     requires placed { ArePlaced found.old.items places.old.items }
-    ensures named { IfOk result (λ row. AreNamed found.old.items (map (λ a. even a.next) arms.now) found.new.items row.items) }
+    ensures named { IfOk result (λ row. AreNamed found.old.items (map (λ a. even a.next) arms.now) found.new.items row) }
     ensures few { OnOk result (length found.new.items ≤ MOST_CANDIDATES) }
     ensures placed { OnOk result (ArePlaced found.new.items places.new.items) }
     ensures size { OnOk result (length places.new.items ≡ length places.old.items) }
 {
-    let mut row = Vec::with_capacity(alloc, arms.len())?;
+    let mut row = Row::new(alloc);
     for i in 0..arms.len() {
         let n = come_to(found, places, arms[i].next)?;
         row.push(n)?;
@@ -182,15 +183,15 @@ fn owe_all(
     state: u32,
     peer: Role,
     arms: &[Arm],
-) -> Result<Vec<u32>, Fault>
+) -> Result<Row, Fault>
     requires once { IsOnce arms.now }
     requires fresh { (p : Spot) → Among found.old.items p → p.state ≡ state → p.pending ≡ [] }
     requires few { length found.old.items ≤ MOST_CANDIDATES }
-    ensures named { IfOk result (λ row. AreNamed found.old.items (map (λ b. owing_receive (even state) peer b) arms.now) found.new.items row.items) }
+    ensures named { IfOk result (λ row. AreNamed found.old.items (map (λ b. owing_receive (even state) peer b) arms.now) found.new.items row) }
     ensures few { OnOk result (length found.new.items ≤ MOST_CANDIDATES) }
     ensures placed { OnOk result ((places : List (Option ℕ)) → ArePlaced found.old.items places → ArePlaced found.new.items places) }
 {
-    let mut row = Vec::with_capacity(alloc, arms.len())?;
+    let mut row = Row::new(alloc);
     for i in 0..arms.len() {
         let n = found.len();
         if n == MOST_CANDIDATES {
@@ -209,14 +210,14 @@ fn nexts_of(
     found: &mut Vec<Position>,
     places: &mut Vec<Option<u32>>,
     position: &Position,
-) -> Result<Vec<u32>, Fault>
+) -> Result<Row, Fault>
     requires proper { IsProper machine.now }
     requires kind { IsOfItself machine.now position.now }
     requires fresh { position.now.pending ≡ [] → (p : Spot) → Among found.old.items p → p.state ≡ position.now.state → p.pending ≡ [] }
     requires few { length found.old.items ≤ MOST_CANDIDATES }
     requires placed { ArePlaced found.old.items places.old.items }
     requires size { length places.old.items ≡ length machine.now.states }
-    ensures named { IfOk result (λ row. AreNamed found.old.items (nexts_itself machine.now position.now) found.new.items row.items) }
+    ensures named { IfOk result (λ row. AreNamed found.old.items (nexts_itself machine.now position.now) found.new.items row) }
     ensures few { OnOk result (length found.new.items ≤ MOST_CANDIDATES) }
     ensures placed { OnOk result (ArePlaced found.new.items places.new.items) }
     ensures size { OnOk result (length places.new.items ≡ length places.old.items) }
@@ -224,7 +225,7 @@ fn nexts_of(
     match position.owed {
         Some(_) => come_to_one(alloc, found, places, position.above),
         None => match &machine.states[position.state as usize] {
-            State::Done => Ok(Vec::new(alloc)),
+            State::Done => Ok(Row::new(alloc)),
             State::Puts { arms, .. } => come_to_all(alloc, found, places, arms.as_slice()),
             State::Takes { peer, arms } => {
                 owe_all(alloc, found, position.state, *peer, arms.as_slice())

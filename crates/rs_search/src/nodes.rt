@@ -13,7 +13,7 @@ fn make_node(alloc: Global, point: &Point, rank: u32, row: &Row) -> Result<DNode
     ensures { IfOk result (λ n. n ≡ node_of point.now rank row.now) }
 {
     let spot = point.copy(alloc)?;
-    let next = Vec::from_slice(alloc, row.as_slice())?;
+    let next = row.copy(alloc)?;
     Ok(DNode {
         state: spot.state,
         pending: spot.pending,
@@ -44,6 +44,7 @@ pub fn nodes_of(
 }
 
 // The node at a spot, which is moved into it.
+#[inline(always)]
 fn into_node(alloc: Global, point: Point, rank: u32, row: &Row) -> Result<DNode, NoMemory>
     ensures { IfOk result (λ n. n ≡ node_of point rank row.now) }
 {
@@ -57,7 +58,7 @@ fn into_node(alloc: Global, point: Point, rank: u32, row: &Row) -> Result<DNode,
         pending,
         above,
         rank,
-        next: Vec::from_slice(alloc, row.as_slice())?,
+        next: row.copy(alloc)?,
     })
 }
 
@@ -75,7 +76,9 @@ pub fn nodes_in_order(
     let mut nodes = Vec::with_capacity(alloc, points.len())?;
     for point in points {
         let i = nodes.len();
-        nodes.push(into_node(alloc, point, ranks[i], &rows[i])?)?;
+        let node = into_node(alloc, point, ranks[i], &rows[i])?;
+        nodes.reserve(1)?;
+        nodes.push_reserved(node);
     }
     Ok(nodes)
 }

@@ -36,6 +36,7 @@ impl Point {
 
     /// Whether both are the same spot.
     #[tactic(auto, using(crate::proofs::Same::spot_is, crate::proofs::Same::not_spot))]
+    #[inline(always)]
     pub fn same(&self, other: &Point) -> bool
         ensures same { result ≡ true → self.now ≡ other.now }
         ensures other { result ≡ false → self.now ≢ other.now }
@@ -54,6 +55,7 @@ impl Point {
         })
     }
 
+    #[inline(always)]
     fn is_same(&self, other: &Point) -> bool
         ensures { result ≡ same_spot self.now other.now }
     {
@@ -74,6 +76,7 @@ pub struct Turn {
 }
 
 /// What the spot can do within the bound.
+#[inline(always)]
 pub fn turn_within(sub: &Machine, above: &Machine, bound: u8, p: &Point) -> Turn
     requires state { p.now.state < length sub.now.states }
     requires there { p.now.above < length above.now.states }
@@ -86,6 +89,7 @@ pub fn turn_within(sub: &Machine, above: &Machine, bound: u8, p: &Point) -> Turn
     turn_at(bound, p, state, there)
 }
 
+#[inline(always)]
 fn turn_at(bound: u8, p: &Point, state: &State, there: &State) -> Turn
     requires short { length p.now.pending ≤ bound }
     ensures turn { told_by p.now (arms_at state.now) (arms_at there.now) result ≡ cut_at bound (turn_of (due_at p.now (Some state.now) (Some there.now))) }
@@ -97,6 +101,7 @@ fn turn_at(bound: u8, p: &Point, state: &State, there: &State) -> Turn
     }
 }
 
+#[inline(always)]
 fn rule_within(bound: u8, p: &Point, rule: Rule, arms: &[Arm], theirs: &[Arm]) -> Turn
     requires fits { Fits p.now.pending arms.now theirs.now rule }
     requires short { length p.now.pending ≤ bound }
@@ -115,6 +120,7 @@ fn rule_within(bound: u8, p: &Point, rule: Rule, arms: &[Arm], theirs: &[Arm]) -
 }
 
 /// The arms of a state of the machine.
+#[inline(always)]
 pub fn arms_in(machine: &Machine, state: u32) -> &[Arm]
     requires proper { IsProper machine.now }
     requires state { state < length machine.now.states }
@@ -125,6 +131,7 @@ pub fn arms_in(machine: &Machine, state: u32) -> &[Arm]
 }
 
 // Whether the spot owes as much as the bound allows, and would owe more.
+#[inline(always)]
 fn is_cut(bound: u8, pending: &Pending, theirs: &[Arm], rule: Rule) -> bool
     ensures { result ≡ cuts bound pending.now theirs.now rule }
 {
@@ -132,6 +139,7 @@ fn is_cut(bound: u8, pending: &Pending, theirs: &[Arm], rule: Rule) -> bool
 }
 
 // Whether one next is due, and may be any of the spots.
+#[inline(always)]
 fn may_choose(arms: &[Arm], theirs: &[Arm], rule: Rule) -> bool
     ensures { result ≡ may_choose arms.now theirs.now rule }
 {
@@ -155,6 +163,7 @@ fn no_turn(cut: bool) -> Turn
 }
 
 /// Whether a turn to so many spots chooses.
+#[inline(always)]
 pub fn has_choice(any: bool, spots: usize) -> bool
     ensures { result ≡ (any && not (spots == 1)) }
 {
@@ -162,6 +171,7 @@ pub fn has_choice(any: bool, spots: usize) -> bool
 }
 
 /// The spot behind the act that is owed at the place.
+#[inline(always)]
 pub fn paid(alloc: Global, p: &Point, place: usize, arm: Arm) -> Result<Point, NoMemory>
     requires { place < length p.now.pending }
     ensures { IfOk result (λ r. r ≡ spot arm.next (without p.now.pending place) p.now.above) }
@@ -174,6 +184,7 @@ pub fn paid(alloc: Global, p: &Point, place: usize, arm: Arm) -> Result<Point, N
 }
 
 /// The spot behind arms that both send.
+#[inline(always)]
 pub fn both(alloc: Global, p: &Point, arm: Arm, their: Arm) -> Result<Point, NoMemory>
     ensures { IfOk result (λ r. r ≡ spot arm.next p.now.pending their.next) }
 {
@@ -185,6 +196,7 @@ pub fn both(alloc: Global, p: &Point, arm: Arm, their: Arm) -> Result<Point, NoM
 }
 
 /// The spot behind an arm by which the projection has sent or received, which is owed from there on.
+#[inline(always)]
 pub fn owing_by(
     alloc: Global,
     p: &Point,
@@ -205,6 +217,7 @@ pub fn owing_by(
 }
 
 // The machine stays where it is, and owes the act.
+#[inline(always)]
 fn owing(alloc: Global, p: &Point, act: Act, above: u32) -> Result<Point, NoMemory>
     ensures { IfOk result (λ r. r ≡ spot p.now.state (p.now.pending ++ act ∷ []) above) }
 {

@@ -1,4 +1,4 @@
-use Rattle.std.proofs.Common.{rules, arith, ◌≡◌, ℕ, List, [], ◌∷◌, ◌+◌, ◌<◌, length, slice_get, Some, replicate, sym, ◌∙◌, subst, ap, length-append, refl, Bool, ◌&&◌, not, eqb, IfSome}
+use Rattle.std.proofs.Common.{rules, arith, ◌≡◌, ℕ, List, [], ◌∷◌, ◌++◌, ◌+◌, ◌<◌, length, slice_get, Some, replicate, sym, ◌∙◌, subst, ap, length-append, refl, Bool, ◌&&◌, not, eqb, IfSome}
 use Rattle.std.proofs.lemmas.List.{length-replicate}
 use Rattle.rs_derive.specs.Moves.{Spot}
 use Rattle.rs_search.specs.Buckets.{bucket_of}
@@ -45,16 +45,16 @@ loop-alloc-preserved c =
     let many : length c.as_slice.result.now ≡ length (nexts_within c.args.sub.now c.args.above.now c.args.bound c.index-point.result.now) = ap (λ (z : List ℕ). length z) c.as_slice.ensures ∙ names_length c.name_all.new.found.items c.in-Ok.row (nexts_within c.args.sub.now c.args.above.now c.args.bound c.index-point.result.now) n.names in
     let chooses : c.has_choice.result ≡ has_choice (turn_within c.args.sub.now c.args.above.now c.args.bound c.index-point.result.now) =
     c.has_choice.ensures ∙ ap (λ (b : Bool). b && not (eqb (length c.as_slice.result.now) 1)) (ap (λ (u : Turn_data). u.any) t) ∙ ap (λ (w : ℕ). (turn_within c.args.sub.now c.args.above.now c.args.bound c.index-point.result.now).any && not (eqb w 1)) many in
-    let m : length c.push-in-loop-alloc-3.new.self.items ≡ length c.loop-alloc.rows.items + 1 = rw c.in_ok-push-4.ensures.items (let l = length-append c.loop-alloc.rows.items (c.in-Ok.row ∷ []) in omega arith) in (
-      rw c.in_ok-push-4.ensures.items (growing_on (nexts_within c.args.sub.now c.args.above.now c.args.bound) (begin c.args.sub.now c.args.above.now) c.loop-alloc.points.items c.loop-alloc.rows.items c.index-point.result.now c.name_all.new.found.items c.in-Ok.row i.0 h gr n.names n.numbered n.longer),
+    let m : length c.push_reserved.new.self.items ≡ length c.loop-alloc.rows.items + 1 = rw (c.push_reserved.ensures.items ∙ ap (λ (z : List (List ℕ)). z ++ c.in-Ok.row ∷ []) c.in_ok-reserve.ensures.items) (let l = length-append c.loop-alloc.rows.items (c.in-Ok.row ∷ []) in omega arith) in (
+      rw (c.push_reserved.ensures.items ∙ ap (λ (z : List (List ℕ)). z ++ c.in-Ok.row ∷ []) c.in_ok-reserve.ensures.items) (growing_on (nexts_within c.args.sub.now c.args.above.now c.args.bound) (begin c.args.sub.now c.args.above.now) c.loop-alloc.points.items c.loop-alloc.rows.items c.index-point.result.now c.name_all.new.found.items c.in-Ok.row i.0 h gr n.names n.numbered n.longer),
       c.in-Ok.ensures.few,
       ((let s = c.in-Ok.ensures.size in let b = i.2.0 in omega arith), (let s = c.in-Ok.ensures.size in let b = i.2.1 in omega arith)),
       subst (λ (w : ℕ). AreChained (bucket_of w) c.name_all.new.found.items c.name_all.new.index.heads.items c.name_all.new.index.links.items) (sym c.in-Ok.ensures.size) c.in-Ok.ensures.chained,
-      map_next (is_any c.args.sub.now c.args.above.now c.args.bound) c.loop-alloc.points.items c.name_all.new.found.items (length c.loop-alloc.rows.items) (length c.push-in-loop-alloc-3.new.self.items) c.index-point.result.now c.loop-alloc.anys.items c.push-in-loop-alloc.new.self.items c.turn_within-turn.result.any gr.kept h m i.4 (ap (λ (u : Turn_data). u.any) t) c.in_ok-push-2.ensures.items,
-      map_next (is_keeping c.args.sub.now c.args.above.now c.args.bound) c.loop-alloc.points.items c.name_all.new.found.items (length c.loop-alloc.rows.items) (length c.push-in-loop-alloc-3.new.self.items) c.index-point.result.now c.loop-alloc.keeps.items c.push-in-loop-alloc-2.new.self.items c.turn_within-turn.result.keeps gr.kept h m i.5 (ap (λ (u : Turn_data). u.keeps) t) c.in_ok-push-3.ensures.items,
-      any_next (is_cut c.args.sub.now c.args.above.now c.args.bound) c.loop-alloc.points.items c.name_all.new.found.items (length c.loop-alloc.rows.items) (length c.push-in-loop-alloc-3.new.self.items) c.index-point.result.now c.loop-alloc.cut c.turn_within-turn.result.cut c.either-cut.result gr.kept h m i.6 (ap (λ (u : Turn_data). u.cut) t) c.either-cut.ensures,
-      any_next (is_choosing c.args.sub.now c.args.above.now c.args.bound) c.loop-alloc.points.items c.name_all.new.found.items (length c.loop-alloc.rows.items) (length c.push-in-loop-alloc-3.new.self.items) c.index-point.result.now c.loop-alloc.choosing c.has_choice.result c.either-choosing.result gr.kept h m i.7 chooses c.either-choosing.ensures,
-      rw c.in_ok-push-4.ensures.items (rows_short c.loop-alloc.rows.items c.in-Ok.row 65536 c.in-Ok.ensures.short i.8),
+      map_next (is_any c.args.sub.now c.args.above.now c.args.bound) c.loop-alloc.points.items c.name_all.new.found.items (length c.loop-alloc.rows.items) (length c.push_reserved.new.self.items) c.index-point.result.now c.loop-alloc.anys.items c.push-in-loop-alloc.new.self.items c.turn_within-turn.result.any gr.kept h m i.4 (ap (λ (u : Turn_data). u.any) t) c.in_ok-push-2.ensures.items,
+      map_next (is_keeping c.args.sub.now c.args.above.now c.args.bound) c.loop-alloc.points.items c.name_all.new.found.items (length c.loop-alloc.rows.items) (length c.push_reserved.new.self.items) c.index-point.result.now c.loop-alloc.keeps.items c.push-in-loop-alloc-2.new.self.items c.turn_within-turn.result.keeps gr.kept h m i.5 (ap (λ (u : Turn_data). u.keeps) t) c.in_ok-push-3.ensures.items,
+      any_next (is_cut c.args.sub.now c.args.above.now c.args.bound) c.loop-alloc.points.items c.name_all.new.found.items (length c.loop-alloc.rows.items) (length c.push_reserved.new.self.items) c.index-point.result.now c.loop-alloc.cut c.turn_within-turn.result.cut c.either-cut.result gr.kept h m i.6 (ap (λ (u : Turn_data). u.cut) t) c.either-cut.ensures,
+      any_next (is_choosing c.args.sub.now c.args.above.now c.args.bound) c.loop-alloc.points.items c.name_all.new.found.items (length c.loop-alloc.rows.items) (length c.push_reserved.new.self.items) c.index-point.result.now c.loop-alloc.choosing c.has_choice.result c.either-choosing.result gr.kept h m i.7 chooses c.either-choosing.ensures,
+      rw (c.push_reserved.ensures.items ∙ ap (λ (z : List (List ℕ)). z ++ c.in-Ok.row ∷ []) c.in_ok-reserve.ensures.items) (rows_short c.loop-alloc.rows.items c.in-Ok.row 65536 c.in-Ok.ensures.short i.8),
     )
 
 pub returns-in-Err-clause-large : goal.returns-in-Err-clause-large

@@ -20,7 +20,7 @@ returns-then-n-limit-clause-adds c =
     inr (
       is-new c.args.index.now.heads.items c.args.index.now.links.items c.args.found.now.items c.args.p c.len.result c.bucket_of-bucket.result c.index-head.result.now c.as_slice-2.result.now c.as_slice.result.now (grind (arith, c.len.ensures)) c.bucket_of-bucket.ensures.within
           c.bucket_of-bucket.ensures.is c.index-head.ensures c.as_slice-2.ensures.value c.as_slice.ensures.value c.requires.chained c.in-None.ensures,
-      c.in_ok-push-in-None.ensures.items,
+      (c.push_reserved.ensures.items ∙ ap (λ (z : List Spot). z ++ c.args.p ∷ []) c.in_ok-reserve-in-None.ensures.items),
     )
 
 pub returns-in_err-file-in-None-clause-adds : goal.returns-in_err-file-in-None-clause-adds
@@ -28,7 +28,7 @@ returns-in_err-file-in-None-clause-adds c =
     inr (
       is-new c.args.index.now.heads.items c.args.index.now.links.items c.args.found.now.items c.args.p c.len.result c.bucket_of-bucket.result c.index-head.result.now c.as_slice-2.result.now c.as_slice.result.now (grind (arith, c.len.ensures)) c.bucket_of-bucket.ensures.within
           c.bucket_of-bucket.ensures.is c.index-head.ensures c.as_slice-2.ensures.value c.as_slice.ensures.value c.requires.chained c.in-None.ensures,
-      c.in_ok-push-in-None.ensures.items,
+      (c.push_reserved.ensures.items ∙ ap (λ (z : List Spot). z ++ c.args.p ∷ []) c.in_ok-reserve-in-None.ensures.items),
     )
 
 pub returns-in-Some-clause-old : goal.returns-in-Some-clause-old
@@ -41,11 +41,11 @@ returns-in_ok-file-in-None-clause-adds c =
     inr (
       is-new c.args.index.now.heads.items c.args.index.now.links.items c.args.found.now.items c.args.p c.len.result c.bucket_of-bucket.result c.index-head.result.now c.as_slice-2.result.now c.as_slice.result.now (grind (arith, c.len.ensures)) c.bucket_of-bucket.ensures.within
           c.bucket_of-bucket.ensures.is c.index-head.ensures c.as_slice-2.ensures.value c.as_slice.ensures.value c.requires.chained c.in-None.ensures,
-      c.in_ok-push-in-None.ensures.items,
+      (c.push_reserved.ensures.items ∙ ap (λ (z : List Spot). z ++ c.args.p ∷ []) c.in_ok-reserve-in-None.ensures.items),
     )
 
 pub returns-in_ok-file-in-None-clause-at : goal.returns-in_ok-file-in-None-clause-at
 returns-in_ok-file-in-None-clause-at c =
-    let p : c.push.new.self.items ≡ c.args.found.now.items ++ (c.args.p ∷ []) = c.in_ok-push-in-None.ensures.items in
+    let p : c.push_reserved.new.self.items ≡ c.args.found.now.items ++ (c.args.p ∷ []) = (c.push_reserved.ensures.items ∙ ap (λ (z : List Spot). z ++ c.args.p ∷ []) c.in_ok-reserve-in-None.ensures.items) in
     let l : c.len-n.result ≡ length c.args.found.now.items = grind (arith, c.len-n.ensures) in
     rw (p, l) (push_new c.args.found.now.items c.args.p)

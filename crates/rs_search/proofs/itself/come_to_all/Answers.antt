@@ -7,7 +7,7 @@ use Rattle.rs_search.proofs.Alike.{arm_reads, map_more, named_none, named_push}
 use Rattle.rs_search.proofs.itself.come_to_all.Goals as goal
 
 pub loop-i-init : goal.loop-i-init
-loop-i-init c = (rw c.in_ok-row.ensures.items (named_none c.args.found.now.items), c.requires.few, c.requires.placed, refl)
+loop-i-init c = (rw c.new-row.ensures (named_none c.args.found.now.items), c.requires.few, c.requires.placed, refl)
 
 pub come_to-requires-clause-there : goal.come_to-requires-clause-there
 come_to-requires-clause-there c =
@@ -22,8 +22,8 @@ loop-i-preserved c =
     let i = c.loop-i.invariant in
     let h = arm_reads c.args.arms.now c.loop-i.i none c.loop-i-test.true in
     let m = map_more (λ (a : Arm). even a.next) c.args.arms.now c.loop-i.i (slice_index_or c.args.arms.now c.loop-i.i none) h in (
-      subst (λ (z : List Spot). AreNamed c.args.found.now.items z c.come_to.new.found.items c.push.new.self.items) (sym m)
-          (named_push c.args.found.now.items _ c.loop-i.found.items c.come_to.new.found.items _ c.in_ok-n.n c.loop-i.row.items c.push.new.self.items i.0 e.adds e.at e.old e.fresh e.longer c.in_ok-push.ensures.items),
+      subst (λ (z : List Spot). AreNamed c.args.found.now.items z c.come_to.new.found.items c.push.new.self) (sym m)
+          (named_push c.args.found.now.items _ c.loop-i.found.items c.come_to.new.found.items _ c.in_ok-n.n c.loop-i.row c.push.new.self i.0 e.adds e.at e.old e.fresh e.longer c.in_ok-push.ensures.ok),
       e.few,
       e.placed,
       e.size ∙ i.3,
@@ -32,4 +32,4 @@ loop-i-preserved c =
 pub returns-clause-named : goal.returns-clause-named
 returns-clause-named c =
     let all : take c.loop-i.i c.args.arms.now ≡ c.args.arms.now = take_all c.loop-i.i c.args.arms.now (grind arith) in
-    subst (λ (z : List Arm). AreNamed c.args.found.now.items (map (λ (a : Arm). even a.next) z) c.loop-i.found.items c.loop-i.row.items) all c.loop-i.invariant.0
+    subst (λ (z : List Arm). AreNamed c.args.found.now.items (map (λ (a : Arm). even a.next) z) c.loop-i.found.items c.loop-i.row) all c.loop-i.invariant.0

@@ -5,5 +5,5 @@ use Rattle.rs_search.specs.Itself.{AreNamed, ArePlaced, even}
 use Rattle.rs_search.proofs.itself.come_to_all.Given as goal
 
 abbrev pub invariant-loop-i : goal.invariant-loop-i
-invariant-loop-i l = AreNamed l.fn.found.items (map (λ (a : Arm). even a.next) (take l.i l.arms)) l.found.items l.row.items × (length l.found.items ≤ MOST_CANDIDATES)
+invariant-loop-i l = AreNamed l.fn.found.items (map (λ (a : Arm). even a.next) (take l.i l.arms)) l.found.items l.row × (length l.found.items ≤ MOST_CANDIDATES)
     × ArePlaced l.found.items l.places.items × (length l.places.items ≡ length l.fn.places.items)

@@ -35,7 +35,7 @@ loop-alloc-preserved c =
     let e = c.in_ok-next.ensures in
     let h = reads_at c.loop-alloc.found.items (length c.loop-alloc.nodes.items) c.index.result.now c.index.result.now (grind arith) (sym (grind arith)) in
     let p = spot_in c.loop-alloc.found.items (length c.loop-alloc.nodes.items) c.index.result.now c.copy-position.result h c.copy-position.ensures in (
-      made_on c.args.machine.now c.requires.proper c.loop-alloc.found.items c.nexts_of.new.found.items c.loop-alloc.nodes.items c.push_reserved.new.self.items c.copy-position.result c.in_ok-node.node c.in_ok-next.next.items
+      made_on c.args.machine.now c.requires.proper c.loop-alloc.found.items c.nexts_of.new.found.items c.loop-alloc.nodes.items c.push_reserved.new.self.items c.copy-position.result c.in_ok-node.node c.in_ok-next.next
           i.0 p e.named c.in_ok-node.ensures (c.push_reserved.ensures.items ∙ ap (λ (z : List DNode_data). z ++ c.in_ok-node.node ∷ []) c.in_ok-reserve.ensures.items),
       e.few,
       e.placed,

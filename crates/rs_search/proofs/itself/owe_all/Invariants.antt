@@ -6,6 +6,6 @@ use Rattle.rs_search.specs.Itself.{AreNamed, ArePlaced, even}
 use Rattle.rs_search.proofs.itself.owe_all.Given as goal
 
 abbrev pub invariant-loop-i : goal.invariant-loop-i
-invariant-loop-i l = AreNamed l.fn.found.items (map (λ (b : Arm). owing_receive (even l.fn.state) l.fn.peer b) (take l.i l.arms)) l.found.items l.row.items × (length l.found.items ≤ MOST_CANDIDATES)
+invariant-loop-i l = AreNamed l.fn.found.items (map (λ (b : Arm). owing_receive (even l.fn.state) l.fn.peer b) (take l.i l.arms)) l.found.items l.row × (length l.found.items ≤ MOST_CANDIDATES)
     × (l.found.items ≡ l.fn.found.items ++ map (λ (b : Arm). owing_receive (even l.fn.state) l.fn.peer b) (take l.i l.arms))
     × ((places : List (Option ℕ)) → ArePlaced l.fn.found.items places → ArePlaced l.found.items places)
