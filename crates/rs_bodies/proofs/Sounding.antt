@@ -27,22 +27,16 @@ use Rattle.rs_bodies.specs.declared.reading.Link.TheVariants as link
 use Rattle.std.specs.List.{list_all}
 use Rattle.std.proofs.lemmas.Bool.{leb-false}
 use Rattle.rs_model.specs.Data.{Names_data}
-use Rattle.rs_text.specs.declared.tokens.Token.{Token}
-use Rattle.rs_text.specs.Data.{Lexer_data}
-use Rattle.rs_text.specs.Lexing.{next_lexeme, lexeme_of, sign_of, text_of}
+use Rattle.rs_text.specs.Lexing.{next_lexeme}
 use Rattle.rs_text.specs.Sound.{IsSound}
-use Rattle.rs_text.specs.Tokens.{IsNext}
 use Rattle.rs_text.specs.Words.{is_word, is_role_word}
 use Rattle.rs_text.proofs.Basics.{some_is}
 use Rattle.rs_text.proofs.Judging.{IsNamed}
 use Rattle.rs_text.proofs.Naming.{not_among, decides_sound, new_differ, new_all}
-use Rattle.rs_text.proofs.Nexts.{next_is_next, plain_law}
+use Rattle.rs_text.proofs.Judging as judging
 use Rattle.rs_bodies.specs.Drafts.{names_read}
 use Rattle.rs_bodies.specs.Faults.{KeepsBy}
-use Rattle.std.specs.Str.{bytes_eq}
 use Rattle.std.proofs.Common.{◌<◌}
-use Rattle.rs_text.specs.declared.tokens.Kind.{Kind}
-use Rattle.rs_text.specs.declared.tokens.Kind.TheVariants as kinds
 use Rattle.rs_text.specs.FirstFaults.{IsWhole}
 use Rattle.rs_bodies.proofs.FaultSteps.{whole_fed}
 use Rattle.rs_bodies.proofs.Labels.{Takes, take_sign, is_of_talks}
@@ -276,23 +270,10 @@ if_ok (Err e) d Q same h = absurd (cc same)
 abbrev pub Kept : (dia : Dialect) → Names_data → Reader_data → Type 0
 Kept dia old d = Good dia old d × Own dia old d
 
-whole_word : (a b : Bool) (text : List ℕ) → IsWhole (cond a rec_word (cond b end_word (plain text)))
-whole_word true b text = tt
-whole_word false true text = tt
-whole_word false false text = tt
-
-whole_kind : (k : Kind) (text : List ℕ) → IsWhole (sign_of k text)
-whole_kind kinds.Word text = whole_word (bytes_eq text (codes "rec")) (bytes_eq text (codes "end")) text
-whole_kind _ text = tt
-
 -- a token that is taken keeps the names good
-kept_on : (dia : Dialect) (old : Names_data) (bytes : List ℕ) (now : ℕ) (t : Token) (next : Lexeme) (r d : Reader_data) → next_lexeme bytes now ≡ lexeme_of bytes t → feed_of dia (sign_of t.kind (text_of bytes t)) t.from next r ≡ Ok d → Kept dia old r → Kept dia old d
-kept_on dia old bytes now t next r d e f h =
-    let is_next : IsNext bytes now (lexeme_of bytes t) = subst (λ (z : Lexeme). IsNext bytes now z) e (next_is_next bytes now) in
-    let named : IsNamed (sign_of t.kind (text_of bytes t)) = λ name k. plain_law bytes now (lexeme_of bytes t) name is_next k in (
-      if_ok (feed_of dia (sign_of t.kind (text_of bytes t)) t.from next r) d (Good dia old) f (keep_at dia old r.mode (sign_of t.kind (text_of bytes t)) t.from next r named h.0),
-      own_on dia old (sign_of t.kind (text_of bytes t)) t.from next r d (whole_kind t.kind (text_of bytes t)) f h.1,
-    )
+kept_on : (dia : Dialect) (old : Names_data) (t : Sign) (at : ℕ) (next : Lexeme) (r d : Reader_data) → IsNamed t → feed_sign (feeding dia) t at next r ≡ Ok d → Kept dia old r → Kept dia old d
+kept_on dia old (broken k) at next r d name f h = absurd (cc f)
+kept_on dia old t at next r d name f h = (if_ok (feed_of dia t at next r) d (Good dia old) f (keep_at dia old r.mode t at next r name h.0), own_on dia old t at next r d tt f h.1)
 
 own_first : (dia : Dialect) (r : Reader_data) → r ≡ begin dia (names_read r) → Own dia (names_read r) r
 own_first Talks r e = tt
@@ -316,8 +297,8 @@ pub kept_keeps : (dia : Dialect) (old : Names_data) (r : Reader_data) → Kept d
 kept_keeps Talks old r g = tt
 kept_keeps Acts old r g = record { later = g.0.0.later; roles = g.1.0; labels = g.0.0.labels_are }
 
-pub kept_fed : (dia : Dialect) (old : Names_data) (bytes : List ℕ) (lexer : Lexer_data) (t : Token) (r d : Reader_data) → lexer.bytes ≡ bytes → next_lexeme lexer.bytes lexer.at ≡ lexeme_of lexer.bytes t → feed_of dia (sign_of t.kind (text_of bytes t)) t.from (next_lexeme bytes t.until) r ≡ Ok d → Kept dia old r → Kept dia old d
-kept_fed dia old bytes lexer t r d same e f h = kept_on dia old bytes lexer.at t (next_lexeme bytes t.until) r d (subst (λ (z : List ℕ). next_lexeme z lexer.at ≡ lexeme_of z t) same e) f h
+pub kept_fed : (dia : Dialect) (old : Names_data) (bytes : List ℕ) (now : ℕ) (t next : Lexeme) (r d : Reader_data) → t ≡ next_lexeme bytes now → feed_sign (feeding dia) t.sign t.from next r ≡ Ok d → Kept dia old r → Kept dia old d
+kept_fed dia old bytes now t next r d e f h = kept_on dia old t.sign t.from next r d (judging.named bytes now t e) f h
 
 pub same_sound : (r d : Reader_data) → names_read d ≡ names_read r → IsSound (names_read r) → IsSound (names_read d)
 same_sound r d e h = subst IsSound (sym e) h

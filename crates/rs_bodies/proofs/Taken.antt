@@ -1,14 +1,12 @@
 -- The reader of a machine has the labels of the tokens that it took.
-use Rattle.std.proofs.Common.{◌≡◌, ◌∙◌, ℕ, ◌≤◌, List, [], ◌∷◌, ◌++◌, length, false, Ok, refl, sym, ap, subst, append_assoc}
+use Rattle.std.proofs.Common.{◌≡◌, ◌∙◌, ℕ, ◌≤◌, List, [], ◌∷◌, ◌++◌, length, false, Ok, refl, sym, subst, append_assoc}
 use Rattle.std.proofs.lemmas.List.{map-append}
-use Rattle.rs_text.specs.Data.{Lexer_data}
 use Rattle.rs_text.specs.Lexemes.{Lexeme, signs_of, is_last}
-use Rattle.rs_text.specs.Lexing.{Lexed, next_lexeme, lexeme_of, sign_of, text_of}
+use Rattle.rs_text.specs.Lexing.{Lexed, next_lexeme}
 use Rattle.rs_text.specs.Readings.{feed_sign}
 use Rattle.rs_text.specs.Signs.{Sign}
-use Rattle.rs_text.specs.declared.tokens.Token.{Token}
 use Rattle.rs_text.proofs.Keeping.{tokens}
-use Rattle.rs_text.proofs.Standing.{more_if, whole}
+use Rattle.rs_text.proofs.Standing.{more_if}
 use Rattle.rs_bodies.specs.Data.{Reader_data}
 use Rattle.rs_bodies.specs.Drafts.{names_read}
 use Rattle.rs_bodies.specs.Feeding.{HasLabels, begin, feeding}
@@ -31,31 +29,25 @@ Took Acts o bytes at r now = HasTaken o bytes at r now
 first_taken : (o : Reader_data) (bytes : List ℕ) (at : ℕ) → o ≡ begin Acts (names_read o) → HasTaken o bytes at o at
 first_taken o bytes at e = record { before = []; lexed = λ ls h. h; follows = subst (λ (z : Reader_data). Follows (names_read o) [] z) (sym e) (follows_first (names_read o)) }
 
-pub took_first : (d : Dialect) (o : Reader_data) (bytes : List ℕ) (at now : ℕ) → now ≡ at → o ≡ begin d (names_read o) → Took d o bytes at o now
-took_first Talks o bytes at now e b = tt
-took_first Acts o bytes at now e b = subst (λ (z : ℕ). HasTaken o bytes at o z) (sym e) (first_taken o bytes at b)
+pub took_first : (d : Dialect) (o : Reader_data) (bytes : List ℕ) (at : ℕ) → o ≡ begin d (names_read o) → Took d o bytes at o at
+took_first Talks o bytes at b = tt
+took_first Acts o bytes at b = first_taken o bytes at b
 
 lexed_on : (bytes : List ℕ) (at now until : ℕ) (before : List Lexeme) (l : Lexeme) → l ≡ next_lexeme bytes now → is_last l.sign ≡ false → l.until ≡ until → ((ls : List Lexeme) → Lexed bytes now ls → Lexed bytes at (before ++ ls)) → (ls : List Lexeme) → Lexed bytes until ls → Lexed bytes at ((before ++ l ∷ []) ++ ls)
 lexed_on bytes at now until before l e more u h ls k =
     let behind : Lexed bytes l.until ls = subst (λ (z : ℕ). Lexed bytes z ls) (sym u) k in
     subst (λ (z : List Lexeme). Lexed bytes at z) (sym (append_assoc before (l ∷ []) ls)) (h (l ∷ ls) (e, (λ last. absurd (cc (sym last ∙ more))), (λ further. behind)))
 
-taken_on : (o : Reader_data) (bytes : List ℕ) (at now : ℕ) (t : Token) (r n : Reader_data) → HasTaken o bytes at r now → next_lexeme bytes now ≡ lexeme_of bytes t → (feeding Acts).feed (sign_of t.kind (text_of bytes t)) t.from (next_lexeme bytes t.until) r ≡ Ok n → HasTaken o bytes at n t.until
-taken_on o bytes at now t r n k e f =
-    let sign : Sign = sign_of t.kind (text_of bytes t) in
-    let more : is_last sign ≡ false = more_if (at_end Acts) t.kind (text_of bytes t) t.from (next_lexeme bytes t.until) r n f in
-    let fed : feed_sign (feeding Acts) sign t.from (next_lexeme bytes t.until) r ≡ Ok n = whole (feeding Acts) t.kind (text_of bytes t) t.from (next_lexeme bytes t.until) r ∙ f in
-    record {
-      before = k.before ++ lexeme_of bytes t ∷ [];
-      lexed = lexed_on bytes at now t.until k.before (lexeme_of bytes t) (sym e) more refl k.lexed;
-      follows = subst (λ (z : List Sign). Follows (names_read o) z n) (sym (map-append (λ (l : Lexeme). l.sign) k.before (lexeme_of bytes t ∷ []))) (follows_on (names_read o) (signs_of k.before) sign t.from (next_lexeme bytes t.until) r n k.follows fed);
-    }
+taken_on : (o : Reader_data) (bytes : List ℕ) (at now : ℕ) (t next : Lexeme) (r n : Reader_data) → HasTaken o bytes at r now → t ≡ next_lexeme bytes now → feed_sign (feeding Acts) t.sign t.from next r ≡ Ok n → HasTaken o bytes at n t.until
+taken_on o bytes at now t next r n k e f = record {
+  before = k.before ++ t ∷ [];
+  lexed = lexed_on bytes at now t.until k.before t e (more_if (at_end Acts) t.sign t.from next r n f) refl k.lexed;
+  follows = subst (λ (z : List Sign). Follows (names_read o) z n) (sym (map-append (λ (l : Lexeme). l.sign) k.before (t ∷ []))) (follows_on (names_read o) (signs_of k.before) t.sign t.from next r n k.follows f);
+}
 
-pub took_on : (d : Dialect) (o : Reader_data) (bytes : List ℕ) (at : ℕ) (old new : Lexer_data) (t : Token) (r n : Reader_data) → old.bytes ≡ bytes → new ≡ record { bytes = old.bytes; at = t.until } → next_lexeme old.bytes old.at ≡ lexeme_of old.bytes t → (feeding d).feed (sign_of t.kind (text_of bytes t)) t.from (next_lexeme bytes t.until) r ≡ Ok n → Took d o bytes at r old.at → Took d o bytes at n new.at
-took_on Talks o bytes at old new t r n same moved e f k = tt
-took_on Acts o bytes at old new t r n same moved e f k =
-    let here : next_lexeme bytes old.at ≡ lexeme_of bytes t = subst (λ (z : List ℕ). next_lexeme z old.at ≡ lexeme_of z t) same e in
-    subst (λ (z : ℕ). HasTaken o bytes at n z) (sym (ap (λ z. z.at) moved)) (taken_on o bytes at old.at t r n k here f)
+pub took_on : (d : Dialect) (o : Reader_data) (bytes : List ℕ) (at now : ℕ) (t next : Lexeme) (r n : Reader_data) → t ≡ next_lexeme bytes now → feed_sign (feeding d) t.sign t.from next r ≡ Ok n → Took d o bytes at r now → Took d o bytes at n t.until
+took_on Talks o bytes at now t next r n e f k = tt
+took_on Acts o bytes at now t next r n e f k = taken_on o bytes at now t next r n k e f
 
 -- .. so it has the labels of some first tokens
 pub took_labels : (d : Dialect) (o r : Reader_data) (bytes : List ℕ) (at now : ℕ) (labels : List (List ℕ)) → now ≤ length bytes → Took d o bytes at r now → labels ≡ r.labels → HasLabels d o.labels labels bytes at

@@ -13,7 +13,7 @@ use crate::dialects::Dialect;
 use crate::points::{Spelling, points, settled_number};
 use crate::reading::Reader;
 use rs_model::{Names, NoMemory};
-use rs_text::{Lexer, Stop, TextFault};
+use rs_text::{Stop, TextFault, next_token};
 use std::alloc::Global;
 use std::mem;
 
@@ -120,10 +120,11 @@ fn read<'a>(
     ensures sound { IsSound (names_read reader.new) }
     ensures kept { KeepsBy dialect (names_read reader.old) (names_read reader.new) }
 {
-    let mut lexer = Lexer::new(bytes, at);
+    let mut token = next_token(bytes, at);
     while !reader.is_read() {
-        let token = lexer.next()?;
-        reader.feed(dialect, bytes, token)?;
+        let next = next_token(bytes, token.until());
+        reader.feed(dialect, &token, &next)?;
+        token = next;
     }
-    Ok(lexer.next_offset())
+    Ok(token.from())
 }

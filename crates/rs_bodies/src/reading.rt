@@ -1,8 +1,8 @@
 ghost use Rattle.std.specs.Prelude.{◌≡◌, ◌≤◌, ◌<◌, ◌+◌, ◌++◌, ◌∷◌, [], length, OnOk, OnErr, IfOk, IfErr, IfSome, IfNone, Some, None, Option, Ok, Err, true, false, drop, reverse, codes, suc, nat_le, if◌then◌else◌};
 ghost use Rattle.std.specs.Option.{option_map};
 ghost use Rattle.rs_model.specs.declared.limits.TheConstants.{MOST_LABELS, MOST_ROLES, MOST_TALKS};
-ghost use Rattle.rs_text.specs.Lexing.{sign_of, text_of, next_lexeme, lexeme_of};
-ghost use Rattle.rs_text.specs.Names.{place_of};
+ghost use Rattle.rs_text.specs.Names.{bound_to, place_of};
+ghost use Rattle.rs_text.specs.Readings.{feed_sign};
 ghost use Rattle.rs_text.specs.Seen.{plain_text, word_text};
 ghost use Rattle.rs_text.specs.Seen.{is_text};
 ghost use Rattle.rs_bodies.specs.Drafts.{names_read};
@@ -15,7 +15,7 @@ use rs_model::{
     Label, MOST_ACTS, MOST_LABELS, MOST_NESTING, MOST_ROLES, MOST_TALKS, Name, Role, Sort,
 };
 use rs_text::{
-    Binding, Kind, Lexer, NameTable, Stop, TextKind, Token, Wanted, bound_number, expected, fault,
+    Binding, NameTable, Stop, Terminal, TextKind, TextToken, Wanted, bound_number, expected, fault,
     seen, unbind,
 };
 use std::alloc::Global;
@@ -109,12 +109,12 @@ pub(crate) fn most_heads(dialect: Dialect) -> usize
 }
 
 /// Whether the token behind a word makes it a role.
-fn is_turn(dialect: Dialect, bytes: &[u8], token: Token) -> bool
-    ensures { result ≡ turns dialect (sign_of token.kind (text_of bytes.now token)) }
+fn is_turn(dialect: Dialect, token: &TextToken) -> bool
+    ensures { result ≡ turns dialect token.now.sign }
 {
-    match token.kind {
-        Kind::Arrow => dialect == Dialect::Talks,
-        Kind::Bang | Kind::Question => dialect == Dialect::Acts,
+    match token.terminal() {
+        Terminal::Arrow => dialect == Dialect::Talks,
+        Terminal::Bang | Terminal::Question => dialect == Dialect::Acts,
         _ => false,
     }
 }
@@ -201,101 +201,89 @@ impl<'a> Reader<'a> {
         Ok(())
     }
 
-    fn roles(&mut self, bytes: &[u8], token: Token) -> Result<(), Stop>
-        requires ordered { token.from ≤ token.until }
-        requires within { token.until ≤ length bytes.now }
-        ensures { spec.Feeds result (spec.feed_roles (sign_of token.kind (text_of bytes.now token)) token.from self.old) self.old self.new }
+    fn roles(&mut self, token: &TextToken) -> Result<(), Stop>
+        ensures { spec.Feeds result (spec.feed_roles token.now.sign token.now.from self.old) self.old self.new }
     {
-        match seen::plain(bytes, token) {
+        match token.plain() {
             Some(word) if word == b"roles".as_slice() => {
                 self.mode = Mode::FirstRole;
                 Ok(())
             }
-            _ => expected(Wanted::Roles, token.from),
+            _ => expected(Wanted::Roles, token.from()),
         }
     }
 
-    fn role_of_line(&mut self, after: Mode, bytes: &[u8], token: Token) -> Result<(), Stop>
-        requires ordered { token.from ≤ token.until }
-        requires within { token.until ≤ length bytes.now }
-        ensures { spec.Feeds result (spec.new_role after (plain_text (sign_of token.kind (text_of bytes.now token))) token.from self.old) self.old self.new }
+    fn role_of_line(&mut self, after: Mode, token: &TextToken) -> Result<(), Stop>
+        ensures { spec.Feeds result (spec.new_role after (plain_text token.now.sign) token.now.from self.old) self.old self.new }
     {
-        match seen::plain(bytes, token) {
-            Some(word) => self.new_role(after, word, token.from),
-            None => expected(Wanted::Role, token.from),
+        match token.plain() {
+            Some(word) => self.new_role(after, word, token.from()),
+            None => expected(Wanted::Role, token.from()),
         }
     }
 
-    fn first_comma(&mut self, bytes: &[u8], token: Token) -> Result<(), Stop>
-        ensures { spec.Feeds result (spec.feed_first_comma (sign_of token.kind (text_of bytes.now token)) token.from self.old) self.old self.new }
+    fn first_comma(&mut self, token: &TextToken) -> Result<(), Stop>
+        ensures { spec.Feeds result (spec.feed_first_comma token.now.sign token.now.from self.old) self.old self.new }
     {
-        match token.kind {
-            Kind::Comma => {
+        match token.terminal() {
+            Terminal::Comma => {
                 self.mode = Mode::FurtherRole;
                 Ok(())
             }
-            _ => expected(Wanted::Comma, token.from),
+            _ => expected(Wanted::Comma, token.from()),
         }
     }
 
-    fn line(&mut self, bytes: &[u8], token: Token) -> Result<(), Stop>
-        requires ordered { token.from ≤ token.until }
-        requires within { token.until ≤ length bytes.now }
-        ensures { spec.Feeds result (spec.feed_line (sign_of token.kind (text_of bytes.now token)) token.from self.old) self.old self.new }
+    fn line(&mut self, token: &TextToken) -> Result<(), Stop>
+        ensures { spec.Feeds result (spec.feed_line token.now.sign token.now.from self.old) self.old self.new }
     {
-        match token.kind {
-            Kind::Comma => {
+        match token.terminal() {
+            Terminal::Comma => {
                 self.mode = Mode::FurtherRole;
                 Ok(())
             }
-            _ => self.protocol(bytes, token),
+            _ => self.protocol(token),
         }
     }
 
     /// The word `protocol`.
-    fn protocol(&mut self, bytes: &[u8], token: Token) -> Result<(), Stop>
-        requires ordered { token.from ≤ token.until }
-        requires within { token.until ≤ length bytes.now }
-        ensures ok { OnOk result (is_text (codes "protocol") (plain_text (sign_of token.kind (text_of bytes.now token))) ≡ true) }
+    fn protocol(&mut self, token: &TextToken) -> Result<(), Stop>
+        ensures ok { OnOk result (is_text (codes "protocol") (plain_text token.now.sign) ≡ true) }
         ensures done { OnOk result (spec.in_mode (Mode.Body Link.Start) self.old ≡ Ok self.new) }
-        ensures err { IfErr result (λ e. is_text (codes "protocol") (plain_text (sign_of token.kind (text_of bytes.now token))) ≡ false) }
+        ensures err { IfErr result (λ e. is_text (codes "protocol") (plain_text token.now.sign) ≡ false) }
         ensures kept { OnErr result (names_read self.new ≡ names_read self.old) }
-        ensures fault { IfErr result (λ e. e ≡ Stop.Fault (record { kind = TextKind.Expected Wanted.CommaOrProtocol; at = token.from })) }
+        ensures fault { IfErr result (λ e. e ≡ Stop.Fault (record { kind = TextKind.Expected Wanted.CommaOrProtocol; at = token.now.from })) }
     {
-        match seen::plain(bytes, token) {
+        match token.plain() {
             Some(word) if word == b"protocol".as_slice() => {
                 self.mode = Mode::Body { from: Link::Start };
                 Ok(())
             }
-            _ => expected(Wanted::CommaOrProtocol, token.from),
+            _ => expected(Wanted::CommaOrProtocol, token.from()),
         }
     }
 
     /// The word `machine`.
-    fn machine(&mut self, bytes: &[u8], token: Token) -> Result<(), Stop>
-        requires ordered { token.from ≤ token.until }
-        requires within { token.until ≤ length bytes.now }
-        ensures { spec.Feeds result (spec.feed_machine (sign_of token.kind (text_of bytes.now token)) token.from self.old) self.old self.new }
+    fn machine(&mut self, token: &TextToken) -> Result<(), Stop>
+        ensures { spec.Feeds result (spec.feed_machine token.now.sign token.now.from self.old) self.old self.new }
     {
-        match seen::plain(bytes, token) {
+        match token.plain() {
             Some(word) if word == b"machine".as_slice() => {
                 self.mode = Mode::AtRole;
                 Ok(())
             }
-            _ => expected(Wanted::PartOrEnd, token.from),
+            _ => expected(Wanted::PartOrEnd, token.from()),
         }
     }
 
-    fn own_role(&mut self, bytes: &[u8], token: Token) -> Result<(), Stop>
-        requires ordered { token.from ≤ token.until }
-        requires within { token.until ≤ length bytes.now }
-        ensures { spec.Feeds result (spec.feed_role (plain_text (sign_of token.kind (text_of bytes.now token))) token.from self.old) self.old self.new }
+    fn own_role(&mut self, token: &TextToken) -> Result<(), Stop>
+        ensures { spec.Feeds result (spec.feed_role (plain_text token.now.sign) token.now.from self.old) self.old self.new }
     {
-        let Some(word) = seen::plain(bytes, token) else {
-            return expected(Wanted::Role, token.from);
+        let Some(word) = token.plain() else {
+            return expected(Wanted::Role, token.from());
         };
         let role = role_named(&self.roles, word);
-        self.played_by(role, token.from)
+        self.played_by(role, token.from())
     }
 
     fn played_by(&mut self, role: Option<Role>, at: usize) -> Result<(), Stop>
@@ -309,15 +297,15 @@ impl<'a> Reader<'a> {
         Ok(())
     }
 
-    fn colon(&mut self, bytes: &[u8], token: Token) -> Result<(), Stop>
-        ensures { spec.Feeds result (spec.feed_colon (sign_of token.kind (text_of bytes.now token)) token.from self.old) self.old self.new }
+    fn colon(&mut self, token: &TextToken) -> Result<(), Stop>
+        ensures { spec.Feeds result (spec.feed_colon token.now.sign token.now.from self.old) self.old self.new }
     {
-        match token.kind {
-            Kind::Colon => {
+        match token.terminal() {
+            Terminal::Colon => {
                 self.mode = Mode::Body { from: Link::Start };
                 Ok(())
             }
-            _ => expected(Wanted::Colon, token.from),
+            _ => expected(Wanted::Colon, token.from()),
         }
     }
 
@@ -354,13 +342,11 @@ impl<'a> Reader<'a> {
         Ok(())
     }
 
-    fn rec_name(&mut self, from: Link, bytes: &'a [u8], token: Token) -> Result<(), Stop>
-        requires ordered { token.from ≤ token.until }
-        requires within { token.until ≤ length bytes.now }
-        ensures { spec.Feeds result (spec.feed_rec_name from (plain_text (sign_of token.kind (text_of bytes.now token))) token.from self.old) self.old self.new }
+    fn rec_name(&mut self, from: Link, token: &TextToken<'a>) -> Result<(), Stop>
+        ensures { spec.Feeds result (spec.feed_rec_name from (plain_text token.now.sign) token.now.from self.old) self.old self.new }
     {
-        let Some(name) = seen::plain(bytes, token) else {
-            return expected(Wanted::Name, token.from);
+        let Some(name) = token.plain() else {
+            return expected(Wanted::Name, token.from());
         };
         let act = self.drafts.len() as u32;
         self.bound.push(Binding { name, number: act })?;
@@ -368,15 +354,15 @@ impl<'a> Reader<'a> {
         Ok(())
     }
 
-    fn rec_dot(&mut self, from: Link, bytes: &[u8], token: Token) -> Result<(), Stop>
-        ensures { spec.Feeds result (spec.feed_rec_dot from (sign_of token.kind (text_of bytes.now token)) token.from self.old) self.old self.new }
+    fn rec_dot(&mut self, from: Link, token: &TextToken) -> Result<(), Stop>
+        ensures { spec.Feeds result (spec.feed_rec_dot from token.now.sign token.now.from self.old) self.old self.new }
     {
-        match token.kind {
-            Kind::Dot => {
+        match token.terminal() {
+            Terminal::Dot => {
                 self.mode = Mode::Body { from };
                 Ok(())
             }
-            _ => expected(Wanted::Dot, token.from),
+            _ => expected(Wanted::Dot, token.from()),
         }
     }
 
@@ -385,52 +371,51 @@ impl<'a> Reader<'a> {
         dialect: Dialect,
         from: Link,
         first: Role,
-        bytes: &[u8],
-        token: Token,
+        token: &TextToken,
     ) -> Result<(), Stop>
-        ensures { spec.Feeds result (spec.feed_turn dialect from first (sign_of token.kind (text_of bytes.now token)) token.from self.old) self.old self.new }
+        ensures { spec.Feeds result (spec.feed_turn dialect from first token.now.sign token.now.from self.old) self.old self.new }
     {
         match dialect {
-            Dialect::Talks => self.arrow(from, first, bytes, token),
-            Dialect::Acts => self.mark(from, first, bytes, token),
+            Dialect::Talks => self.arrow(from, first, token),
+            Dialect::Acts => self.mark(from, first, token),
         }
     }
 
-    fn arrow(&mut self, from: Link, first: Role, bytes: &[u8], token: Token) -> Result<(), Stop>
-        ensures { spec.Feeds result (spec.feed_turn Dialect.Talks from first (sign_of token.kind (text_of bytes.now token)) token.from self.old) self.old self.new }
+    fn arrow(&mut self, from: Link, first: Role, token: &TextToken) -> Result<(), Stop>
+        ensures { spec.Feeds result (spec.feed_turn Dialect.Talks from first token.now.sign token.now.from self.old) self.old self.new }
     {
-        match token.kind {
-            Kind::Arrow => {
+        match token.terminal() {
+            Terminal::Arrow => {
                 self.mode = Mode::Receiver { from, first };
                 Ok(())
             }
-            _ => expected(Wanted::Role, token.from),
+            _ => expected(Wanted::Role, token.from()),
         }
     }
 
-    fn mark(&mut self, from: Link, peer: Role, bytes: &[u8], token: Token) -> Result<(), Stop>
-        ensures { spec.Feeds result (spec.feed_turn Dialect.Acts from peer (sign_of token.kind (text_of bytes.now token)) token.from self.old) self.old self.new }
+    fn mark(&mut self, from: Link, peer: Role, token: &TextToken) -> Result<(), Stop>
+        ensures { spec.Feeds result (spec.feed_turn Dialect.Acts from peer token.now.sign token.now.from self.old) self.old self.new }
     {
-        match token.kind {
-            Kind::Bang => self.begin_act(
+        match token.terminal() {
+            Terminal::Bang => self.begin_act(
                 Dialect::Acts,
                 from,
                 Head::Act {
                     peer,
                     mark: Mark::Puts,
                 },
-                token.from,
+                token.from(),
             ),
-            Kind::Question => self.begin_act(
+            Terminal::Question => self.begin_act(
                 Dialect::Acts,
                 from,
                 Head::Act {
                     peer,
                     mark: Mark::Takes,
                 },
-                token.from,
+                token.from(),
             ),
-            _ => expected(Wanted::Mark, token.from),
+            _ => expected(Wanted::Mark, token.from()),
         }
     }
 
@@ -439,18 +424,15 @@ impl<'a> Reader<'a> {
         dialect: Dialect,
         from: Link,
         first: Role,
-        bytes: &[u8],
-        token: Token,
+        token: &TextToken,
     ) -> Result<(), Stop>
-        requires ordered { token.from ≤ token.until }
-        requires within { token.until ≤ length bytes.now }
-        ensures { spec.Feeds result (spec.feed_receiver dialect from first (plain_text (sign_of token.kind (text_of bytes.now token))) token.from self.old) self.old self.new }
+        ensures { spec.Feeds result (spec.feed_receiver dialect from first (plain_text token.now.sign) token.now.from self.old) self.old self.new }
     {
-        let Some(word) = seen::plain(bytes, token) else {
-            return expected(Wanted::Role, token.from);
+        let Some(word) = token.plain() else {
+            return expected(Wanted::Role, token.from());
         };
         let Some(receiver) = role_named(&self.roles, word) else {
-            return fault(TextKind::UnknownRole, token.from);
+            return fault(TextKind::UnknownRole, token.from());
         };
         self.begin_act(
             dialect,
@@ -459,7 +441,7 @@ impl<'a> Reader<'a> {
                 sender: first,
                 receiver,
             },
-            token.from,
+            token.from(),
         )
     }
 
@@ -497,48 +479,42 @@ impl<'a> Reader<'a> {
     }
 
     /// Behind a head.
-    fn arms(&mut self, dialect: Dialect, act: u32, bytes: &[u8], token: Token) -> Result<(), Stop>
-        requires ordered { token.from ≤ token.until }
-        requires within { token.until ≤ length bytes.now }
-        ensures { spec.Feeds result (spec.feed_arms dialect act (sign_of token.kind (text_of bytes.now token)) token.from self.old) self.old self.new }
+    fn arms(&mut self, dialect: Dialect, act: u32, token: &TextToken) -> Result<(), Stop>
+        ensures { spec.Feeds result (spec.feed_arms dialect act token.now.sign token.now.from self.old) self.old self.new }
     {
-        match token.kind {
-            Kind::OpenBrace => self.open(act, token.from),
-            _ => self.single(dialect, act, bytes, token),
+        match token.terminal() {
+            Terminal::OpenBrace => self.open(act, token.from()),
+            _ => self.single(dialect, act, token),
         }
     }
 
-    fn single(&mut self, dialect: Dialect, act: u32, bytes: &[u8], token: Token) -> Result<(), Stop>
-        requires ordered { token.from ≤ token.until }
-        requires within { token.until ≤ length bytes.now }
-        ensures { spec.Feeds result (spec.feed_single dialect act (sign_of token.kind (text_of bytes.now token)) token.from self.old) self.old self.new }
+    fn single(&mut self, dialect: Dialect, act: u32, token: &TextToken) -> Result<(), Stop>
+        ensures { spec.Feeds result (spec.feed_single dialect act token.now.sign token.now.from self.old) self.old self.new }
     {
         match dialect {
-            Dialect::Talks => match token.kind {
-                Kind::Colon => {
+            Dialect::Talks => match token.terminal() {
+                Terminal::Colon => {
                     self.mode = Mode::AtLabel { act };
                     Ok(())
                 }
-                _ => expected(Wanted::ColonOrBrace, token.from),
+                _ => expected(Wanted::ColonOrBrace, token.from()),
             },
-            Dialect::Acts => self.label(act, Wanted::LabelOrBrace, bytes, token),
+            Dialect::Acts => self.label(act, Wanted::LabelOrBrace, token),
         }
     }
 
-    fn label(&mut self, act: u32, wanted: Wanted, bytes: &[u8], token: Token) -> Result<(), Stop>
-        requires ordered { token.from ≤ token.until }
-        requires within { token.until ≤ length bytes.now }
-        ensures { spec.Feeds result (spec.feed_label act wanted (word_text (sign_of token.kind (text_of bytes.now token))) token.from self.old) self.old self.new }
+    fn label(&mut self, act: u32, wanted: Wanted, token: &TextToken) -> Result<(), Stop>
+        ensures { spec.Feeds result (spec.feed_label act wanted (word_text token.now.sign) token.now.from self.old) self.old self.new }
     {
-        let Some(word) = seen::word(bytes, token) else {
-            return expected(wanted, token.from);
+        let Some(word) = token.word() else {
+            return expected(wanted, token.from());
         };
         match label_named(&self.labels, word) {
             Some(label) => {
                 self.mode = Mode::Paren { act, label };
                 Ok(())
             }
-            None => self.new_label(act, word, token.from),
+            None => self.new_label(act, word, token.from()),
         }
     }
 
@@ -554,25 +530,23 @@ impl<'a> Reader<'a> {
         Ok(())
     }
 
-    fn paren(&mut self, act: u32, label: Label, bytes: &[u8], token: Token) -> Result<(), Stop>
-        ensures { spec.Feeds result (spec.feed_paren act label (sign_of token.kind (text_of bytes.now token)) token.from self.old) self.old self.new }
+    fn paren(&mut self, act: u32, label: Label, token: &TextToken) -> Result<(), Stop>
+        ensures { spec.Feeds result (spec.feed_paren act label token.now.sign token.now.from self.old) self.old self.new }
     {
-        match token.kind {
-            Kind::OpenParen => {
+        match token.terminal() {
+            Terminal::OpenParen => {
                 self.mode = Mode::AtSort { act, label };
                 Ok(())
             }
-            _ => expected(Wanted::OpenParen, token.from),
+            _ => expected(Wanted::OpenParen, token.from()),
         }
     }
 
-    fn sort(&mut self, act: u32, label: Label, bytes: &[u8], token: Token) -> Result<(), Stop>
-        requires ordered { token.from ≤ token.until }
-        requires within { token.until ≤ length bytes.now }
-        ensures { spec.Feeds result (spec.feed_sort act label (sign_of token.kind (text_of bytes.now token)) token.from self.old) self.old self.new }
+    fn sort(&mut self, act: u32, label: Label, token: &TextToken) -> Result<(), Stop>
+        ensures { spec.Feeds result (spec.feed_sort act label token.now.sign token.now.from self.old) self.old self.new }
     {
-        match token.kind {
-            Kind::CloseParen => {
+        match token.terminal() {
+            Terminal::CloseParen => {
                 self.mode = Mode::ArmDot {
                     act,
                     label,
@@ -580,21 +554,19 @@ impl<'a> Reader<'a> {
                 };
                 Ok(())
             }
-            _ => self.sort_word(act, label, bytes, token),
+            _ => self.sort_word(act, label, token),
         }
     }
 
-    fn sort_word(&mut self, act: u32, label: Label, bytes: &[u8], token: Token) -> Result<(), Stop>
-        requires ordered { token.from ≤ token.until }
-        requires within { token.until ≤ length bytes.now }
-        ensures { spec.Feeds result (spec.sort_word act label (plain_text (sign_of token.kind (text_of bytes.now token))) token.from self.old) self.old self.new }
+    fn sort_word(&mut self, act: u32, label: Label, token: &TextToken) -> Result<(), Stop>
+        ensures { spec.Feeds result (spec.sort_word act label (plain_text token.now.sign) token.now.from self.old) self.old self.new }
     {
-        let sort = match seen::plain(bytes, token) {
+        let sort = match token.plain() {
             Some(word) => seen::sort(word),
             None => None,
         };
         let Some(sort) = sort else {
-            return expected(Wanted::SortOrCloseParen, token.from);
+            return expected(Wanted::SortOrCloseParen, token.from());
         };
         self.mode = Mode::CloseParen { act, label, sort };
         Ok(())
@@ -605,38 +577,30 @@ impl<'a> Reader<'a> {
         act: u32,
         label: Label,
         sort: Sort,
-        bytes: &[u8],
-        token: Token,
+        token: &TextToken,
     ) -> Result<(), Stop>
-        ensures { spec.Feeds result (spec.feed_close_paren act label sort (sign_of token.kind (text_of bytes.now token)) token.from self.old) self.old self.new }
+        ensures { spec.Feeds result (spec.feed_close_paren act label sort token.now.sign token.now.from self.old) self.old self.new }
     {
-        match token.kind {
-            Kind::CloseParen => {
+        match token.terminal() {
+            Terminal::CloseParen => {
                 self.mode = Mode::ArmDot { act, label, sort };
                 Ok(())
             }
-            _ => expected(Wanted::CloseParen, token.from),
+            _ => expected(Wanted::CloseParen, token.from()),
         }
     }
 
-    fn arm_dot(
-        &mut self,
-        act: u32,
-        label: Label,
-        sort: Sort,
-        bytes: &[u8],
-        token: Token,
-    ) -> Result<(), Stop>
-        ensures { spec.Feeds result (spec.feed_arm_dot act label sort (sign_of token.kind (text_of bytes.now token)) token.from self.old) self.old self.new }
+    fn arm_dot(&mut self, act: u32, label: Label, sort: Sort, token: &TextToken) -> Result<(), Stop>
+        ensures { spec.Feeds result (spec.feed_arm_dot act label sort token.now.sign token.now.from self.old) self.old self.new }
     {
-        match token.kind {
-            Kind::Dot => {
+        match token.terminal() {
+            Terminal::Dot => {
                 self.mode = Mode::Body {
                     from: Link::OfArm { act, label, sort },
                 };
                 Ok(())
             }
-            _ => expected(Wanted::Dot, token.from),
+            _ => expected(Wanted::Dot, token.from()),
         }
     }
 
@@ -648,45 +612,42 @@ impl<'a> Reader<'a> {
         self.depth = frame.depth;
     }
 
-    fn next(&mut self, bytes: &[u8], token: Token) -> Result<(), Stop>
-        ensures { spec.Feeds result (spec.feed_behind (sign_of token.kind (text_of bytes.now token)) token.from self.old) self.old self.new }
+    fn next(&mut self, token: &TextToken) -> Result<(), Stop>
+        ensures { spec.Feeds result (spec.feed_behind token.now.sign token.now.from self.old) self.old self.new }
     {
         let Some(frame) = self.frames.last().copied() else {
-            return expected(Wanted::PartOrEnd, token.from);
+            return expected(Wanted::PartOrEnd, token.from());
         };
-        match token.kind {
-            Kind::Comma => {
+        match token.terminal() {
+            Terminal::Comma => {
                 self.restore(frame);
                 self.mode = Mode::AtLabel { act: frame.act };
                 Ok(())
             }
-            Kind::CloseBrace => {
+            Terminal::CloseBrace => {
                 let _closed = self.frames.pop();
                 self.restore(frame);
                 self.mode = Mode::Next;
                 Ok(())
             }
-            _ => expected(Wanted::CommaOrCloseBrace, token.from),
+            _ => expected(Wanted::CommaOrCloseBrace, token.from()),
         }
     }
 
-    fn body(&mut self, dialect: Dialect, from: Link, bytes: &[u8], token: Token) -> Result<(), Stop>
-        requires ordered { token.from ≤ token.until }
-        requires within { token.until ≤ length bytes.now }
-        ensures { spec.Feeds result (spec.feed_body dialect from (sign_of token.kind (text_of bytes.now token)) token.from (next_lexeme bytes.now token.until) self.old) self.old self.new }
+    fn body(
+        &mut self,
+        dialect: Dialect,
+        from: Link,
+        token: &TextToken,
+        next: &TextToken,
+    ) -> Result<(), Stop>
+        ensures { spec.Feeds result (spec.feed_body dialect from token.now.sign token.now.from next.now self.old) self.old self.new }
     {
-        match token.kind {
-            Kind::Word => {
-                let word = seen::text(bytes, token);
-                if word == b"rec".as_slice() {
-                    self.open_rec(from, token.from)
-                } else if word == b"end".as_slice() {
-                    self.end(from)
-                } else {
-                    self.word(dialect, from, word, bytes, token)
-                }
-            }
-            _ => expected(Wanted::Body, token.from),
+        match token.terminal() {
+            Terminal::Rec => self.open_rec(from, token.from()),
+            Terminal::End => self.end(from),
+            Terminal::Plain(word) => self.word(dialect, from, word, token.from(), next),
+            _ => expected(Wanted::Body, token.from()),
         }
     }
 
@@ -717,51 +678,81 @@ impl<'a> Reader<'a> {
         dialect: Dialect,
         from: Link,
         word: &[u8],
-        bytes: &[u8],
-        token: Token,
+        at: usize,
+        next: &TextToken,
     ) -> Result<(), Stop>
-        requires within { token.until ≤ length bytes.now }
-        ensures { spec.Feeds result (spec.feed_word dialect from word.now (next_lexeme bytes.now token.until).sign token.from (next_lexeme bytes.now token.until).from self.old) self.old self.new }
+        ensures { spec.Feeds result (spec.feed_word dialect from word.now next.now.sign at next.now.from self.old) self.old self.new }
     {
-        let next = Lexer::new(bytes, token.until).next()?;
-        if is_turn(dialect, bytes, next) {
-            let first = role_named(&self.roles, word);
-            self.met_by(dialect, from, first, token.from)
-        } else {
-            let act = bound_number(self.bound.as_slice(), word);
-            self.named(from, act, token.from)
+        match next.terminal() {
+            Terminal::Faulty(kind) => fault(TextKind::from(kind), next.from()),
+            _ => self.role_or_name(dialect, from, word, at, next),
         }
     }
 
-    /// Takes one token of the text.
-    pub fn feed(&mut self, dialect: Dialect, bytes: &'a [u8], token: Token) -> Result<(), Stop>
-        requires ordered { token.from ≤ token.until }
-        requires within { token.until ≤ length bytes.now }
-        ensures { spec.Feeds result (spec.feed_of dialect (sign_of token.kind (text_of bytes.now token)) token.from (next_lexeme bytes.now token.until) self.old) self.old self.new }
+    fn role_or_name(
+        &mut self,
+        dialect: Dialect,
+        from: Link,
+        word: &[u8],
+        at: usize,
+        next: &TextToken,
+    ) -> Result<(), Stop>
+        ensures { spec.Feeds result (if turns dialect next.now.sign then spec.met_by dialect (place_of word.now self.old.roles) from at self.old else spec.named (bound_to word.now self.old.bound) from at self.old) self.old self.new }
+    {
+        if is_turn(dialect, next) {
+            let first = role_named(&self.roles, word);
+            self.met_by(dialect, from, first, at)
+        } else {
+            let act = bound_number(self.bound.as_slice(), word);
+            self.named(from, act, at)
+        }
+    }
+
+    /// Takes one token of the text, with the one behind it.
+    pub fn feed(
+        &mut self,
+        dialect: Dialect,
+        token: &TextToken<'a>,
+        next: &TextToken,
+    ) -> Result<(), Stop>
+        ensures { spec.Feeds result (feed_sign (spec.feeding dialect) token.now.sign token.now.from next.now self.old) self.old self.new }
+    {
+        match token.terminal() {
+            Terminal::Faulty(kind) => fault(TextKind::from(kind), token.from()),
+            _ => self.feed_whole(dialect, token, next),
+        }
+    }
+
+    /// Takes one that isn't faulty.
+    fn feed_whole(
+        &mut self,
+        dialect: Dialect,
+        token: &TextToken<'a>,
+        next: &TextToken,
+    ) -> Result<(), Stop>
+        ensures { spec.Feeds result (spec.feed_of dialect token.now.sign token.now.from next.now self.old) self.old self.new }
     {
         match self.mode {
-            Mode::Roles => self.roles(bytes, token),
-            Mode::FirstRole => self.role_of_line(Mode::FirstComma, bytes, token),
-            Mode::FirstComma => self.first_comma(bytes, token),
-            Mode::FurtherRole => self.role_of_line(Mode::Line, bytes, token),
-            Mode::Line => self.line(bytes, token),
-            Mode::Machine => self.machine(bytes, token),
-            Mode::AtRole => self.own_role(bytes, token),
-            Mode::AtColon => self.colon(bytes, token),
-            Mode::Body { from } => self.body(dialect, from, bytes, token),
-            Mode::RecName { from } => self.rec_name(from, bytes, token),
-            Mode::RecDot { from } => self.rec_dot(from, bytes, token),
-            Mode::AtTurn { from, first } => self.turn(dialect, from, first, bytes, token),
-            Mode::Receiver { from, first } => self.receiver(dialect, from, first, bytes, token),
-            Mode::AtArms { act } => self.arms(dialect, act, bytes, token),
-            Mode::AtLabel { act } => self.label(act, Wanted::Label, bytes, token),
-            Mode::Paren { act, label } => self.paren(act, label, bytes, token),
-            Mode::AtSort { act, label } => self.sort(act, label, bytes, token),
-            Mode::CloseParen { act, label, sort } => self.close_paren(
-                act, label, sort, bytes, token,
-            ),
-            Mode::ArmDot { act, label, sort } => self.arm_dot(act, label, sort, bytes, token),
-            Mode::Next => self.next(bytes, token),
+            Mode::Roles => self.roles(token),
+            Mode::FirstRole => self.role_of_line(Mode::FirstComma, token),
+            Mode::FirstComma => self.first_comma(token),
+            Mode::FurtherRole => self.role_of_line(Mode::Line, token),
+            Mode::Line => self.line(token),
+            Mode::Machine => self.machine(token),
+            Mode::AtRole => self.own_role(token),
+            Mode::AtColon => self.colon(token),
+            Mode::Body { from } => self.body(dialect, from, token, next),
+            Mode::RecName { from } => self.rec_name(from, token),
+            Mode::RecDot { from } => self.rec_dot(from, token),
+            Mode::AtTurn { from, first } => self.turn(dialect, from, first, token),
+            Mode::Receiver { from, first } => self.receiver(dialect, from, first, token),
+            Mode::AtArms { act } => self.arms(dialect, act, token),
+            Mode::AtLabel { act } => self.label(act, Wanted::Label, token),
+            Mode::Paren { act, label } => self.paren(act, label, token),
+            Mode::AtSort { act, label } => self.sort(act, label, token),
+            Mode::CloseParen { act, label, sort } => self.close_paren(act, label, sort, token),
+            Mode::ArmDot { act, label, sort } => self.arm_dot(act, label, sort, token),
+            Mode::Next => self.next(token),
         }
     }
 

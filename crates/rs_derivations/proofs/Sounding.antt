@@ -1,34 +1,29 @@
 -- The names stay sound, and those that were there stay in their places.
-use Rattle.std.proofs.Common.{◌≡◌, ◌∙◌, ℕ, ◌≤◌, List, [], ◌∷◌, ◌++◌, append-nil, append_assoc, codes, length, Bool, true, false, ◌==◌, ◌&&◌, nat_le, if◌then◌else◌, Option, Some, None, Result, Ok, Err, IfOk, refl, sym, ap, subst}
+use Rattle.std.proofs.Common.{◌≡◌, ◌∙◌, ℕ, List, [], ◌∷◌, ◌++◌, append-nil, append_assoc, codes, length, Bool, true, false, ◌==◌, ◌&&◌, nat_le, if◌then◌else◌, Option, Some, None, Ok, Err, IfOk, refl, sym, ap, subst}
 use Rattle.std.specs.List.{list_all}
 use Rattle.rs_model.specs.Data.{Names_data}
 use Rattle.rs_model.specs.declared.graph.Label.{Label}
 use Rattle.rs_model.specs.declared.graph.Role.{Role}
-use Rattle.rs_model.specs.declared.limits.TheConstants.{MOST_LABELS, MOST_CANDIDATES, MOST_NUMBER}
+use Rattle.rs_model.specs.declared.limits.TheConstants.{MOST_LABELS, MOST_CANDIDATES}
 use Rattle.rs_model.specs.declared.values.Sort.{Sort}
 use Rattle.rs_prefix.specs.declared.earliest.Kind.{Kind}
-use Rattle.rs_text.specs.declared.faults.TextFault.{TextFault}
 use Rattle.rs_text.specs.declared.faults.TextKind.TheVariants as kind
 use Rattle.rs_text.specs.declared.faults.Wanted.{Wanted}
-use Rattle.rs_text.specs.declared.tokens.Token.{Token}
-use Rattle.rs_text.specs.Data.{Lexer_data}
 use Rattle.rs_text.specs.Lexemes.{Lexeme}
-use Rattle.rs_text.specs.Lexing.{next_lexeme, lexeme_of, sign_of, text_of}
+use Rattle.rs_text.specs.Lexing.{next_lexeme}
 use Rattle.rs_text.specs.Names.{place_of, is_among, differ}
-use Rattle.rs_text.specs.Readings.{fault, expected}
+use Rattle.rs_text.specs.Readings.{fault, expected, feed_sign}
 use Rattle.rs_text.specs.Seen.{plain_text, word_text, sort_named}
-use Rattle.rs_text.specs.Signs.{Sign, rec_word, end_word, plain, number}
+use Rattle.rs_text.specs.Signs.{Sign, rec_word, end_word, plain, broken}
 use Rattle.rs_text.specs.Sound.{IsSound}
-use Rattle.rs_text.specs.Tokens.{IsNext}
 use Rattle.rs_text.specs.Words.{is_word, is_role_word}
-use Rattle.rs_text.proofs.Judging.{IsNamed}
+use Rattle.rs_text.proofs.Judging.{IsNamed, named}
 use Rattle.rs_text.proofs.Naming.{grown_differ, grown_all, not_among, decides_sound}
-use Rattle.rs_text.proofs.Nexts.{next_is_next, plain_law}
 use Rattle.rs_derivations.specs.declared.reading.Mode.{Mode}
 use Rattle.rs_derivations.specs.declared.reading.Mode.TheVariants as mode
 use Rattle.rs_derivations.specs.Data.{Reader_data}
 use Rattle.rs_derivations.specs.Faults.{Keeps, number_value}
-use Rattle.rs_derivations.specs.Feeding.{Fed, in_mode, passes, played_by, feed_role, feed_bound, feed_node, feed_state, met_by, feed_act, feed_mark, labelled_by, feed_label, pended, sorted_by, feed_sort, feed_close_paren, feed_behind_act, feed_above, feed_rank, ended, feed_next, feed_behind_next, feed_rest, feed_at, feed_of, names_read, is_bound, is_some_of, is_none_of, is_comma, is_close_bracket, is_close_brace, is_close_paren, mark_kind, IsSmall}
+use Rattle.rs_derivations.specs.Feeding.{Fed, in_mode, passes, played_by, feed_role, feed_bound, feed_node, feed_state, met_by, feed_act, feed_mark, labelled_by, feed_label, sorted_by, feed_sort, feed_close_paren, feed_behind_act, feed_above, feed_rank, ended, feed_next, feed_behind_next, feed_rest, feed_at, feed_of, names_read, is_bound, is_some_of, is_none_of, is_comma, is_close_bracket, is_close_brace, is_close_paren, mark_kind, feeding}
 
 -- names that are still sound, with further labels behind the old ones
 pub record GoodNames (old : Names_data) (roles labels : List (List ℕ)) : Type 0 where
@@ -190,15 +185,13 @@ if_ok : (x : Fed) (d : Reader_data) (Q : Reader_data → Type 0) → x ≡ Ok d 
 if_ok (Ok e) d Q same h = let k : e ≡ d = cc in subst Q k h
 if_ok (Err e) d Q same h = absurd (cc same)
 
-next_of : (bytes : List ℕ) (lexer : Lexer_data) (t : Token) → lexer.bytes ≡ bytes → next_lexeme lexer.bytes lexer.at ≡ lexeme_of lexer.bytes t → IsNext bytes lexer.at (lexeme_of bytes t)
-next_of bytes lexer t same e = subst (λ (z : Lexeme). IsNext bytes lexer.at z) (subst (λ (z : List ℕ). next_lexeme z lexer.at ≡ lexeme_of z t) same e) (next_is_next bytes lexer.at)
+good_on : (old : Names_data) (t : Sign) (at : ℕ) (next : Lexeme) (r d : Reader_data) → IsNamed t → feed_sign feeding t at next r ≡ Ok d → Good old r → Good old d
+good_on old (broken k) at next r d name f h = absurd (cc f)
+good_on old t at next r d name f h = if_ok (feed_of t at r) d (Good old) f (fed old r.mode t at r name h)
 
 -- a token that is taken keeps the names good
-pub good_fed : (old : Names_data) (bytes : List ℕ) (lexer : Lexer_data) (t : Token) (r d : Reader_data) → lexer.bytes ≡ bytes → next_lexeme lexer.bytes lexer.at ≡ lexeme_of lexer.bytes t → feed_of (sign_of t.kind (text_of bytes t)) t.from r ≡ Ok d → Good old r → Good old d
-good_fed old bytes lexer t r d same e f h =
-    let is_next : IsNext bytes lexer.at (lexeme_of bytes t) = next_of bytes lexer t same e in
-    let named : IsNamed (sign_of t.kind (text_of bytes t)) = λ name k. plain_law bytes lexer.at (lexeme_of bytes t) name is_next k in
-    if_ok (feed_of (sign_of t.kind (text_of bytes t)) t.from r) d (Good old) f (fed old r.mode (sign_of t.kind (text_of bytes t)) t.from r named h)
+pub good_fed : (old : Names_data) (bytes : List ℕ) (now : ℕ) (t next : Lexeme) (r d : Reader_data) → t ≡ next_lexeme bytes now → feed_sign feeding t.sign t.from next r ≡ Ok d → Good old r → Good old d
+good_fed old bytes now t next r d e f h = good_on old t.sign t.from next r d (named bytes now t e) f h
 
 -- names that were sound are good at first
 pub good_first : (r : Reader_data) → IsSound (names_read r) → Good (names_read r) r
@@ -221,13 +214,3 @@ same_sound r d e h = subst IsSound (sym e) h
 
 pub same_keeps : (old : Names_data) (r d : Reader_data) → names_read d ≡ names_read r → Keeps old (names_read r) → Keeps old (names_read d)
 same_keeps old r d e h = subst (λ (z : Names_data). Keeps old z) (sym e) h
-
--- ---- numbers
-
-small_sign : (bytes : List ℕ) (at : ℕ) (s : Sign) (from until : ℕ) → IsNext bytes at (record { sign = s; from = from; until = until }) → IsSmall s
-small_sign bytes at (number n) from until h = subst (λ (z : ℕ). z ≤ MOST_NUMBER) (sym h.token.2) h.token.1
-small_sign bytes at _ from until h = tt
-
--- a number of a text is small
-pub small : (bytes : List ℕ) (lexer : Lexer_data) (t : Token) → lexer.bytes ≡ bytes → next_lexeme lexer.bytes lexer.at ≡ lexeme_of lexer.bytes t → IsSmall (sign_of t.kind (text_of bytes t))
-small bytes lexer t same e = small_sign bytes lexer.at (sign_of t.kind (text_of bytes t)) t.from t.until (next_of bytes lexer t same e)

@@ -1,9 +1,9 @@
 -- Steps: how the reader goes on, token by token.
-use Rattle.std.specs.Prelude.{◌≡◌, ℕ, ◌≤◌, List, [], ◌∷◌, ◌++◌, codes, length, Option, Some, None, Bool, true, false, ◌&&◌, nat_le, ◌==◌, if◌then◌else◌, Result, Ok, Err}
+use Rattle.std.specs.Prelude.{◌≡◌, ℕ, List, [], ◌∷◌, ◌++◌, codes, length, Option, Some, None, Bool, true, false, ◌&&◌, nat_le, ◌==◌, if◌then◌else◌, Result, Ok, Err}
 use Rattle.rs_model.specs.Data.{Names_data}
 use Rattle.rs_model.specs.declared.graph.Label.{Label}
 use Rattle.rs_model.specs.declared.graph.Role.{Role}
-use Rattle.rs_model.specs.declared.limits.TheConstants.{MOST_LABELS, MOST_BOUND, MOST_CANDIDATES, MOST_NUMBER}
+use Rattle.rs_model.specs.declared.limits.TheConstants.{MOST_LABELS, MOST_BOUND, MOST_CANDIDATES}
 use Rattle.rs_model.specs.declared.values.Sort.{Sort}
 use Rattle.rs_model.specs.declared.values.Sort.TheVariants as sort
 use Rattle.rs_prefix.specs.declared.earliest.Kind.{Kind}
@@ -17,7 +17,7 @@ use Rattle.rs_text.specs.Names.{place_of}
 use Rattle.rs_text.specs.Readings.{Automaton, fault, expected, Fails}
 use Rattle.rs_text.specs.declared.reading.Stop.{Stop}
 use Rattle.rs_text.specs.Seen.{is_text, plain_text, word_text, sort_named}
-use Rattle.rs_text.specs.Signs.{Sign, number, bang, question, colon, comma, open_brace, close_brace, open_paren, close_paren, open_bracket, close_bracket}
+use Rattle.rs_text.specs.Signs.{Sign, bang, question, colon, comma, open_brace, close_brace, open_paren, close_paren, open_bracket, close_bracket}
 use Rattle.rs_derivations.specs.declared.reading.Mode.{Mode}
 use Rattle.rs_derivations.specs.declared.reading.Mode.TheVariants as mode
 use Rattle.rs_derivations.specs.Cuts.{node_wanted, act_wanted, next_wanted}
@@ -90,11 +90,6 @@ is_some_of (x ∷ xs) = true
 -- the number can be a bound
 abbrev pub is_bound : ℕ → Bool
 is_bound n = nat_le 1 n && nat_le n MOST_BOUND
-
--- a number of a text is at most 4,294,967,295
-abbrev pub IsSmall : Sign → Type 0
-IsSmall (number n) = n ≤ MOST_NUMBER
-IsSmall _ = Unit {0}
 
 -- ---- steps
 

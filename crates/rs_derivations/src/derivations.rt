@@ -11,7 +11,7 @@ ghost use Rattle.rs_derivations.specs.Spells.{SpellsDerivation};
 use crate::reading::Reader;
 use rs_derive::Derivation;
 use rs_model::Names;
-use rs_text::{Lexer, Stop, TextFault};
+use rs_text::{Stop, TextFault, next_token};
 use std::alloc::Global;
 use std::mem;
 
@@ -68,10 +68,10 @@ fn read(reader: &mut Reader, bytes: &[u8], at: usize) -> Result<usize, Stop>
     ensures sound { IsSound (names_read reader.new) }
     ensures kept { Keeps (names_read reader.old) (names_read reader.new) }
 {
-    let mut lexer = Lexer::new(bytes, at);
+    let mut token = next_token(bytes, at);
     while !reader.is_read() {
-        let token = lexer.next()?;
-        reader.feed(bytes, token)?;
+        reader.feed(&token)?;
+        token = next_token(bytes, token.until());
     }
-    Ok(lexer.next_offset())
+    Ok(token.from())
 }

@@ -1,19 +1,21 @@
 ghost use Rattle.std.specs.Prelude.{◌≡◌, ◌≤◌, ◌++◌, ◌∷◌, [], length, OnOk, OnErr, IfOk, IfErr, IfSome, IfNone, Some, None, Ok, Err, codes};
 ghost use Rattle.std.specs.Option.{option_map};
 ghost use Rattle.rs_model.specs.declared.limits.TheConstants.{MOST_LABELS, MOST_ROLES};
-ghost use Rattle.rs_text.specs.Lexing.{sign_of, text_of};
+ghost use Rattle.rs_text.specs.Lexemes.{Lexeme};
+ghost use Rattle.rs_text.specs.Names.{place_of};
+ghost use Rattle.rs_text.specs.Readings.{feed_sign};
 ghost use Rattle.rs_text.specs.Seen.{plain_text, word_text, is_text};
 ghost use Rattle.rs_derivations.specs.Derivations.{act_of_kind};
 ghost use Rattle.rs_derivations.specs.Faults.{number_value};
 ghost use Rattle.rs_derivations.specs.Cuts as place;
 ghost use Rattle.rs_derivations.specs.Feeding as spec;
-ghost use Rattle.rs_derivations.specs.Feeding.{names_read, IsSmall};
+ghost use Rattle.rs_derivations.specs.Feeding.{names_read};
 
 use rs_derive::DNode;
 use rs_graph::Row;
 use rs_model::{Act, Label, MOST_BOUND, MOST_CANDIDATES, MOST_LABELS, Name, Role, Sort};
 use rs_prefix::{Kind, Pending};
-use rs_text::{Kind as TokenKind, Stop, TextKind, Token, Wanted, expected, fault, number, seen};
+use rs_text::{Stop, Terminal, TextKind, TextToken, Wanted, expected, fault, find, seen};
 use std::alloc::Global;
 use std::marker::Model;
 use std::mem;
@@ -121,110 +123,126 @@ fn made(peer: Role, kind: Kind, label: Label, sort: Sort) -> Act
     }
 }
 
-/// The value of a number.
-fn value(bytes: &[u8], token: Token) -> Option<u32>
-    requires ordered { token.from ≤ token.until }
-    requires within { token.until ≤ length bytes.now }
-    requires small { IsSmall (sign_of token.kind (text_of bytes.now token)) }
-    ensures some { IfSome result (λ n. number_value (sign_of token.kind (text_of bytes.now token)) ≡ Some n) }
-    ensures none { IfNone result (number_value (sign_of token.kind (text_of bytes.now token)) ≡ None) }
+/// The role with this name.
+#[tactic(auto, using(rs_text::proofs::Numbers::place_below))]
+fn role_named(roles: &[Name], word: &[u8]) -> Option<Role>
+    requires { length roles.now ≤ MOST_ROLES }
+    ensures some { IfSome result (λ role. place_of word.now roles.now ≡ Some role.0) }
+    ensures none { IfNone result (place_of word.now roles.now ≡ None) }
 {
-    match token.kind {
-        TokenKind::Number => number(seen::text(bytes, token)),
+    let place = find(roles, word)?;
+    Some(Role(place as u8))
+}
+
+/// The label with this name.
+#[tactic(auto, using(rs_text::proofs::Numbers::place_below))]
+fn label_named(labels: &[Name], word: &[u8]) -> Option<Label>
+    requires { length labels.now ≤ MOST_LABELS }
+    ensures some { IfSome result (λ label. place_of word.now labels.now ≡ Some label.0) }
+    ensures none { IfNone result (place_of word.now labels.now ≡ None) }
+{
+    let place = find(labels, word)?;
+    Some(Label(place as u16))
+}
+
+/// The value of a number.
+fn value(token: &TextToken) -> Option<u32>
+    ensures { result ≡ number_value token.now.sign }
+{
+    match token.terminal() {
+        Terminal::Number(value) => Some(value),
         _ => None,
     }
 }
 
-fn is_keyword(bytes: &[u8], token: Token, word: &[u8]) -> bool
-    requires ordered { token.from ≤ token.until }
-    requires within { token.until ≤ length bytes.now }
-    ensures { result ≡ spec.is_keyword word.now (sign_of token.kind (text_of bytes.now token)) }
+fn is_keyword(token: &TextToken, word: &[u8]) -> bool
+    ensures { result ≡ spec.is_keyword word.now token.now.sign }
 {
-    match seen::plain(bytes, token) {
+    match token.plain() {
         Some(text) => text == word,
         None => false,
     }
 }
 
-fn is_colon(bytes: &[u8], token: Token) -> bool
-    ensures { result ≡ spec.is_colon (sign_of token.kind (text_of bytes.now token)) }
+fn is_colon(token: &TextToken) -> bool
+    ensures { result ≡ spec.is_colon token.now.sign }
 {
-    match token.kind {
-        TokenKind::Colon => true,
+    match token.terminal() {
+        Terminal::Colon => true,
         _ => false,
     }
 }
 
-fn is_comma(bytes: &[u8], token: Token) -> bool
-    ensures { result ≡ spec.is_comma (sign_of token.kind (text_of bytes.now token)) }
+fn is_comma(token: &TextToken) -> bool
+    ensures { result ≡ spec.is_comma token.now.sign }
 {
-    match token.kind {
-        TokenKind::Comma => true,
+    match token.terminal() {
+        Terminal::Comma => true,
         _ => false,
     }
 }
 
-fn is_open_brace(bytes: &[u8], token: Token) -> bool
-    ensures { result ≡ spec.is_open_brace (sign_of token.kind (text_of bytes.now token)) }
+fn is_open_brace(token: &TextToken) -> bool
+    ensures { result ≡ spec.is_open_brace token.now.sign }
 {
-    match token.kind {
-        TokenKind::OpenBrace => true,
+    match token.terminal() {
+        Terminal::OpenBrace => true,
         _ => false,
     }
 }
 
-fn is_close_brace(bytes: &[u8], token: Token) -> bool
-    ensures { result ≡ spec.is_close_brace (sign_of token.kind (text_of bytes.now token)) }
+fn is_close_brace(token: &TextToken) -> bool
+    ensures { result ≡ spec.is_close_brace token.now.sign }
 {
-    match token.kind {
-        TokenKind::CloseBrace => true,
+    match token.terminal() {
+        Terminal::CloseBrace => true,
         _ => false,
     }
 }
 
-fn is_open_paren(bytes: &[u8], token: Token) -> bool
-    ensures { result ≡ spec.is_open_paren (sign_of token.kind (text_of bytes.now token)) }
+fn is_open_paren(token: &TextToken) -> bool
+    ensures { result ≡ spec.is_open_paren token.now.sign }
 {
-    match token.kind {
-        TokenKind::OpenParen => true,
+    match token.terminal() {
+        Terminal::OpenParen => true,
         _ => false,
     }
 }
 
-fn is_close_paren(bytes: &[u8], token: Token) -> bool
-    ensures { result ≡ spec.is_close_paren (sign_of token.kind (text_of bytes.now token)) }
+fn is_close_paren(token: &TextToken) -> bool
+    ensures { result ≡ spec.is_close_paren token.now.sign }
 {
-    match token.kind {
-        TokenKind::CloseParen => true,
+    match token.terminal() {
+        Terminal::CloseParen => true,
         _ => false,
     }
 }
 
-fn is_open_bracket(bytes: &[u8], token: Token) -> bool
-    ensures { result ≡ spec.is_open_bracket (sign_of token.kind (text_of bytes.now token)) }
+fn is_open_bracket(token: &TextToken) -> bool
+    ensures { result ≡ spec.is_open_bracket token.now.sign }
 {
-    match token.kind {
-        TokenKind::OpenBracket => true,
+    match token.terminal() {
+        Terminal::OpenBracket => true,
         _ => false,
     }
 }
 
-fn is_close_bracket(bytes: &[u8], token: Token) -> bool
-    ensures { result ≡ spec.is_close_bracket (sign_of token.kind (text_of bytes.now token)) }
+fn is_close_bracket(token: &TextToken) -> bool
+    ensures { result ≡ spec.is_close_bracket token.now.sign }
 {
-    match token.kind {
-        TokenKind::CloseBracket => true,
+    match token.terminal() {
+        Terminal::CloseBracket => true,
         _ => false,
     }
 }
 
 /// Whether a mark sends or receives.
-fn mark_kind(bytes: &[u8], token: Token) -> Option<Kind>
-    ensures { result ≡ spec.mark_kind (sign_of token.kind (text_of bytes.now token)) }
+fn mark_kind(token: &TextToken) -> Option<Kind>
+    ensures { result ≡ spec.mark_kind token.now.sign }
 {
-    match token.kind {
-        TokenKind::Bang => Some(Kind::Send),
-        TokenKind::Question => Some(Kind::Receive),
+    match token.terminal() {
+        Terminal::Bang => Some(Kind::Send),
+        Terminal::Question => Some(Kind::Receive),
         _ => None,
     }
 }
@@ -321,16 +339,14 @@ impl<'a> Reader<'a> {
         }
     }
 
-    fn own_role(&mut self, bytes: &[u8], token: Token) -> Result<(), Stop>
-        requires ordered { token.from ≤ token.until }
-        requires within { token.until ≤ length bytes.now }
-        ensures { spec.Feeds result (spec.feed_role (plain_text (sign_of token.kind (text_of bytes.now token))) token.from self.old) self.old self.new }
+    fn own_role(&mut self, token: &TextToken) -> Result<(), Stop>
+        ensures { spec.Feeds result (spec.feed_role (plain_text token.now.sign) token.now.from self.old) self.old self.new }
     {
-        let Some(word) = seen::plain(bytes, token) else {
-            return expected(Wanted::Role, token.from);
+        let Some(word) = token.plain() else {
+            return expected(Wanted::Role, token.from());
         };
-        let role = seen::role(self.roles, word);
-        self.played_by(role, token.from)
+        let role = role_named(self.roles, word);
+        self.played_by(role, token.from())
     }
 
     fn played_by(&mut self, role: Option<Role>, at: usize) -> Result<(), Stop>
@@ -389,19 +405,17 @@ impl<'a> Reader<'a> {
     }
 
     /// A further act, by its peer, or the end of the acts.
-    fn act(&mut self, bytes: &[u8], token: Token) -> Result<(), Stop>
-        requires ordered { token.from ≤ token.until }
-        requires within { token.until ≤ length bytes.now }
-        ensures { spec.Feeds result (spec.feed_act (plain_text (sign_of token.kind (text_of bytes.now token))) (spec.is_close_bracket (sign_of token.kind (text_of bytes.now token))) token.from self.old) self.old self.new }
+    fn act(&mut self, token: &TextToken) -> Result<(), Stop>
+        ensures { spec.Feeds result (spec.feed_act (plain_text token.now.sign) (spec.is_close_bracket token.now.sign) token.now.from self.old) self.old self.new }
     {
-        let Some(word) = seen::plain(bytes, token) else {
+        let Some(word) = token.plain() else {
             let acts = self.node.pending.as_slice();
-            let right = is_close_bracket(bytes, token) && has_no_acts(acts);
+            let right = is_close_bracket(token) && has_no_acts(acts);
             let wanted = act_wanted(acts);
-            return self.pass(right, wanted, Mode::AtAbove, token.from);
+            return self.pass(right, wanted, Mode::AtAbove, token.from());
         };
-        let peer = seen::role(self.roles, word);
-        self.met_by(peer, token.from)
+        let peer = role_named(self.roles, word);
+        self.met_by(peer, token.from())
     }
 
     fn met_by(&mut self, peer: Option<Role>, at: usize) -> Result<(), Stop>
@@ -424,16 +438,14 @@ impl<'a> Reader<'a> {
         Ok(())
     }
 
-    fn label(&mut self, peer: Role, kind: Kind, bytes: &[u8], token: Token) -> Result<(), Stop>
-        requires ordered { token.from ≤ token.until }
-        requires within { token.until ≤ length bytes.now }
-        ensures { spec.Feeds result (spec.feed_label peer kind (word_text (sign_of token.kind (text_of bytes.now token))) token.from self.old) self.old self.new }
+    fn label(&mut self, peer: Role, kind: Kind, token: &TextToken) -> Result<(), Stop>
+        ensures { spec.Feeds result (spec.feed_label peer kind (word_text token.now.sign) token.now.from self.old) self.old self.new }
     {
-        let Some(word) = seen::word(bytes, token) else {
-            return expected(Wanted::Label, token.from);
+        let Some(word) = token.word() else {
+            return expected(Wanted::Label, token.from());
         };
-        let label = seen::label(self.labels.as_slice(), word);
-        self.labelled_by(label, peer, kind, word, token.from)
+        let label = label_named(self.labels.as_slice(), word);
+        self.labelled_by(label, peer, kind, word, token.from())
     }
 
     fn labelled_by(
@@ -467,26 +479,17 @@ impl<'a> Reader<'a> {
         Ok(())
     }
 
-    fn sort(
-        &mut self,
-        peer: Role,
-        kind: Kind,
-        label: Label,
-        bytes: &[u8],
-        token: Token,
-    ) -> Result<(), Stop>
-        requires ordered { token.from ≤ token.until }
-        requires within { token.until ≤ length bytes.now }
-        ensures { spec.Feeds result (spec.feed_sort peer kind label (plain_text (sign_of token.kind (text_of bytes.now token))) (spec.is_close_paren (sign_of token.kind (text_of bytes.now token))) token.from self.old) self.old self.new }
+    fn sort(&mut self, peer: Role, kind: Kind, label: Label, token: &TextToken) -> Result<(), Stop>
+        ensures { spec.Feeds result (spec.feed_sort peer kind label (plain_text token.now.sign) (spec.is_close_paren token.now.sign) token.now.from self.old) self.old self.new }
     {
-        let Some(word) = seen::plain(bytes, token) else {
-            if is_close_paren(bytes, token) {
+        let Some(word) = token.plain() else {
+            if is_close_paren(token) {
                 return self.pend(peer, kind, label, Sort::Unit);
             }
-            return expected(Wanted::SortOrCloseParen, token.from);
+            return expected(Wanted::SortOrCloseParen, token.from());
         };
         let sort = seen::sort(word);
-        self.sorted_by(sort, peer, kind, label, token.from)
+        self.sorted_by(sort, peer, kind, label, token.from())
     }
 
     fn sorted_by(
@@ -612,44 +615,51 @@ impl<'a> Reader<'a> {
         expected(Wanted::CommaOrCloseBracket, at)
     }
 
-    /// Takes one token of the text: from the head, and of a node as far as its acts ..
-    pub fn feed(&mut self, bytes: &[u8], token: Token) -> Result<(), Stop>
-        requires ordered { token.from ≤ token.until }
-        requires within { token.until ≤ length bytes.now }
-        requires small { IsSmall (sign_of token.kind (text_of bytes.now token)) }
-        ensures { spec.Feeds result (spec.feed_of (sign_of token.kind (text_of bytes.now token)) token.from self.old) self.old self.new }
+    /// Takes one token of the text, whatever stands behind it.
+    pub fn feed(&mut self, token: &TextToken) -> Result<(), Stop>
+        ensures { (next : Lexeme) → spec.Feeds result (feed_sign spec.feeding token.now.sign token.now.from next self.old) self.old self.new }
     {
-        let at = token.from;
+        match token.terminal() {
+            Terminal::Faulty(kind) => fault(TextKind::from(kind), token.from()),
+            _ => self.feed_whole(token),
+        }
+    }
+
+    /// Takes one that isn't faulty: from the head, and of a node as far as its acts ..
+    fn feed_whole(&mut self, token: &TextToken) -> Result<(), Stop>
+        ensures { spec.Feeds result (spec.feed_of token.now.sign token.now.from self.old) self.old self.new }
+    {
+        let at = token.from();
         match self.mode {
             Mode::Derivation => {
-                let right = is_keyword(bytes, token, b"derivation");
+                let right = is_keyword(token, b"derivation");
                 self.pass(right, Wanted::DerivationOrEnd, Mode::AtRole, at)
             }
-            Mode::AtRole => self.own_role(bytes, token),
+            Mode::AtRole => self.own_role(token),
             Mode::AtBoundWord => {
-                let right = is_keyword(bytes, token, b"bound");
+                let right = is_keyword(token, b"bound");
                 self.pass(right, Wanted::Bound, Mode::AtBound, at)
             }
-            Mode::AtBound => self.bound(value(bytes, token), at),
+            Mode::AtBound => self.bound(value(token), at),
             Mode::AtBrace => {
-                let right = is_open_brace(bytes, token);
+                let right = is_open_brace(token);
                 self.pass(right, Wanted::OpenBrace, Mode::AtNode, at)
             }
-            Mode::AtNode => self.node(value(bytes, token), is_close_brace(bytes, token), at),
+            Mode::AtNode => self.node(value(token), is_close_brace(token), at),
             Mode::AtColon => {
-                let right = is_colon(bytes, token);
+                let right = is_colon(token);
                 self.pass(right, Wanted::Colon, Mode::AtState, at)
             }
-            Mode::AtState => self.state(value(bytes, token), at),
+            Mode::AtState => self.state(value(token), at),
             Mode::AtActs => {
-                let right = is_open_bracket(bytes, token);
+                let right = is_open_bracket(token);
                 self.pass(right, Wanted::OpenBracket, Mode::AtAct, at)
             }
-            Mode::AtAct => self.act(bytes, token),
-            Mode::AtMark { peer } => self.mark(peer, mark_kind(bytes, token), at),
-            Mode::AtLabel { peer, kind } => self.label(peer, kind, bytes, token),
+            Mode::AtAct => self.act(token),
+            Mode::AtMark { peer } => self.mark(peer, mark_kind(token), at),
+            Mode::AtLabel { peer, kind } => self.label(peer, kind, token),
             Mode::AtParen { peer, kind, label } => {
-                let right = is_open_paren(bytes, token);
+                let right = is_open_paren(token);
                 self.pass(
                     right,
                     Wanted::OpenParen,
@@ -657,13 +667,13 @@ impl<'a> Reader<'a> {
                     at,
                 )
             }
-            Mode::AtSort { peer, kind, label } => self.sort(peer, kind, label, bytes, token),
+            Mode::AtSort { peer, kind, label } => self.sort(peer, kind, label, token),
             Mode::CloseParen {
                 peer,
                 kind,
                 label,
                 sort,
-            } => self.close_paren(peer, kind, label, sort, is_close_paren(bytes, token), at),
+            } => self.close_paren(peer, kind, label, sort, is_close_paren(token), at),
             Mode::BehindAct
             | Mode::AtAbove
             | Mode::AtRankWord
@@ -672,41 +682,38 @@ impl<'a> Reader<'a> {
             | Mode::AtNexts
             | Mode::AtNext
             | Mode::BehindNext
-            | Mode::Behind => self.feed_rest(bytes, token),
+            | Mode::Behind => self.feed_rest(token),
         }
     }
 
     /// .. and of a node from behind an act.
-    fn feed_rest(&mut self, bytes: &[u8], token: Token) -> Result<(), Stop>
-        requires ordered { token.from ≤ token.until }
-        requires within { token.until ≤ length bytes.now }
-        requires small { IsSmall (sign_of token.kind (text_of bytes.now token)) }
-        ensures { spec.Feeds result (spec.feed_rest self.old.mode (sign_of token.kind (text_of bytes.now token)) token.from self.old) self.old self.new }
+    fn feed_rest(&mut self, token: &TextToken) -> Result<(), Stop>
+        ensures { spec.Feeds result (spec.feed_rest self.old.mode token.now.sign token.now.from self.old) self.old self.new }
     {
-        let at = token.from;
+        let at = token.from();
         match self.mode {
             Mode::BehindAct => {
-                let goes = is_comma(bytes, token);
-                self.behind_act(goes, is_close_bracket(bytes, token), at)
+                let goes = is_comma(token);
+                self.behind_act(goes, is_close_bracket(token), at)
             }
-            Mode::AtAbove => self.above(value(bytes, token), at),
+            Mode::AtAbove => self.above(value(token), at),
             Mode::AtRankWord => {
-                let right = is_keyword(bytes, token, b"rank");
+                let right = is_keyword(token, b"rank");
                 self.pass(right, Wanted::Rank, Mode::AtRank, at)
             }
-            Mode::AtRank => self.rank(value(bytes, token), at),
+            Mode::AtRank => self.rank(value(token), at),
             Mode::AtNextWord => {
-                let right = is_keyword(bytes, token, b"next");
+                let right = is_keyword(token, b"next");
                 self.pass(right, Wanted::Next, Mode::AtNexts, at)
             }
             Mode::AtNexts => {
-                let right = is_open_bracket(bytes, token);
+                let right = is_open_bracket(token);
                 self.pass(right, Wanted::OpenBracket, Mode::AtNext, at)
             }
-            Mode::AtNext => self.next(value(bytes, token), is_close_bracket(bytes, token), at),
+            Mode::AtNext => self.next(value(token), is_close_bracket(token), at),
             Mode::BehindNext => {
-                let goes = is_comma(bytes, token);
-                self.behind_next(goes, is_close_bracket(bytes, token), at)
+                let goes = is_comma(token);
+                self.behind_next(goes, is_close_bracket(token), at)
             }
             _ => expected(Wanted::DerivationOrEnd, at),
         }

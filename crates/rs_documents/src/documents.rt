@@ -4,9 +4,7 @@ ghost use Rattle.rs_documents.specs.Documents.{FirstFault, SpellsDocument, fault
 ghost use Rattle.rs_documents.specs.Parts.{GoesOn, Row, StandsAt, derivation_parts, machine_parts, no_parts, with_part};
 ghost use Rattle.rs_documents.specs.Reading as spec;
 ghost use Rattle.rs_documents.specs.Reading.{AreGood, DerivationsAreHeld, IsAdded, IsBounded, IsReady, IsShort, MachinesAreHeld, role_at};
-ghost use Rattle.rs_model.specs.declared.limits.TheConstants.{MOST_ROLES};
-ghost use Rattle.rs_text.specs.Lexemes.{is_last};
-ghost use Rattle.rs_text.specs.Lexing.{lexeme_of, next_lexeme, sign_of, text_of};
+ghost use Rattle.rs_text.specs.Lexing.{next_lexeme};
 ghost use Rattle.rs_text.specs.Signs.{plain};
 ghost use Rattle.rs_text.specs.declared.faults.TextKind.TheVariants as kind;
 ghost use Rattle.std.specs.Prelude.{◌≡◌, ◌≤◌, ◌⊎◌, length, Err, IfErr, IfOk, IfSome, Ok, OnOk, Some, codes, false, slice_get, slice_set};
@@ -16,7 +14,7 @@ use rs_derive::Derivation;
 use rs_global::read_protocol;
 use rs_machines::read_machine;
 use rs_model::{Machine, Name, Names, NoMemory, Protocol, Role};
-use rs_text::{Kind, Lexer, TextFault, TextKind, Token, Wanted, seen};
+use rs_text::{Terminal, TextFault, TextKind, TextToken, Wanted, find, next_token};
 use std::alloc::Global;
 use std::marker::Model;
 
@@ -39,12 +37,10 @@ impl Model for Document {
 }
 
 /// Whether the token is this word, which is neither `rec` nor `end`.
-fn is_word(bytes: &[u8], token: Token, word: &[u8]) -> bool
-    requires ordered { token.from ≤ token.until }
-    requires within { token.until ≤ length bytes.now }
-    ensures { result ≡ spec.is_word word.now (sign_of token.kind (text_of bytes.now token)) }
+fn is_word(token: &TextToken, word: &[u8]) -> bool
+    ensures { result ≡ spec.is_word word.now token.now.sign }
 {
-    match seen::plain(bytes, token) {
+    match token.plain() {
         Some(text) => text == word,
         None => false,
     }
@@ -55,23 +51,14 @@ fn begins_with(bytes: &[u8], at: usize, word: &[u8]) -> bool
     requires { at ≤ length bytes.now }
     ensures { result ≡ spec.is_word word.now (next_lexeme bytes.now at).sign }
 {
-    let mut lexer = Lexer::new(bytes, at);
-    match lexer.next() {
-        Ok(token) => is_word(bytes, token, word),
-        Err(_) => false,
-    }
+    is_word(&next_token(bytes, at), word)
 }
 
 /// The place of the role that the token names.
-fn role_at(names: &Names, bytes: &[u8], token: Token) -> Option<usize>
-    requires ordered { token.from ≤ token.until }
-    requires within { token.until ≤ length bytes.now }
-    requires roles { length names.now.roles ≤ MOST_ROLES }
-    ensures { result ≡ role_at names.now (lexeme_of bytes.now token) }
+fn role_at(names: &Names, token: &TextToken) -> Option<usize>
+    ensures { result ≡ role_at names.now token.now }
 {
-    let name = seen::plain(bytes, token)?;
-    let role = seen::role(names.roles.as_slice(), name)?;
-    Some(usize::from(role.0))
+    find(names.roles.as_slice(), token.plain()?)
 }
 
 fn is_held<T>(parts: &[Option<T>], place: usize) -> bool
@@ -84,16 +71,13 @@ fn is_held<T>(parts: &[Option<T>], place: usize) -> bool
 }
 
 /// The offset of the token, where it is a role that has a part.
-fn twice_of<T>(names: &Names, parts: &[Option<T>], bytes: &[u8], token: Token) -> Option<usize>
-    requires ordered { token.from ≤ token.until }
-    requires within { token.until ≤ length bytes.now }
-    requires roles { length names.now.roles ≤ MOST_ROLES }
-    ensures twice { result ≡ spec.twice_of names.now parts.now (lexeme_of bytes.now token) }
-    ensures place { IfSome result (λ offset. offset ≤ length bytes.now) }
+fn twice_of<T>(names: &Names, parts: &[Option<T>], token: &TextToken) -> Option<usize>
+    ensures twice { result ≡ spec.twice_of names.now parts.now token.now }
+    ensures place { IfSome result (λ offset. offset ≡ token.now.from) }
 {
-    let place = role_at(names, bytes, token)?;
+    let place = role_at(names, token)?;
     if is_held(parts, place) {
-        Some(token.from)
+        Some(token.from())
     } else {
         None
     }
@@ -101,20 +85,13 @@ fn twice_of<T>(names: &Names, parts: &[Option<T>], bytes: &[u8], token: Token) -
 
 /// The offset of the second token of the part at the offset, where it is a role that has a part.
 fn twice_at<T>(names: &Names, parts: &[Option<T>], bytes: &[u8], at: usize) -> Option<usize>
-    requires within { at ≤ length bytes.now }
-    requires roles { length names.now.roles ≤ MOST_ROLES }
-    requires whole { is_last (next_lexeme bytes.now at).sign ≡ false }
+    requires { at ≤ length bytes.now }
     ensures twice { result ≡ spec.twice_of names.now parts.now (next_lexeme bytes.now (next_lexeme bytes.now at).until) }
     ensures place { IfSome result (λ offset. offset ≤ length bytes.now) }
 {
-    let mut lexer = Lexer::new(bytes, at);
-    if lexer.next().is_err() {
-        return None;
-    }
-    match lexer.next() {
-        Ok(token) => twice_of(names, parts, bytes, token),
-        Err(_) => None,
-    }
+    let first = next_token(bytes, at);
+    let second = next_token(bytes, first.until());
+    twice_of(names, parts, &second)
 }
 
 /// Puts the part into its role's place.
@@ -274,11 +251,10 @@ fn fault_behind(bytes: &[u8], at: usize, wanted: Wanted) -> Option<TextKind>
     requires { at ≤ length bytes.now }
     ensures { result ≡ fault_behind wanted (next_lexeme bytes.now at).sign }
 {
-    let mut lexer = Lexer::new(bytes, at);
-    match lexer.next() {
-        Ok(token) if token.kind == Kind::Finish => None,
-        Ok(_) => Some(TextKind::Expected(wanted)),
-        Err(fault) => Some(TextKind::from(fault.kind)),
+    match next_token(bytes, at).terminal() {
+        Terminal::Finish => None,
+        Terminal::Faulty(kind) => Some(TextKind::from(kind)),
+        _ => Some(TextKind::Expected(wanted)),
     }
 }
 

@@ -1,5 +1,6 @@
 pub mod Values
 pub mod Fronts
+pub mod TokenKinds
 pub mod Gaps
 pub mod Starts
 pub mod Nexts

@@ -14,7 +14,7 @@ use Rattle.rs_text.proofs.Gaps.{Passed, passed, passes, true_or_false}
 use Rattle.rs_text.proofs.Starts.{Fits, front_fits, token_stops, token_front}
 
 -- what stands behind a gap
-behind_gap : (bytes : List ℕ) (at n : ℕ) (gap behind : List ℕ) → drop at bytes ≡ gap ++ behind → n ≡ length gap → drop (at + n) bytes ≡ behind
+pub behind_gap : (bytes : List ℕ) (at n : ℕ) (gap behind : List ℕ) → drop at bytes ≡ gap ++ behind → n ≡ length gap → drop (at + n) bytes ≡ behind
 behind_gap bytes at n gap behind parts size = rw (← drop-drop n at bytes, parts, size) (drop-append_seam gap behind)
 
 next_at : (bytes : List ℕ) (at n : ℕ) (p : Passed (drop at bytes) n) → Fits (front_of p.behind) p.behind → IsNext bytes at (placed (at + n) (front_of p.behind))
@@ -126,7 +126,7 @@ end_again bytes = let none = add-zero (length bytes) in rw (drop-length bytes, n
 
 -- ---- words
 
-not_same : (text name : List ℕ) → text ≢ name → bytes_eq text name ≡ false
+pub not_same : (text name : List ℕ) → text ≢ name → bytes_eq text name ≡ false
 not_same text name apart = elim (true_or_false (bytes_eq text name)) [
   | inl e ↦ absurd (apart ((bytes_eq-Decides text name).0 e))
   | inr e ↦ e

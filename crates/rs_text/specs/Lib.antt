@@ -15,6 +15,7 @@ pub mod Arms
 pub mod ArmCuts
 pub mod Shown
 pub mod Seen
+pub mod Terminals
 pub mod FirstFaults
 pub mod Readings
 pub mod Writing

@@ -1,11 +1,11 @@
 ghost use Rattle.std.specs.Prelude.{◌≡◌, ◌+◌, ◌-◌, ◌*◌, ◌<◌, ◌≤◌, ◌∷◌, [], length, take, drop, nat_lt, if◌then◌else◌, Some, None, OnErr, IfErr, IfOk, IfSome, IfNone, false, true};
 ghost use Rattle.rs_text.specs.Bytes as bytes;
 ghost use Rattle.rs_text.specs.Lexemes.{value_behind, value_of};
-ghost use Rattle.rs_text.specs.Lexing.{front, front_of, mark_front, word_front, number_front, sign_of, skipped, word_length, number_length, next_lexeme, lexeme_of, broken_at};
-ghost use Rattle.rs_text.specs.Signs.{broken};
-ghost use Rattle.rs_text.specs.declared.tokens.FaultKind.TheVariants as fault;
+ghost use Rattle.rs_text.specs.Lexing.{front, front_of, mark_front, word_front, number_front, skipped, word_length, number_length, next_lexeme, lexeme_of, broken_at};
+ghost use Rattle.rs_text.specs.Signs.{word_sign};
+ghost use Rattle.rs_text.specs.Terminals.{terminal_sign};
 
-use crate::{Fault, FaultKind, Kind, Token};
+use crate::{Fault, FaultKind, Terminal, TextToken, Token};
 use memchr::memchr;
 use rs_model::MOST_NAME_BYTES;
 use std::marker::Model;
@@ -47,42 +47,40 @@ impl<'a> Lexer<'a> {
         ensures moved { IfOk result (λ t. self.new ≡ record { bytes = self.old.bytes; at = t.until }) }
         ensures stays { OnErr result (self.new ≡ self.old) }
     {
-        let token = next_token(self.bytes, self.at)?;
-        self.at = token.until;
-        Ok(token)
-    }
-
-    /// The offset of the next token, or of the faulty one there.
-    #[tactic(auto, using(crate::proofs::Standing::from_within))]
-    pub fn next_offset(&self) -> usize
-        ensures offset { result ≡ (next_lexeme self.now.bytes self.now.at).from }
-        ensures within { result ≤ length self.now.bytes }
-    {
-        match next_token(self.bytes, self.at) {
-            Ok(token) => token.from,
-            Err(fault) => fault.at,
+        let next = next_token(self.bytes, self.at);
+        match next.kind() {
+            Ok(kind) => {
+                self.at = next.until;
+                Ok(Token {
+                    kind,
+                    from: next.from,
+                    until: next.until,
+                })
+            }
+            Err(kind) => Err(Fault {
+                kind,
+                at: next.from,
+            }),
         }
     }
 }
 
-fn next_token(bytes: &[u8], at: usize) -> Result<Token, Fault>
+/// The next token from the offset `at` on, which is at most the length, or what stands in place of one.
+pub fn next_token(bytes: &[u8], at: usize) -> TextToken<'_>
     requires { at ≤ length bytes.now }
-    ensures token { IfOk result (λ t. next_lexeme bytes.now at ≡ lexeme_of bytes.now t) }
-    ensures fault { IfErr result (λ f. next_lexeme bytes.now at ≡ broken_at f) }
-    ensures ahead { IfOk result (λ t. at ≤ t.from) }
-    ensures order { IfOk result (λ t. t.from ≤ t.until) }
-    ensures within { IfOk result (λ t. t.until ≤ length bytes.now) }
+    ensures token { result ≡ next_lexeme bytes.now at }
+    ensures ahead { at ≤ result.from }
+    ensures order { result.from ≤ result.until }
+    ensures within { result.until ≤ length bytes.now }
 {
     let (_, rest) = bytes.split_at(at);
     let from = at + gap(rest);
     let (_, here) = bytes.split_at(from);
-    match token_in_front(here) {
-        Ok((kind, size)) => Ok(Token {
-            kind,
-            from,
-            until: from + size,
-        }),
-        Err(kind) => Err(Fault { kind, at: from }),
+    let (terminal, size) = terminal_in_front(here);
+    TextToken {
+        terminal,
+        from,
+        until: from + size,
     }
 }
 
@@ -137,65 +135,73 @@ fn comment_size(bytes: &[u8]) -> usize
     }
 }
 
-/// The kind and the size of the token in front.
-fn token_in_front(bytes: &[u8]) -> Result<(Kind, usize), FaultKind>
-    ensures token { IfOk result (λ t. front_of bytes.now ≡ front (sign_of t.0 (take t.1 bytes.now)) t.1) }
-    ensures within { IfOk result (λ t. t.1 ≤ length bytes.now) }
-    ensures fault { IfErr result (λ kind. front_of bytes.now ≡ front (broken kind) 0) }
+/// What is in front, and its size. What is no token takes up no bytes.
+fn terminal_in_front(bytes: &[u8]) -> (Terminal<'_>, usize)
+    ensures front { front_of bytes.now ≡ front (terminal_sign result.0) result.1 }
+    ensures within { result.1 ≤ length bytes.now }
 {
     match bytes {
-        [] => Ok((Kind::Finish, 0)),
+        [] => (Terminal::Finish, 0),
         [first, ..] if is_letter(*first) => word_in_front(bytes),
         [first, ..] if is_digit(*first) => number_in_front(bytes),
-        [b'-', b'>', ..] => Ok((Kind::Arrow, 2)),
+        [b'-', b'>', ..] => (Terminal::Arrow, 2),
         [first, ..] => match mark(*first) {
-            Some(kind) => Ok((kind, 1)),
-            None => Err(FaultKind::BadByte),
+            Some(terminal) => (terminal, 1),
+            None => (Terminal::Faulty(FaultKind::BadByte), 0),
         },
     }
 }
 
-fn word_in_front(bytes: &[u8]) -> Result<(Kind, usize), FaultKind>
-    ensures token { IfOk result (λ t. word_front bytes.now (word_length bytes.now) ≡ front (sign_of t.0 (take t.1 bytes.now)) t.1) }
-    ensures within { IfOk result (λ t. t.1 ≤ length bytes.now) }
-    ensures fault { IfErr result (λ kind. word_front bytes.now (word_length bytes.now) ≡ front (broken kind) 0) }
+fn word_in_front(bytes: &[u8]) -> (Terminal<'_>, usize)
+    ensures front { word_front bytes.now (word_length bytes.now) ≡ front (terminal_sign result.0) result.1 }
+    ensures within { result.1 ≤ length bytes.now }
 {
-    let size = word_size(bytes);
-    if size > MOST_NAME_BYTES {
-        return Err(FaultKind::NameTooLong);
+    let (text, _) = bytes.split_at(word_size(bytes));
+    if text.len() > MOST_NAME_BYTES {
+        return (Terminal::Faulty(FaultKind::NameTooLong), 0);
     }
-    Ok((Kind::Word, size))
+    (word(text), text.len())
 }
 
-fn number_in_front(bytes: &[u8]) -> Result<(Kind, usize), FaultKind>
-    ensures token { IfOk result (λ t. number_front bytes.now (number_length bytes.now) ≡ front (sign_of t.0 (take t.1 bytes.now)) t.1) }
-    ensures within { IfOk result (λ t. t.1 ≤ length bytes.now) }
-    ensures fault { IfErr result (λ kind. number_front bytes.now (number_length bytes.now) ≡ front (broken kind) 0) }
+/// The word with this text.
+fn word(text: &[u8]) -> Terminal<'_>
+    ensures { terminal_sign result ≡ word_sign text.now }
+{
+    match text {
+        [b'r', b'e', b'c'] => Terminal::Rec,
+        [b'e', b'n', b'd'] => Terminal::End,
+        _ => Terminal::Plain(text),
+    }
+}
+
+fn number_in_front(bytes: &[u8]) -> (Terminal<'_>, usize)
+    ensures front { number_front bytes.now (number_length bytes.now) ≡ front (terminal_sign result.0) result.1 }
+    ensures within { result.1 ≤ length bytes.now }
 {
     let (digits, _) = bytes.split_at(number_size(bytes));
     match number(digits) {
-        Some(_) => Ok((Kind::Number, digits.len())),
-        None => Err(FaultKind::NumberTooLarge),
+        Some(value) => (Terminal::Number(value), digits.len()),
+        None => (Terminal::Faulty(FaultKind::NumberTooLarge), 0),
     }
 }
 
 /// The mark that the byte is.
-fn mark(byte: u8) -> Option<Kind>
-    ensures some { IfSome result (λ kind. mark_front byte ≡ front (sign_of kind (byte ∷ [])) 1) }
-    ensures none { IfNone result (mark_front byte ≡ front (broken fault.BadByte) 0) }
+fn mark(byte: u8) -> Option<Terminal<'static>>
+    ensures some { IfSome result (λ terminal. mark_front byte ≡ front (terminal_sign terminal) 1) }
+    ensures none { IfNone result (mark_front byte ≡ front (terminal_sign (Terminal.Faulty FaultKind.BadByte)) 0) }
 {
     match byte {
-        b'!' => Some(Kind::Bang),
-        b'?' => Some(Kind::Question),
-        b':' => Some(Kind::Colon),
-        b'.' => Some(Kind::Dot),
-        b',' => Some(Kind::Comma),
-        b'{' => Some(Kind::OpenBrace),
-        b'}' => Some(Kind::CloseBrace),
-        b'(' => Some(Kind::OpenParen),
-        b')' => Some(Kind::CloseParen),
-        b'[' => Some(Kind::OpenBracket),
-        b']' => Some(Kind::CloseBracket),
+        b'!' => Some(Terminal::Bang),
+        b'?' => Some(Terminal::Question),
+        b':' => Some(Terminal::Colon),
+        b'.' => Some(Terminal::Dot),
+        b',' => Some(Terminal::Comma),
+        b'{' => Some(Terminal::OpenBrace),
+        b'}' => Some(Terminal::CloseBrace),
+        b'(' => Some(Terminal::OpenParen),
+        b')' => Some(Terminal::CloseParen),
+        b'[' => Some(Terminal::OpenBracket),
+        b']' => Some(Terminal::CloseBracket),
         _ => None,
     }
 }

@@ -12,16 +12,18 @@ mod reading;
 pub mod seen;
 pub mod shown;
 mod tables;
+mod terminals;
 #[cfg(test)]
 mod tests;
 mod tokens;
 
 pub use bound::{Binding, bound_number, unbind};
 pub use faults::{TextFault, TextKind, Wanted};
-pub use lexing::{Lexer, number};
+pub use lexing::{Lexer, next_token, number};
 pub use names::{add, find, is_role_word, is_word, sound};
 pub use output::Text;
 pub use places::place;
 pub use reading::{Stop, expected, fault};
 pub use tables::NameTable;
+pub use terminals::{Terminal, TextToken};
 pub use tokens::{Fault, FaultKind, Kind, Token};
