@@ -141,11 +141,13 @@ fn work(
 
 // How many states most projections have: one for each talk that involves the role, and the end.
 fn usual_size(involved: &[bool]) -> usize {
-    involved
-        .iter()
-        .filter(|flag| **flag)
-        .count()
-        .saturating_add(1)
+    let mut size = 1;
+    for flag in involved {
+        if *flag {
+            size += 1;
+        }
+    }
+    size
 }
 
 fn state_of(

@@ -166,9 +166,9 @@ fn passing_nodes(alloc: Global, involved: &[bool], awaited: &[bool]) -> Result<V
     ensures size { IfOk result (λ v. length v.items ≡ length involved.now) }
     ensures each { IfOk result (λ v. (n : ℕ) → n < length involved.now → slice_index_or v.items n false ≡ (slice_index_or awaited.now n false && not (slice_index_or involved.now n false))) }
 {
-    let mut passing = Vec::with_capacity(alloc, involved.len())?;
+    let mut passing = vec![in alloc; false; involved.len()]?;
     for i in 0..involved.len() {
-        passing.push(awaited[i] && !involved[i])?;
+        passing[i] = awaited[i] && !involved[i];
     }
     Ok(passing)
 }
