@@ -5,7 +5,6 @@ use Rattle.std.specs.Int.{w64}
 use Rattle.std.specs.List.{enumerate_from}
 use Rattle.std.specs.Str.Parse.{AllDigits, IsNumeral, digits_value}
 use Rattle.std.specs.Prelude.{map, None}
-use Rattle.std.proofs.lemmas.Bool.{false≢true}
 use Rattle.std.proofs.lemmas.Bool.Decides.{leb_tells, eqb_tells}
 use Rattle.std.proofs.lemmas.Str.Parse.{digit_from_value}
 use Rattle.rs_demos.specs.Numbers.{AreAsked, IsNumber, SpellsNumbers, minus_text, takes_numbers, with_sign}

@@ -1,5 +1,5 @@
 -- What the members of a butterfly hold, round by round.
-use Rattle.std.proofs.Common.{◌≡◌, ◌≢◌, inl, inr, ℕ, zero, suc, ◌+◌, ◌/◌, ◌%◌, ◌<◌, Bool, true, false, not, ◌&&◌, ◌==◌, nat_lt, if◌then◌else◌, ℤ, ◌+ℤ◌, ◌-ℤ◌, neg_ℤ, List, [], ◌∷◌, ◌++◌, map, refl, sym, ap, ap₂, ◌∙◌, subst, arith, append_assoc}
+use Rattle.std.proofs.Common.{◌≡◌, ◌≢◌, inl, inr, ℕ, ◌+◌, ◌/◌, ◌%◌, ◌<◌, Bool, true, false, not, ◌&&◌, ◌==◌, nat_lt, if◌then◌else◌, ℤ, ◌+ℤ◌, ◌-ℤ◌, neg_ℤ, List, [], ◌∷◌, ◌++◌, map, refl, sym, ap, ap₂, ◌∙◌, subst, arith, append_assoc}
 use Rattle.std.specs.List.{list_all, range_with_len}
 use Rattle.std.proofs.lemmas.Bool.{and_parts, false≢true, ltb-true}
 use Rattle.std.proofs.lemmas.Bool.Decides.{eqb_tells}
@@ -15,6 +15,7 @@ use Rattle.rs_demos.specs.Results.{wrapped}
 use Rattle.rs_demos.specs.Sessions.{Exchange, role, partner}
 use Rattle.rs_demos.specs.declared.actors.DemoActor.{DemoActor}
 use Rattle.rs_demos.specs.declared.actors.DemoActor.TheVariants as actor
+use Rattle.rs_demos.proofs.Ranges.{in-range}
 use Rattle.rs_demos.proofs.Playing.{sents-cons, sents-skip, gots-cons, gots-skip}
 use Rattle.rs_demos.proofs.Trading.{Trades, script_got}
 
@@ -39,17 +40,6 @@ good_at n s later i = (nat_lt (partner s i) n && (partner s (partner s i) == i))
 abbrev pub are_good : ℕ → List ℕ → Bool
 are_good n [] = true
 are_good n (s ∷ later) = list_all (good_at n s later) (range_with_len 0 n) && are_good n later
-
-pub in-range : (p : ℕ → Bool) (many a i : ℕ) → list_all p (range_with_len a many) ≡ true → i < many → p (a + i) ≡ true
-in-range p zero a i h lt = absurd (omega arith)
-in-range p (suc many) a zero h lt =
-    let e : a ≡ a + 0 = omega arith in
-    let P : ℕ → Type 0 = λ z. p z ≡ true in
-    subst P e (and_parts (p a) (list_all p (range_with_len (a + 1) many)) h).0
-in-range p (suc many) a (suc i) h lt =
-    let e : (a + 1) + i ≡ a + suc i = omega arith in
-    let P : ℕ → Type 0 = λ z. p z ≡ true in
-    subst P e (in-range p many (a + 1) i (and_parts (p a) (list_all p (range_with_len (a + 1) many)) h).1 (omega arith))
 
 record Good (n s : ℕ) (later : List ℕ) (i : ℕ) : Type 0 where
   within : partner s i < n

@@ -7,6 +7,7 @@ pub mod Feeding
 pub mod FewActs
 pub mod Ran
 pub mod Ranges
+pub mod Few
 pub mod Canonical
 pub mod Trading
 pub mod Exchanged
@@ -19,3 +20,4 @@ pub mod Projected
 pub mod Printable
 pub mod Deciding
 pub mod SpeltDocuments
+pub mod Ready

@@ -1,12 +1,12 @@
 -- Projections whose numbers are in the order of discovery, by tests.
-use Rattle.std.proofs.Common.{◌≡◌, inl, inr, ℕ, zero, suc, ◌<◌, ◌≤◌, Bool, true, false, not, ◌&&◌, ◌||◌, ◌==◌, nat_lt, nat_le, if◌then◌else◌, List, [], ◌∷◌, length, map, Some, slice_get, bytes_eq, refl, sym, ap, ◌∙◌, subst}
+use Rattle.std.proofs.Common.{◌≡◌, inl, inr, ℕ, zero, suc, Bool, true, false, not, ◌&&◌, ◌||◌, ◌==◌, nat_lt, nat_le, if◌then◌else◌, List, [], ◌∷◌, length, map, Some, slice_get, bytes_eq, refl, sym, ap, ◌∙◌, subst}
 use Rattle.std.proofs.lemmas.Bool.{and_parts, false≢true, leb-true, ltb-true}
 use Rattle.std.proofs.lemmas.Bool.Decides.{eqb_tells}
 use Rattle.rs_model.specs.Data.{Protocol_data}
 use Rattle.rs_model.specs.declared.graph.Role.{Role}
 use Rattle.rs_project.specs.Data.{Projection_data}
 use Rattle.rs_project.specs.Numbered.{IsNumberedProjection, nexts_behind}
-use Rattle.rs_project.specs.Order.{IsOnce, Numbered, NoMore, Known, New, Worked, AllDone, Next}
+use Rattle.rs_project.specs.Order.{Numbered, NoMore, Known, New, Worked, AllDone, Next}
 use Rattle.rs_safety.proofs.Computed.{is_projection, projection-is}
 use Rattle.rs_text.proofs.Naming.{bytes_same}
 

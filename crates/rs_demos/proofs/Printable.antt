@@ -27,7 +27,7 @@ use Rattle.rs_demos.specs.Sessions.{has_session, demo_names, demo_protocol, writ
 use Rattle.rs_demos.specs.Texts.{document_of}
 use Rattle.rs_demos.specs.declared.kinds.Demo.{Demo}
 use Rattle.rs_demos.specs.declared.kinds.Demo.TheVariants as demo
-use Rattle.rs_demos.proofs.Exchanged.{in-range}
+use Rattle.rs_demos.proofs.Ranges.{in-range}
 
 -- tests
 
@@ -67,7 +67,7 @@ label-below k (x ∷ xs) zero a h e =
     subst P same (ltb-true x.label.0 k p.0)
 label-below k (x ∷ xs) (suc i) a h e = label-below k xs i a (and_parts (nat_lt x.label.0 k) (have_labels k xs) h).1 e
 
-at-all : {X : Type 0} (f : X → Bool) (xs : List X) (i : ℕ) (x : X) → list_all f xs ≡ true → slice_get xs i ≡ Some x → f x ≡ true
+pub at-all : {X : Type 0} (f : X → Bool) (xs : List X) (i : ℕ) (x : X) → list_all f xs ≡ true → slice_get xs i ≡ Some x → f x ≡ true
 at-all f [] i x h e = absurd (cc (e))
 at-all {X = X} f (y ∷ ys) zero x h e =
     let same : y ≡ x = cc (e) in

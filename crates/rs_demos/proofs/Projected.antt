@@ -9,7 +9,7 @@ use Rattle.rs_project.specs.Numbered.{IsNumberedProjection}
 use Rattle.rs_demos.specs.Sessions.{role, demo_protocol, demo_machines, has_line, has_session, double_protocol, double_source, double_sink, stream_protocol, stream_sink, ring_machine, butterfly_machine}
 use Rattle.rs_demos.specs.declared.kinds.Demo.{Demo}
 use Rattle.rs_demos.specs.declared.kinds.Demo.TheVariants as demo
-use Rattle.rs_demos.proofs.Exchanged.{in-range}
+use Rattle.rs_demos.proofs.Ranges.{in-range}
 use Rattle.rs_demos.proofs.Numbered.{is_numbered_projection, numbered-is}
 
 -- the machine is the projection onto role p

@@ -23,10 +23,9 @@ use Rattle.rs_demos.specs.declared.actors.DemoActor.TheVariants as actor
 use Rattle.rs_demos.specs.declared.kinds.Demo.TheVariants as demo
 use Rattle.rs_demos.specs.declared.parts.RingMember.{RingMember}
 use Rattle.rs_demos.proofs.Butterflies.{same-lists, mapped, many-mapped, start-states, whole-numbers}
-use Rattle.rs_demos.proofs.Exchanged.{in-range}
 use Rattle.rs_demos.proofs.Playing.{sents-cons, gots-cons}
 use Rattle.rs_demos.proofs.Ran.{Ran, ran, playing}
-use Rattle.rs_demos.proofs.Ranges.{mapped-at}
+use Rattle.rs_demos.proofs.Ranges.{in-range, mapped-at}
 use Rattle.rs_demos.proofs.Trading.{Trades, held, trades}
 
 -- what is sent and got

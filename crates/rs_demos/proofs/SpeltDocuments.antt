@@ -1,28 +1,24 @@
 -- A demo's text spells the demo's document.
-use Rattle.std.proofs.Common.{◌≡◌, ◌⊎◌, inl, inr, ℕ, zero, suc, ◌+◌, ◌<◌, ◌≤◌, Bool, true, false, not, ◌&&◌, ◌||◌, ◌==◌, nat_le, List, [], ◌∷◌, if◌then◌else◌, length, map, Option, Some, None, slice_get, refl, sym, ap, ◌∙◌, subst, arith}
+use Rattle.std.proofs.Common.{◌≡◌, ◌⊎◌, inl, inr, ℕ, zero, suc, ◌+◌, ◌<◌, ◌≤◌, Bool, true, false, ◌||◌, ◌==◌, nat_le, List, [], ◌∷◌, if◌then◌else◌, length, map, Some, None, slice_get, refl, sym, ap, ◌∙◌, subst, arith}
 use Rattle.std.specs.List.{list_all, range_with_len}
 use Rattle.std.proofs.lemmas.Bool.{and_parts, false≢true, leb-true}
-use Rattle.std.proofs.lemmas.Bool.Decides.{eqb_tells, leb_tells}
+use Rattle.std.proofs.lemmas.Bool.Decides.{eqb_tells}
 use Rattle.std.proofs.lemmas.List.{length-map}
 use Rattle.std.proofs.lemmas.Option.{slice_get_within}
-use Rattle.rs_derive.specs.Data.{Derivation_data}
-use Rattle.rs_documents.specs.Again.{CanBeReadAgain, HasAllLabels, HasLabel, StandInPlaces}
+use Rattle.rs_documents.specs.Again.{CanBeReadAgain, HasAllLabels, HasLabel}
 use Rattle.rs_documents.specs.Documents.{SpellsDocument}
-use Rattle.rs_documents.specs.Parts.{derivation_parts, machine_parts, no_parts}
 use Rattle.rs_documents.proofs.Again.{read_as_itself_by_protocol}
 use Rattle.rs_documents.proofs.Parts.{none_there}
 use Rattle.rs_model.specs.Data.{Machine_data, Protocol_data}
-use Rattle.rs_model.specs.declared.graph.Arm.{Arm}
 use Rattle.rs_model.specs.declared.graph.Node.{Node}
 use Rattle.rs_model.specs.declared.graph.Node.TheVariants.{Finished, Talk}
 use Rattle.rs_model.specs.declared.values.Sort.TheVariants as sort
-use Rattle.rs_demos.specs.Sessions.{arm, role, demo_machines, demo_names, demo_protocol, double_kernel, double_sink, double_source, has_line, has_session, stream_sink, stream_source, written, written_machines, ring_machine, butterfly_machine, role_name, numbers_from}
+use Rattle.rs_demos.specs.Sessions.{arm, role, demo_machines, demo_names, demo_protocol, double_kernel, double_sink, double_source, has_line, has_session, stream_sink, stream_source, written, ring_machine, butterfly_machine, role_name, numbers_from}
 use Rattle.rs_demos.specs.Texts.{IsDemoText, document_of}
 use Rattle.rs_demos.specs.declared.kinds.Demo.{Demo}
 use Rattle.rs_demos.specs.declared.kinds.Demo.TheVariants as demo
-use Rattle.rs_demos.proofs.Exchanged.{in-range}
 use Rattle.rs_demos.proofs.Printable.{printable}
-use Rattle.rs_demos.proofs.Ranges.{mapped-at}
+use Rattle.rs_demos.proofs.Ranges.{in-range, mapped-at}
 
 -- ---- machines stand in their roles' places
 

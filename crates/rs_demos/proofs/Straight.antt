@@ -12,7 +12,6 @@ use Rattle.rs_model.specs.declared.machines.State.TheVariants.{Done, Puts, Takes
 use Rattle.rs_model.specs.declared.values.Sort.TheVariants as sort
 use Rattle.rs_global.specs.Canonical as protocol
 use Rattle.rs_global.specs.Texts as protocol_texts
-use Rattle.rs_global.specs.Trees as protocol_trees
 use Rattle.rs_bodies.specs.Dialects.{sends_to}
 use Rattle.rs_bodies.specs.Canonical.{Draws}
 use Rattle.rs_bodies.specs.Places.{choice, place_of_node, place_of_state, places_of_protocol, places_of_machine, IsGoneBackTo}
@@ -30,7 +29,6 @@ use Rattle.rs_bodies.specs.declared.dialects.Dialect.TheVariants.{Talks, Acts}
 use Rattle.rs_bodies.specs.Dialects.{with_mark}
 use Rattle.rs_machines.specs.Canonical.{IsCanonicalMachineText}
 use Rattle.rs_machines.specs.Texts as machine_texts
-use Rattle.rs_machines.specs.Trees as machine_trees
 use Rattle.rs_bodies.specs.declared.dialects.Mark.TheVariants as mark
 use Rattle.rs_demos.specs.Sessions.{demo_names, Exchange, role, arm, machine, role_name, numbers_from, nodes_from, states_from, protocol_of, has_session, ring_exchanges, ring_pairs, butterfly_exchanges, butterfly_pairs, written}
 use Rattle.rs_documents.specs.Canonical.{AreCanonicalMachines}
@@ -39,9 +37,8 @@ use Rattle.rs_demos.specs.Texts.{IsDemoText}
 use Rattle.rs_demos.specs.Writing.{exchanges_text, pairs_text, other_name, machine_line, front_text, ring_line, butterfly_line, ring_text, butterfly_text}
 use Rattle.rs_demos.specs.declared.kinds.Demo.{Demo}
 use Rattle.rs_demos.specs.declared.kinds.Demo.TheVariants as demo
-use Rattle.rs_demos.proofs.Exchanged.{in-range}
 use Rattle.rs_demos.proofs.Playing.{only-arm}
-use Rattle.rs_demos.proofs.Ranges.{mapped-at}
+use Rattle.rs_demos.proofs.Ranges.{in-range, mapped-at}
 
 -- texts
 

@@ -69,7 +69,7 @@ fn butterfly(alloc: Global, roles: u8) -> Result<Text, NoMemory>
     Ok(text)
 }
 
-fn push_role(text: &mut Text, role: u8) -> Result<(), NoMemory>
+pub(crate) fn push_role(text: &mut Text, role: u8) -> Result<(), NoMemory>
     ensures { OnOk result (text.new ≡ text.old ++ role_name role) }
 {
     text.push(b"R")?;
@@ -174,7 +174,7 @@ fn push_ring_machines(text: &mut Text, roles: u8) -> Result<(), NoMemory>
     Ok(())
 }
 
-fn is_clear(step: u8, role: u8) -> bool
+pub(crate) fn is_clear(step: u8, role: u8) -> bool
     requires { 1 ≤ step }
     ensures { result ≡ is_clear step role }
 {
@@ -182,7 +182,7 @@ fn is_clear(step: u8, role: u8) -> bool
 }
 
 /// The role whose number differs in that bit.
-fn partner(step: u8, role: u8) -> u8
+pub(crate) fn partner(step: u8, role: u8) -> u8
     requires step { (1 ≤ step) × (step ≤ 8) }
     requires role { role < MOST_ROLES }
     ensures { result ≡ partner step role }

@@ -4,11 +4,13 @@
 
 mod actors;
 mod documents;
+mod exchanges;
 mod kinds;
 pub mod laws;
 mod numbers;
 mod outputs;
 mod parts;
+mod sessions;
 mod starts;
 #[cfg(test)]
 mod tests;
@@ -16,6 +18,7 @@ mod tests;
 pub use actors::DemoActor;
 pub use documents::demo_document;
 pub use kinds::{Demo, DemoFault};
-pub use outputs::demo_output;
+pub use outputs::{demo_output, into_demo_output};
 pub use parts::{ButterflyMember, Kernel, PIECE_BYTES, RingMember, Sink, Source};
+pub use sessions::demo_session_document;
 pub use starts::demo_actors;

@@ -26,6 +26,28 @@ pub fn demo_output(alloc: Global, kind: Demo, actors: &[DemoActor]) -> Result<Te
     Ok(text)
 }
 
+/// The same of actors that it takes: the bytes that the sink has joined are handed on, and not copied.
+pub fn into_demo_output(alloc: Global, kind: Demo, actors: Vec<DemoActor>) -> Result<Text, NoMemory>
+    ensures { IfOk result (λ text. text ≡ output_of kind actors.items) }
+{
+    match kind {
+        Demo::Double => Ok(into_bytes_at(alloc, actors, 2)),
+        Demo::Stream => Ok(into_bytes_at(alloc, actors, 1)),
+        Demo::Ring | Demo::Butterfly => demo_output(alloc, kind, actors.as_slice()),
+    }
+}
+
+fn into_bytes_at(alloc: Global, mut actors: Vec<DemoActor>, place: usize) -> Text
+    ensures { result ≡ bytes_of (slice_get actors.items place) }
+{
+    if place < actors.len() {
+        if let DemoActor::Sink(sink) = actors.swap_remove(place) {
+            return sink.into_text();
+        }
+    }
+    Text::new(alloc)
+}
+
 fn bytes_at(actors: &[DemoActor], place: usize) -> &[u8]
     ensures { result.now ≡ bytes_of (slice_get actors.now place) }
 {

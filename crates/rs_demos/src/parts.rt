@@ -112,6 +112,12 @@ impl Sink {
     {
         self.bytes.as_slice()
     }
+
+    pub(crate) fn into_text(self) -> Text
+        ensures { result ≡ self }
+    {
+        self.bytes
+    }
 }
 
 /// A role of the ring: the number that came last, at first its own, and the sum of its own and all that came.
