@@ -1,20 +1,34 @@
 -- What is known of a demo that is ready to be run.
-use Rattle.std.proofs.Common.{◌≡◌, ℕ, ◌≤◌, List, length, Option, sym, ◌∙◌, arith}
+use Rattle.std.proofs.Common.{◌≡◌, ℕ, ◌≤◌, List, length, Option, subst, sym, ◌∙◌, arith}
 use Rattle.rs_answers.specs.Data.{Answer_data}
+use Rattle.rs_answers.specs.Derivations.{AreCanonical}
 use Rattle.rs_answers.specs.RunSessions.{HasCome, IsThereWhere}
+use Rattle.rs_answers.specs.Sessions.{HasMachines}
 use Rattle.rs_answers.proofs.AcceptedSessions.{is_accepted}
 use Rattle.rs_answers.proofs.RunSessions.{still_there}
 use Rattle.rs_demo_answers.specs.DemoSessions.{WasPerformed, WasRunByActors}
 use Rattle.rs_demo_answers.specs.Demos.{AnswersDemo, IsDocument, IsAccepted, Performs}
 use Rattle.rs_demo_answers.specs.Openings.{IsReadyToRun, NeverStopped}
 use Rattle.rs_demo_answers.specs.declared.openings.ReadyDemo.{ReadyDemo}
-use Rattle.rs_demo_answers.proofs.Opening.{role_each}
+use Rattle.rs_demo_answers.proofs.Opening.{role_each, some_opening}
 use Rattle.rs_demo_answers.proofs.Stopping.{never_stopped}
+use Rattle.rs_demos.specs.Starts.{StartsWithActors}
+use Rattle.rs_demos.specs.Texts.{document_of}
 use Rattle.rs_demos.specs.declared.kinds.Demo.{Demo}
+use Rattle.rs_documents.specs.Data.{Document_data}
+use Rattle.rs_documents.specs.Documents.{SpellsDocument}
 use Rattle.rs_model.specs.declared.limits.TheConstants.{MOST_BYTES}
 use Rattle.rs_rings.specs.Closed.{Closed_data}
 use Rattle.rs_safety.specs.Accepting.{IsAcceptedSession}
 use Rattle.rs_words.specs.declared.limits.TheConstants.{DEFAULT_BOUND}
+
+-- a demo with its own document and the session of that is ready
+pub ready_to_run : (kind : Demo) (bytes : List ℕ) (ready : ReadyDemo) → StartsWithActors kind bytes ready.actors.items → ready.document ≡ document_of kind (length ready.actors.items)
+    → HasMachines ready.document ready.session.projections.items ready.session.machines.items → AreCanonical DEFAULT_BOUND ready.session.machines.items ready.session.projections.items ready.session.derivations.items
+    → IsReadyToRun kind bytes ready
+ready_to_run kind bytes ready starts own has canonical =
+    let o = some_opening kind bytes ready.actors.items starts in
+    record { text = o.text; opens = o.opens; spells = subst (λ (d : Document_data). SpellsDocument o.text d) (sym own) o.spells; has = has; canonical = canonical }
 
 module _ (kind : Demo) (bytes : List ℕ) (ready : ReadyDemo) (is : IsReadyToRun kind bytes ready) where
   -- its session is accepted

@@ -12,7 +12,9 @@ use Rattle.rs_demos.specs.declared.actors.DemoActor.{DemoActor}
 use Rattle.rs_demos.specs.declared.kinds.Demo.{Demo}
 use Rattle.rs_demos.specs.declared.kinds.Demo.TheVariants as demo
 use Rattle.rs_demos.specs.Texts.{document_of}
+use Rattle.rs_demos.proofs.Printable.{printable}
 use Rattle.rs_demos.proofs.SpeltDocuments.{spelt_document}
+use Rattle.rs_documents.proofs.OneCanonical.{some_text}
 use Rattle.rs_documents.proofs.OneDocument.{one_document}
 use Rattle.rs_documents.specs.Data.{Document_data}
 use Rattle.rs_documents.specs.Documents.{SpellsDocument}
@@ -59,3 +61,15 @@ pub role_each : (kind : Demo) (bytes : List ℕ) (actors : List DemoActor) (text
 role_each kind bytes actors text d o h =
     let s = has_session_for kind bytes actors o.starts in
     sym s.roles ∙ ap (λ (x : Document_data). x.protocol.roles) (one_document text (document_of kind (length actors)) d (spelt_document kind (length actors) text s.has o.document) h)
+
+-- a demo that has actors opens, and its text spells its document
+pub record HasOpening (kind : Demo) (bytes : List ℕ) (actors : List DemoActor) : Type 0 where
+  pub text : List ℕ
+  pub opens : Opens kind bytes actors text
+  pub spells : SpellsDocument text (document_of kind (length actors))
+
+pub some_opening : (kind : Demo) (bytes : List ℕ) (actors : List DemoActor) → StartsWithActors kind bytes actors → HasOpening kind bytes actors
+some_opening kind bytes actors starts =
+    let has = (has_session_for kind bytes actors starts).has in
+    let t = some_text (document_of kind (length actors)) (printable kind (length actors) has) in
+    record { text = t.0; opens = record { starts = starts; document = t.1 }; spells = spelt_document kind (length actors) t.0 has t.1 }

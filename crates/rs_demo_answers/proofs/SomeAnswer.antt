@@ -1,35 +1,24 @@
 -- A demo has an answer to each input.
 use Rattle.std.proofs.Common.{inl, inr, ℕ, List, length, Option, refl}
 use Rattle.rs_answers.specs.Data.{Answer_data}
-use Rattle.rs_answers.specs.RefusalTexts.{fault_answer}
 use Rattle.rs_answers.specs.Refusals.{refusal_answer}
 use Rattle.rs_answers.specs.Runs.{capacity_of}
 use Rattle.rs_answers.proofs.Derivings.{canonical_safe, session_of}
 use Rattle.rs_answers.proofs.SomeSession.{Prepared, NotSo, Derived, prepared}
-use Rattle.rs_demo_answers.specs.Demos.{AnswersDemo, HasBadNumbers, IsFaulty, IsDocument, AnswersOwn, IsRefused, IsAccepted, Opens, bad_numbers}
+use Rattle.rs_demo_answers.specs.Demos.{AnswersDemo, HasBadNumbers, IsDocument, AnswersOwn, IsRefused, IsAccepted, bad_numbers}
 use Rattle.rs_demo_answers.proofs.Endings.{never_stuck, some_performing}
-use Rattle.rs_demo_answers.proofs.Opening.{has_session_for}
+use Rattle.rs_demo_answers.proofs.Opening.{some_opening}
 use Rattle.rs_demos.specs.Starts.{StartsWithActors}
 use Rattle.rs_demos.specs.Texts.{document_of}
 use Rattle.rs_demos.specs.declared.actors.DemoActor.{DemoActor}
 use Rattle.rs_demos.specs.declared.kinds.Demo.{Demo}
 use Rattle.rs_demos.proofs.Deciding.{actors-or-none}
-use Rattle.rs_demos.proofs.Printable.{printable}
 use Rattle.rs_documents.specs.Data.{Document_data}
 use Rattle.rs_documents.specs.Documents.{SpellsDocument}
-use Rattle.rs_documents.proofs.OneCanonical.{some_text}
-use Rattle.rs_documents.proofs.OneDocument.{spelt_or_faulty}
 use Rattle.rs_documents.proofs.SpeltSessions.{spelt_session}
 use Rattle.rs_safety.specs.Room.{room_of}
 use Rattle.rs_wellformed.specs.Faults.{first_fault}
 use Rattle.rs_words.specs.declared.limits.TheConstants.{DEFAULT_BOUND}
-
--- a demo that has actors opens
-some_opening : (kind : Demo) (bytes : List ℕ) (actors : List DemoActor) → StartsWithActors kind bytes actors → (text : List ℕ) × Opens kind bytes actors text
-some_opening kind bytes actors s =
-    let shown = printable kind (length actors) (has_session_for kind bytes actors s).has in
-    let t = some_text (document_of kind (length actors)) shown in
-    (t.0, record { starts = s; document = t.1 })
 
 some_own : (kind : Demo) (ring : Option ℕ) (actors : List DemoActor) (text : List ℕ) (d : Document_data) → SpellsDocument text d → Prepared DEFAULT_BOUND d → (a : Answer_data) × AnswersOwn kind ring actors d a
 some_own kind ring actors text d doc (NotSo why h) = (refusal_answer d.names why, IsRefused why h refl)
@@ -42,10 +31,9 @@ some_own kind ring actors text d doc (Derived ps ms ds h found) =
 some_played : (kind : Demo) (ring : Option ℕ) (bytes : List ℕ) (actors : List DemoActor) → StartsWithActors kind bytes actors → (a : Answer_data) × AnswersDemo kind ring bytes a
 some_played kind ring bytes actors s =
     let o = some_opening kind bytes actors s in
-    elim (spelt_or_faulty o.0) [
-      | inl d ↦ let a = some_own kind ring actors o.0 d.0 d.1 (prepared DEFAULT_BOUND o.0 d.0 d.1 (first_fault d.0.protocol) refl) in (a.0, IsDocument actors o.0 d.0 o.1 d.1 a.1)
-      | inr f ↦ (fault_answer o.0 f.0 f.1, IsFaulty actors o.0 f.0 f.1 o.1 f.2 refl)
-    ]
+    let d = document_of kind (length actors) in
+    let a = some_own kind ring actors o.text d o.spells (prepared DEFAULT_BOUND o.text d o.spells (first_fault d.protocol) refl) in
+    (a.0, IsDocument actors o.text d o.opens o.spells a.1)
 
 pub some_demo : (kind : Demo) (ring : Option ℕ) (bytes : List ℕ) → (a : Answer_data) × AnswersDemo kind ring bytes a
 some_demo kind ring bytes = elim (actors-or-none kind bytes) [

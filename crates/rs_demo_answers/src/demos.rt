@@ -17,18 +17,18 @@ use rs_answers::{
     stopped_answer, too_small,
 };
 use rs_core::{Outcome, Run};
-use rs_demos::{Demo, DemoActor, demo_output};
+use rs_demos::{Demo, DemoActor, into_demo_output};
 use rs_exec::{ExecFault, Ran, run_inline};
 use rs_model::{Names, NoMemory};
 use rs_safety::Accepted;
 use std::alloc::Global;
 
 /// All roles have ended: what is printed of their actors.
-fn ended_answer(alloc: Global, kind: Demo, actors: &[DemoActor]) -> Result<Answer, NoMemory>
-    ensures { IfOk result (λ a. a ≡ spec.ended_answer kind actors.now) }
+fn ended_answer(alloc: Global, kind: Demo, actors: Vec<DemoActor>) -> Result<Answer, NoMemory>
+    ensures { IfOk result (λ a. a ≡ spec.ended_answer kind actors.items) }
 {
     Ok(Answer {
-        text: demo_output(alloc, kind, actors)?,
+        text: into_demo_output(alloc, kind, actors)?,
         verdict: Verdict::Fine,
     })
 }
@@ -39,9 +39,9 @@ fn outcome_answer(
     kind: Demo,
     names: &Names,
     outcome: Outcome,
-    left: &[DemoActor],
+    left: Vec<DemoActor>,
 ) -> Result<Answer, NoMemory>
-    ensures { IfOk result (λ a. a ≡ spec.outcome_answer kind names.now outcome left.now) }
+    ensures { IfOk result (λ a. a ≡ spec.outcome_answer kind names.now outcome left.items) }
 {
     match outcome {
         Outcome::Ended(_) => ended_answer(alloc, kind, left),
@@ -62,7 +62,7 @@ pub(crate) fn tell(
     let Ran { run, closed } = ran;
     let Run { outcome, actors } = run;
     Ok(AnswerWithSession {
-        answer: outcome_answer(alloc, kind, names, outcome, actors.as_slice())?,
+        answer: outcome_answer(alloc, kind, names, outcome, actors)?,
         closed: Some(closed),
     })
 }

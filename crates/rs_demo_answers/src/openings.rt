@@ -6,11 +6,10 @@ ghost use Rattle.rs_demo_answers.specs.Openings.{HasOpened};
 
 use rs_answers::Piece::Words;
 use rs_answers::{
-    Answer, DerivedSession, Verdict, answer_to_fault, derived_session, line_of_answer,
-    refusal_answer,
+    Answer, DerivedSession, Verdict, derived_session, line_of_answer, refusal_answer,
 };
-use rs_demos::{Demo, DemoActor, DemoFault, demo_actors, demo_document};
-use rs_documents::{Document, read_document};
+use rs_demos::{Demo, DemoActor, DemoFault, demo_actors, demo_session_document};
+use rs_documents::Document;
 use rs_model::NoMemory;
 use rs_words::DEFAULT_BOUND;
 use std::alloc::Global;
@@ -54,14 +53,7 @@ pub(crate) fn open_demo(alloc: Global, kind: Demo, bytes: &[u8]) -> Result<Openi
         Err(DemoFault::BadNumbers) => return Ok(Opening::Answered(bad_numbers(alloc)?)),
         Err(DemoFault::NoMemory) => return Err(NoMemory),
     };
-    let text = demo_document(alloc, kind, actors.len() as u8)?;
-    let document = match read_document(alloc, text.as_slice()) {
-        Ok(document) => document,
-        Err(fault) => {
-            let answer = answer_to_fault(alloc, text.as_slice(), fault)?;
-            return Ok(Opening::Answered(answer));
-        }
-    };
+    let document = demo_session_document(alloc, kind, actors.len() as u8)?;
     match derived_session(alloc, &document, DEFAULT_BOUND) {
         Ok(session) => Ok(Opening::Ready(ReadyDemo {
             document,
