@@ -114,6 +114,7 @@ impl<'a> TextToken<'a> {
             _ => None,
         }
     }
+
     /// The kind of the token, or why it is none.
     pub fn kind(&self) -> Result<Kind, FaultKind>
         ensures { result ≡ token_kind self.now.sign }
