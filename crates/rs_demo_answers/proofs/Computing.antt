@@ -10,7 +10,7 @@ use Rattle.rs_answers.specs.declared.refusals.Refusal.TheVariants as refusal
 use Rattle.rs_answers.specs.declared.verdicts.Verdict.TheVariants.{Fine}
 use Rattle.rs_core.specs.Plain.{Ending, Ended, IsPlain}
 use Rattle.rs_core.specs.Runs.{HasActors}
-use Rattle.rs_demo_answers.specs.Demos.{AnswersDemo, HasBadNumbers, IsFaulty, IsDocument, AnswersOwn, IsRefused, IsAccepted, IsTooSmall, IsRun, Opens, TellsEnd, HasEnded, IsStopped, actor_at}
+use Rattle.rs_demo_answers.specs.Demos.{AnswersDemo, HasBadNumbers, IsDocument, AnswersOwn, IsRefused, IsAccepted, IsTooSmall, IsRun, Opens, TellsEnd, HasEnded, IsStopped, actor_at}
 use Rattle.rs_demo_answers.specs.declared.limits.TheConstants.{DEMO_LIMIT}
 use Rattle.rs_demo_answers.proofs.Opening.{has_session_for}
 use Rattle.rs_demo_answers.proofs.Performing.{given}
@@ -26,7 +26,7 @@ use Rattle.rs_demos.proofs.Projected.{projected}
 use Rattle.rs_demos.proofs.SpeltDocuments.{in-place-at, machines-many, spelt_document}
 use Rattle.rs_documents.specs.Data.{Document_data}
 use Rattle.rs_documents.specs.Documents.{SpellsDocument}
-use Rattle.rs_documents.proofs.OneDocument.{no_fault, one_document}
+use Rattle.rs_documents.proofs.OneDocument.{one_document}
 use Rattle.rs_model.specs.Data.{Machine_data, Names_data}
 use Rattle.rs_model.specs.declared.graph.Role.{Role}
 use Rattle.rs_project.specs.Data.{Projection_data}
@@ -126,7 +126,4 @@ own-computes kind ring bytes actors text d a o doc (IsAccepted ps ms ds h found 
 
 pub computed : (kind : Demo) (ring : Option ℕ) (bytes : List ℕ) (a : Answer_data) → AnswersDemo kind ring bytes a → a.verdict ≡ Fine → Computes kind bytes a.text
 computed kind ring bytes a (HasBadNumbers n x) fine = absurd (not-fine a _ x (λ e. cc) fine)
-computed kind ring bytes a (IsFaulty actors text k at o h x) fine =
-    let s = has_session_for kind bytes actors o.starts in
-    absurd (no_fault text (document_of kind (length actors)) k at (spelt_document kind (length actors) text s.has o.document) h)
 computed kind ring bytes a (IsDocument actors text d o doc own) fine = own-computes kind ring bytes actors text d a o doc own fine

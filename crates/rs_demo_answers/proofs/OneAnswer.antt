@@ -1,11 +1,10 @@
 -- A demo has one answer to its input.
 use Rattle.std.proofs.Common.{◌≡◌, ℕ, List, length, Option, sym, ap, subst, ◌∙◌}
 use Rattle.rs_answers.specs.Data.{Answer_data}
-use Rattle.rs_answers.specs.RefusalTexts.{fault_answer}
 use Rattle.rs_answers.specs.Refusals.{refusal_answer}
 use Rattle.rs_answers.proofs.Derivings.{session_of}
 use Rattle.rs_answers.proofs.OneReason.{not_refused, one_refusal, one_session_derived, same_session}
-use Rattle.rs_demo_answers.specs.Demos.{AnswersDemo, HasBadNumbers, IsFaulty, IsDocument, AnswersOwn, IsRefused, IsAccepted, Opens, Performs}
+use Rattle.rs_demo_answers.specs.Demos.{AnswersDemo, HasBadNumbers, IsDocument, AnswersOwn, IsRefused, IsAccepted, Opens, Performs}
 use Rattle.rs_demo_answers.proofs.Endings.{one_performing}
 use Rattle.rs_demo_answers.proofs.Opening.{has_session_for}
 use Rattle.rs_demos.specs.Texts.{IsDemoText, document_of}
@@ -15,12 +14,11 @@ use Rattle.rs_demos.proofs.Deciding.{not-both, one-start}
 use Rattle.rs_demos.proofs.Printable.{printable}
 use Rattle.rs_derive.specs.Data.{Derivation_data}
 use Rattle.rs_documents.specs.Data.{Document_data}
-use Rattle.rs_documents.specs.Documents.{FirstFault, SpellsDocument}
+use Rattle.rs_documents.specs.Documents.{SpellsDocument}
 use Rattle.rs_documents.proofs.OneCanonical.{one_text}
-use Rattle.rs_documents.proofs.OneDocument.{no_fault, one_document, one_fault}
+use Rattle.rs_documents.proofs.OneDocument.{one_document}
 use Rattle.rs_documents.proofs.SpeltSessions.{spelt_session}
 use Rattle.rs_model.specs.Data.{Machine_data}
-use Rattle.rs_text.specs.declared.faults.TextKind.{TextKind}
 use Rattle.rs_words.specs.declared.limits.TheConstants.{DEFAULT_BOUND}
 
 -- a demo opens in one way
@@ -50,23 +48,8 @@ one_own kind ring actors text d a b doc (IsAccepted ps ms ds h f x) (IsAccepted 
 
 pub one_demo : (kind : Demo) (ring : Option ℕ) (bytes : List ℕ) (a b : Answer_data) → AnswersDemo kind ring bytes a → AnswersDemo kind ring bytes b → a ≡ b
 one_demo kind ring bytes a b (HasBadNumbers n x) (HasBadNumbers m y) = x ∙ sym y
-one_demo kind ring bytes a b (HasBadNumbers n x) (IsFaulty ys other j place p k y) = absurd (not-both kind bytes ys p.starts n)
 one_demo kind ring bytes a b (HasBadNumbers n x) (IsDocument ys other e p k y) = absurd (not-both kind bytes ys p.starts n)
-one_demo kind ring bytes a b (IsFaulty xs text i at o h x) (HasBadNumbers m y) = absurd (not-both kind bytes xs o.starts m)
-one_demo kind ring bytes a b (IsFaulty xs text i at o h x) (IsFaulty ys other j place p k y) =
-    let s = one_opening kind bytes xs ys text other o p in
-    let P : List ℕ → Type 0 = λ z. FirstFault z i at in
-    let same = one_fault other i j at place (subst P s.texts h) k in
-    x ∙ ap (λ (z : List ℕ). fault_answer z i at) s.texts ∙ ap (λ (z : TextKind). fault_answer other z at) same.0 ∙ ap (λ (z : ℕ). fault_answer other j z) same.1 ∙ sym y
-one_demo kind ring bytes a b (IsFaulty xs text i at o h x) (IsDocument ys other e p k y) =
-    let s = one_opening kind bytes xs ys text other o p in
-    let P : List ℕ → Type 0 = λ z. FirstFault z i at in
-    absurd (no_fault other e i at k (subst P s.texts h))
 one_demo kind ring bytes a b (IsDocument xs text d o h x) (HasBadNumbers m y) = absurd (not-both kind bytes xs o.starts m)
-one_demo kind ring bytes a b (IsDocument xs text d o h x) (IsFaulty ys other j place p k y) =
-    let s = one_opening kind bytes xs ys text other o p in
-    let P : List ℕ → Type 0 = λ z. SpellsDocument z d in
-    absurd (no_fault other d j place (subst P s.texts h) k)
 one_demo kind ring bytes a b (IsDocument xs text d o h x) (IsDocument ys other e p k y) =
     let s = one_opening kind bytes xs ys text other o p in
     let P : List ℕ → Type 0 = λ z. SpellsDocument z d in

@@ -2,7 +2,7 @@
 use Rattle.std.specs.Prelude.{◌≡◌, ◌<◌, ◌≤◌, ℕ, List, [], codes, get_or, length, Option, Some}
 use Rattle.rs_answers.specs.Data.{Answer_data}
 use Rattle.rs_answers.specs.Derivations.{AreCanonical}
-use Rattle.rs_answers.specs.RefusalTexts.{fault_answer, malformed, too_small}
+use Rattle.rs_answers.specs.RefusalTexts.{malformed, too_small}
 use Rattle.rs_answers.specs.Refusals.{HasNoDerivations, refusal_answer}
 use Rattle.rs_answers.specs.Runs.{capacity_of, stopped_answer}
 use Rattle.rs_answers.specs.Sessions.{HasMachines}
@@ -22,11 +22,10 @@ use Rattle.rs_demos.specs.declared.actors.DemoActor.TheVariants as actor
 use Rattle.rs_demos.specs.declared.kinds.Demo.{Demo}
 use Rattle.rs_derive.specs.Data.{Derivation_data}
 use Rattle.rs_documents.specs.Data.{Document_data}
-use Rattle.rs_documents.specs.Documents.{FirstFault, SpellsDocument}
+use Rattle.rs_documents.specs.Documents.{SpellsDocument}
 use Rattle.rs_model.specs.Data.{Machine_data, Names_data}
 use Rattle.rs_project.specs.Data.{Projection_data}
 use Rattle.rs_safety.specs.Room.{room_of}
-use Rattle.rs_text.specs.declared.faults.TextKind.{TextKind}
 use Rattle.rs_words.specs.declared.limits.TheConstants.{DEFAULT_BOUND}
 
 -- the bytes aren't the numbers that the demo asks for
@@ -86,9 +85,6 @@ pub record Opens (kind : Demo) (bytes : List ℕ) (actors : List DemoActor) (tex
 pub data AnswersDemo (kind : Demo) (ring : Option ℕ) (bytes : List ℕ) (answer : Answer_data) : Type 0 where
   -- they aren't the numbers that it asks for
   HasBadNumbers : HasNoNumbers kind bytes → answer ≡ bad_numbers → AnswersDemo kind ring bytes answer
-  -- the text of its document is at fault
-  IsFaulty : (actors : List DemoActor) (text : List ℕ) (k : TextKind) (at : ℕ) → Opens kind bytes actors text → FirstFault text k at → answer ≡ fault_answer text k at
-      → AnswersDemo kind ring bytes answer
-  -- it spells a document
+  -- the text of its document spells a document
   IsDocument : (actors : List DemoActor) (text : List ℕ) (d : Document_data) → Opens kind bytes actors text → SpellsDocument text d → AnswersOwn kind ring actors d answer
       → AnswersDemo kind ring bytes answer

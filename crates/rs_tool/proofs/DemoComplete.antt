@@ -5,7 +5,7 @@ use Rattle.rs_answers.specs.Runs.{capacity_of}
 use Rattle.rs_answers.specs.Sessions.{HasMachines}
 use Rattle.rs_answers.proofs.OneReason.{not_refused, one_session_derived}
 use Rattle.rs_core.specs.Plain.{Ending, IsPlain}
-use Rattle.rs_demo_answers.specs.Demos.{AnswersDemo, HasBadNumbers, IsFaulty, IsDocument, AnswersOwn, IsRefused, IsAccepted, IsTooSmall, IsRun, TellsEnd, HasEnded, IsStopped, Opens, actor_at}
+use Rattle.rs_demo_answers.specs.Demos.{AnswersDemo, HasBadNumbers, IsDocument, AnswersOwn, IsRefused, IsAccepted, IsTooSmall, IsRun, TellsEnd, HasEnded, IsStopped, Opens, actor_at}
 use Rattle.rs_demo_answers.specs.declared.limits.TheConstants.{DEMO_LIMIT}
 use Rattle.rs_demo_answers.proofs.OneAnswer.{one_opening}
 use Rattle.rs_demo_answers.proofs.Stopping.{never_stopped}
@@ -15,8 +15,8 @@ use Rattle.rs_demos.specs.declared.kinds.Demo.{Demo}
 use Rattle.rs_demos.proofs.Deciding.{not-both}
 use Rattle.rs_derive.specs.Data.{Derivation_data}
 use Rattle.rs_documents.specs.Data.{Document_data}
-use Rattle.rs_documents.specs.Documents.{FirstFault, SpellsDocument}
-use Rattle.rs_documents.proofs.OneDocument.{no_fault, one_document}
+use Rattle.rs_documents.specs.Documents.{SpellsDocument}
+use Rattle.rs_documents.proofs.OneDocument.{one_document}
 use Rattle.rs_model.specs.Data.{Machine_data}
 use Rattle.rs_model.specs.declared.limits.TheConstants.{MOST_BYTES}
 use Rattle.rs_project.specs.Data.{Projection_data}
@@ -62,10 +62,6 @@ own_is_performed kind ring bytes c actors text d a opens spells is (IsAccepted p
 
 demo_is_performed : (kind : Demo) (ring : Option ℕ) (bytes : List ℕ) (a : Answer_data) → CanBePerformed kind ring bytes → AnswersDemo kind ring bytes a → WasPerformed a
 demo_is_performed kind ring bytes a c (HasBadNumbers n x) = absurd (not-both kind bytes c.actors c.opens.starts n)
-demo_is_performed kind ring bytes a c (IsFaulty actors text k at o h x) =
-    let s = one_opening kind bytes actors c.actors text c.text o c.opens in
-    let P : List ℕ → Type 0 = λ z. FirstFault z k at in
-    absurd (no_fault c.text c.session.document k at c.session.spells (subst P s.texts h))
 demo_is_performed kind ring bytes a c (IsDocument actors text d o h own) =
     let s = one_opening kind bytes actors c.actors text c.text o c.opens in
     let P : List ℕ → Type 0 = λ z. SpellsDocument z d in

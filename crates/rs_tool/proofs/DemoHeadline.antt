@@ -2,9 +2,8 @@
 use Rattle.std.proofs.Common.{◌≡◌, ℕ, List, Option, Some, None, sym, subst, ◌∙◌}
 use Rattle.std.specs.Prelude.{IfSome}
 use Rattle.rs_answers.specs.Data.{Answer_data}
-use Rattle.rs_answers.specs.RefusalTexts.{fault_answer}
 use Rattle.rs_answers.specs.Refusals.{refusal_answer}
-use Rattle.rs_demo_answers.specs.Demos.{AnswersDemo, HasBadNumbers, IsFaulty, IsDocument, IsRefused, IsAccepted, IsTooSmall, IsRun, TellsEnd, HasEnded, IsStopped}
+use Rattle.rs_demo_answers.specs.Demos.{AnswersDemo, HasBadNumbers, IsDocument, IsRefused, IsAccepted, IsTooSmall, IsRun, TellsEnd, HasEnded, IsStopped}
 use Rattle.rs_core.specs.Plain.{Ending}
 use Rattle.rs_demos.specs.declared.actors.DemoActor.{DemoActor}
 use Rattle.rs_demos.specs.declared.kinds.Demo.{Demo}
@@ -20,7 +19,7 @@ use Rattle.rs_tool.specs.declared.statuses.Status.{Status}
 use Rattle.rs_tool.specs.declared.statuses.Status.TheVariants as status
 use Rattle.rs_words.specs.declared.limits.TheConstants.{DEFAULT_BOUND}
 use Rattle.rs_words.specs.declared.tasks.Task.TheVariants as task
-use Rattle.rs_tool.proofs.Headline.{derived-is-safe, fault-is-no-run, no-run, refusal-is-no-run, task-is-answered, told-is-run}
+use Rattle.rs_tool.proofs.Headline.{derived-is-safe, no-run, refusal-is-no-run, task-is-answered, told-is-run}
 
 -- the answer of the demo that the words ask for is its answer to the data
 pub demo-is-answered : (kind : Demo) (ring : Option ℕ) (workers : ℕ) (bytes : List ℕ) (a : Answer_data) (P : Type 0) → AnswersTask (task.Demo kind ring workers) bytes a → (AnswersData kind ring bytes a → P) → P
@@ -35,7 +34,6 @@ demo-is-answered kind ring workers bytes a P (RunsDemo k r many same h) next =
 
 demo-is-safe : (kind : Demo) (ring : Option ℕ) (bytes : List ℕ) (a : Answer_data) → AnswersDemo kind ring bytes a → IsOfRun (status_of a.verdict) → HasSafeDemo kind bytes
 demo-is-safe kind ring bytes a (HasBadNumbers n x) run = absurd (no-run a _ x (λ e. e) run)
-demo-is-safe kind ring bytes a (IsFaulty actors text k at o h x) run = absurd (no-run a _ x (fault-is-no-run text k at) run)
 demo-is-safe kind ring bytes a (IsDocument actors text d o h (IsRefused r k x)) run = absurd (no-run a _ x (refusal-is-no-run d.names r) run)
 demo-is-safe kind ring bytes a (IsDocument actors text d o h (IsAccepted ps ms ds k f p)) run = record { actors = actors; text = text; opens = o; safe = derived-is-safe DEFAULT_BOUND text d ps ms ds h k f }
 
@@ -67,7 +65,6 @@ end-is-not-full kind names roles a o (IsStopped p k x) = not-full a _ x (λ full
 
 demo-is-not-full : (kind : Demo) (ring : Option ℕ) (bytes : List ℕ) (a : Answer_data) → AnswersDemo kind ring bytes a → IsNotFull a
 demo-is-not-full kind ring bytes a (HasBadNumbers n x) = not-full a _ x (λ full. cc)
-demo-is-not-full kind ring bytes a (IsFaulty actors text k at o h x) = not-full a _ x (no-run-is-not-full (fault_answer text k at) (fault-is-no-run text k at))
 demo-is-not-full kind ring bytes a (IsDocument actors text d o h (IsRefused r k x)) = not-full a _ x (no-run-is-not-full (refusal_answer d.names r) (refusal-is-no-run d.names r))
 demo-is-not-full kind ring bytes a (IsDocument actors text d o h (IsAccepted ps ms ds k f (IsTooSmall l x))) = not-full a _ x (λ full. cc)
 demo-is-not-full kind ring bytes a (IsDocument actors text d o h (IsAccepted ps ms ds k f (IsRun l run))) = end-is-not-full kind d.names _ a run.end run.tells
