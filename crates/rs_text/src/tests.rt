@@ -2,7 +2,7 @@ ghost use Rattle.std.specs.Prelude.{◌≤◌, length};
 
 use crate::{
     Binding, FaultKind, Kind, Lexer, NameTable, Stop, Text, TextFault, TextKind, Wanted, add,
-    bound_number, expected, fault, find, number, place, sound, unbind,
+    bound_number, expected, fault, find, next_token, number, place, sound, unbind,
 };
 use rs_model::{Name, Names, NoMemory};
 use std::alloc::Global;
@@ -267,7 +267,22 @@ fn tells_why_a_reading_stops(rt: HostRuntime) -> Result<(), Fail> {
         at: 4,
     };
     assert!(rt; expected(Wanted::Dot, 4) == Err(Stop::Fault(dot)));
-    let lexer = Lexer::new(b"a  # no\n ;", 1);
-    assert_eq!(rt; lexer.next_offset(), 9);
+    Ok(())
+}
+
+#[test]
+fn tokens_say_what_they_are(rt: HostRuntime) -> Result<(), Fail> {
+    let text = b" rec a1 # no\n ;".as_slice();
+    let binder = next_token(text, 0);
+    assert!(rt; binder.kind() == Ok(Kind::Word));
+    assert!(rt; binder.word() == Some(b"rec".as_slice()));
+    assert!(rt; binder.plain().is_none());
+    assert_eq!(rt; binder.from(), 1);
+    let name = next_token(text, binder.until());
+    assert!(rt; name.plain() == Some(b"a1".as_slice()));
+    let faulty = next_token(text, name.until());
+    assert!(rt; faulty.kind() == Err(FaultKind::BadByte));
+    assert_eq!(rt; faulty.from(), 14);
+    assert_eq!(rt; faulty.until(), 14);
     Ok(())
 }
