@@ -22,10 +22,10 @@ returns-in-Ok-derived_session c =
     let many : c.len.result ≡ length c.in-Ok.actors.items = omega (arith, c.len.ensures) in
     ready_to_run c.args.kind c.args.bytes.now _ c.in-Ok.ensures.ok (c.in_ok-document.ensures.document ∙ ap (document_of c.args.kind) many) c.in-Ok-derived_session.ensures.machines c.in-Ok-derived_session.ensures.derivations
 
-pub returns-in_ok-answer-in-Err-derived_session : goal.returns-in_ok-answer-in-Err-derived_session
-returns-in_ok-answer-in-Err-derived_session c =
+pub returns-in_ok-answer-in-Err : goal.returns-in_ok-answer-in-Err
+returns-in_ok-answer-in-Err c =
     let many : c.len.result ≡ length c.in-Ok.actors.items = omega (arith, c.len.ensures) in
-    refused_alone c.args.kind c.args.bytes.now c.in-Ok.actors.items c.in_ok-document.document c.in-Err-derived_session.refusal c.in_ok-answer-in-Err-derived_session.answer
+    refused_alone c.args.kind c.args.bytes.now c.in-Ok.actors.items c.in_ok-document.document c.in-Err.refusal c.in_ok-answer-in-Err.answer
     (some_opening c.args.kind c.args.bytes.now c.in-Ok.actors.items c.in-Ok.ensures.ok) (c.in_ok-document.ensures.document ∙ ap (document_of c.args.kind) many)
-    c.in-Err-derived_session.ensures.err
-    (c.in_ok-answer-in-Err-derived_session.ensures.answer ∙ ap (λ (d : Document_data). refusal_answer d.names c.in-Err-derived_session.refusal) c.document.view_is) c.in_ok-answer-in-Err-derived_session.ensures.memory
+    c.in-Err.ensures.err
+    (c.in_ok-answer-in-Err.ensures.answer ∙ ap (λ (d : Document_data). refusal_answer d.names c.in-Err.refusal) c.document.view_is) c.in_ok-answer-in-Err.ensures.memory
