@@ -31,6 +31,7 @@ impl Draws {
         i64::from(self.draw()) - 16_384
     }
 
+    #[inline(always)]
     fn draw_value(&mut self, alloc: Global, sort: Sort) -> Result<Value, NoMemory>
         ensures value { IfOk result (λ v. v ≡ draw_value sort self.old.number) }
         ensures after { OnOk result (self.new.number ≡ after_value sort self.old.number) }

@@ -151,9 +151,12 @@ impl<A: Actor> Member<A> {
         ensures kept { OnOk result (self.new.kept ≡ None) }
         ensures others { OnOk result ((self.new.entries ≡ self.old.entries) × (self.new.state ≡ self.old.state)) }
     {
+        if self.kept.is_none() {
+            return self.actor.choose(alloc, arms);
+        }
         match self.kept.take() {
             Some(choice) => Ok(choice),
-            None => self.actor.choose(alloc, arms),
+            None => unreachable!(),
         }
     }
 }
