@@ -12,15 +12,15 @@ abbrev pub one_more : ℕ → ℕ
 one_more count = min (count + 1) (2 ^ 64 - 1)
 
 -- an actor after one act more, with the draws that are left: its number has gone through its rounds
-abbrev pub worked : WorkingActor → ℕ → WorkingActor
-worked x draws = record { draws = draws; number = after_many x.rounds x.number; rounds = x.rounds; acts = one_more x.acts }
+abbrev pub actor_behind_act : WorkingActor → ℕ → WorkingActor
+actor_behind_act x draws = record { draws = draws; number = after_many x.rounds x.number; rounds = x.rounds; acts = one_more x.acts }
 
 -- it chooses by its draws, and works where it is asked and where a message comes
 abbrev pub by_working : Behaviour WorkingActor
 by_working = record {
   chooses = λ x arms. by_draws.chooses x.draws arms;
-  asked = λ x arms. worked x (by_draws.asked x.draws arms);
-  told = λ x arms place value. worked x x.draws;
+  asked = λ x arms. actor_behind_act x (by_draws.asked x.draws arms);
+  told = λ x arms place value. actor_behind_act x x.draws;
 }
 
 -- so it chooses as well as its draws do

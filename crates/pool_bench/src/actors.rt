@@ -23,7 +23,7 @@ fn after(number: u32) -> u32
 }
 
 /// What so many rounds of a linear congruential generator make of the number.
-fn worked(rounds: u32, number: u32) -> u32
+fn rounds_behind_act(rounds: u32, number: u32) -> u32
     ensures { result ≡ after_many rounds number }
 {
     let mut reached = number;
@@ -45,7 +45,7 @@ impl WorkingActor {
         ensures acts { self.new.acts ≡ one_more self.old.acts }
         ensures others { (self.new.draws ≡ self.old.draws) × (self.new.rounds ≡ self.old.rounds) }
     {
-        self.number = worked(self.rounds, self.number);
+        self.number = rounds_behind_act(self.rounds, self.number);
         self.acts = one_more(self.acts);
     }
 }

@@ -1,7 +1,7 @@
 // Runs of texts by workers.
 ghost use Rattle.std.specs.Prelude.{◌≡◌, ◌≤◌, length, IfOk, IfSome};
 ghost use Rattle.rs_model.specs.declared.limits.TheConstants.{MOST_WORKERS};
-ghost use Rattle.rs_documents.specs.Reading.{IsReady};
+ghost use Rattle.rs_documents.specs.Reading.{DocumentIsReady};
 
 use crate::actors::WorkingActor;
 use rs_answers::{DerivedSession, accept_derived, derived_session};
@@ -105,7 +105,7 @@ fn document_run<R: Threads + Wait + Sync>(
     document: &Document,
     load: Load,
 ) -> Option<End>
-    requires ready { IsReady document.now }
+    requires ready { DocumentIsReady document.now }
     requires roles { length document.now.names.roles ≡ document.now.protocol.roles }
     requires workers { (1 ≤ load.workers) × (load.workers ≤ MOST_WORKERS) }
 {

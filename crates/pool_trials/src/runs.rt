@@ -2,7 +2,7 @@
 
 ghost use Rattle.std.specs.Prelude.{◌≡◌, ◌≤◌, length, IfOk};
 ghost use Rattle.rs_model.specs.declared.limits.TheConstants.{MOST_WORKERS};
-ghost use Rattle.rs_documents.specs.Reading.{IsReady};
+ghost use Rattle.rs_documents.specs.Reading.{DocumentIsReady};
 
 use rs_answers::{DerivedSession, accept_derived, derived_session};
 use rs_core::{Actor, Run, run_plain};
@@ -90,7 +90,7 @@ fn document_by<R: Threads + Wait + Sync, A: Actor + Send, G: Gate + Sync>(
     how: HowToRun,
     gate: &G,
 ) -> Option<Run<A>>
-    requires ready { IsReady document.now }
+    requires ready { DocumentIsReady document.now }
     requires roles { length document.now.names.roles ≡ document.now.protocol.roles }
     requires workers { (1 ≤ how.workers) × (how.workers ≤ MOST_WORKERS) }
 {
@@ -118,7 +118,7 @@ fn document_plainly<A: Actor>(
     actors: Vec<A>,
     limit: u32,
 ) -> Option<Run<A>>
-    requires ready { IsReady document.now }
+    requires ready { DocumentIsReady document.now }
     requires roles { length document.now.names.roles ≡ document.now.protocol.roles }
 {
     let DerivedSession {

@@ -10,8 +10,8 @@ use Rattle.rs_core.specs.Configurations.{state_of}
 use Rattle.rs_core.specs.Histories.{Action, History}
 use Rattle.rs_slots.specs.declared.parcels.Parcel.{Parcel}
 use Rattle.rs_rings.specs.Acts.{sent_act, got_act, MayPut, MayTake}
-use Rattle.rs_rings.specs.Passes.{Rings_data, Pass_data, IsChanged, IsPut, IsFull, IsTaken, IsEmpty, CanTake}
-use Rattle.rs_rings.specs.Views.{SpeaksFor, speaks, the_part, part_of, state_in, history_in, looked_head, looked_tail, gaining, sending, taking, getting, left_by, alone, joined, starting, start_of}
+use Rattle.rs_rings.specs.Passes.{Rings_data, Pass_data, IsChanged, IsPut, RingIsFull, ParcelIsTaken, IsEmpty, CanTake}
+use Rattle.rs_rings.specs.Views.{SpeaksFor, speaks, the_part, part_of, state_in, history_in, part_with_room, part_with_parcel, gaining, sending, taking, getting, view_without_role, alone, joint_view, starting, start_of}
 use Rattle.rs_rings.specs.declared.views.Part.{Part}
 use Rattle.rs_rings.specs.declared.views.View.{View}
 use Rattle.rs_rings.proofs.Arms.{put_once}
@@ -41,13 +41,13 @@ put_on rings pass pass' capacity p q s n next x well_formed at table may put =
     (one_more (history_in pass.view p) (sent_act q x) ∙ ap (λ (z : ℕ). z + 1) at.many)
 
 pub full_on : (rings : Rings_data) (pass pass' : Pass_data) (capacity p q s n : ℕ) (x : Parcel) (sent taken : ℕ) (back : Parcel) → Stands rings pass p s n → pass'.table ≡ pass.table
-    → IsFull capacity p q x sent taken back pass.view pass'.view → Stands rings pass' p s n
+    → RingIsFull capacity p q x sent taken back pass.view pass'.view → Stands rings pass' p s n
 full_on rings pass pass' capacity p q s n x sent taken back at table full =
-    changed rings pass pass' p s n s n (looked_head q taken (part_of pass.view p)) at table full.changed at.at at.many
+    changed rings pass pass' p s n s n (part_with_room q taken (part_of pass.view p)) at table full.changed at.at at.many
 
 -- the one arm of a state that takes tells where a take leads
 pub takes_on : (rings : Rings_data) (pass pass' : Pass_data) (q s n next : ℕ) (p : Role) (x : Parcel) → Stands rings pass q s n → pass'.table ≡ pass.table
-    → TakesOne rings.machines q p s next → IsTaken rings.machines q p.0 x pass.view pass'.view → Stands rings pass' q next (n + 1)
+    → TakesOne rings.machines q p s next → ParcelIsTaken rings.machines q p.0 x pass.view pass'.view → Stands rings pass' q next (n + 1)
 takes_on rings pass pass' q s n next p x at table one taken =
     let may : MayTake rings.machines q p.0 s x taken.next = subst (λ (z : ℕ). MayTake rings.machines q p.0 z x taken.next) at.at taken.may in
     let both : Some (Takes p (one.arm ∷ [])) ≡ Some (Takes p may.arms) = sym one.takes ∙ may.takes in
@@ -63,7 +63,7 @@ takes_on rings pass pass' q s n next p x at table one taken =
 pub empty_on : (rings : Rings_data) (pass pass' : Pass_data) (q s n p seen : ℕ) → Stands rings pass q s n → pass'.table ≡ pass.table
     → IsEmpty q p seen pass.view pass'.view → Stands rings pass' q s n
 empty_on rings pass pass' q s n p seen at table empty =
-    changed rings pass pass' q s n s n (looked_tail p seen (part_of pass.view q)) at table empty.changed at.at at.many
+    changed rings pass pass' q s n s n (part_with_parcel p seen (part_of pass.view q)) at table empty.changed at.at at.many
 
 pub can_take : (rings : Rings_data) (pass : Pass_data) (q s n next : ℕ) (p : Role) → Stands rings pass q s n → TakesOne rings.machines q p s next → CanTake rings.machines q p (state_in pass.view q)
 can_take rings pass q s n next p at one = subst (λ (z : ℕ). CanTake rings.machines q p z) (sym at.at) record { arms = one.arm ∷ []; takes = one.takes }
@@ -111,10 +111,10 @@ cut_own rings pass own r s n table view at =
       many = ap (λ (z : Part). length z.history) part ∙ at.many;
     }
 
-pub cut_gone : (pass pass' : Pass_data) (r : ℕ) → pass'.view ≡ left_by r pass.view → speaks r pass'.view.parts ≡ false
+pub cut_gone : (pass pass' : Pass_data) (r : ℕ) → pass'.view ≡ view_without_role r pass.view → speaks r pass'.view.parts ≡ false
 cut_gone pass pass' r view = ap (λ (v : View). speaks r v.parts) view ∙ speaks_gone r pass.view.parts
 
-pub cut_others : (rings : Rings_data) (pass pass' : Pass_data) (r : ℕ) → pass'.table ≡ pass.table → pass'.view ≡ left_by r pass.view
+pub cut_others : (rings : Rings_data) (pass pass' : Pass_data) (r : ℕ) → pass'.table ≡ pass.table → pass'.view ≡ view_without_role r pass.view
     → (y s n : ℕ) → y ≢ r → Stands rings pass y s n → Stands rings pass' y s n
 cut_others rings pass pass' r table view y s n ne at =
     let part = ap (λ (v : View). the_part y v.parts) view ∙ the_without y r pass.view.parts ne in record {
@@ -125,7 +125,7 @@ cut_others rings pass pass' r table view y s n ne at =
     }
 
 -- a join
-pub join_own : (rings : Rings_data) (pass pass' other : Pass_data) → pass'.table ≡ pass.table → pass'.view ≡ joined pass.view other.view
+pub join_own : (rings : Rings_data) (pass pass' other : Pass_data) → pass'.table ≡ pass.table → pass'.view ≡ joint_view pass.view other.view
     → (r s n : ℕ) → Stands rings pass r s n → Stands rings pass' r s n
 join_own rings pass pass' other table view r s n at =
     let part = ap (λ (v : View). the_part r v.parts) view ∙ the_left r pass.view.parts other.view.parts at.speaks in record {
@@ -135,7 +135,7 @@ join_own rings pass pass' other table view r s n at =
       many = ap (λ (z : Part). length z.history) part ∙ at.many;
     }
 
-pub join_other : (rings : Rings_data) (pass pass' other : Pass_data) (r s n : ℕ) → pass.table ≡ rings.table → pass'.table ≡ pass.table → pass'.view ≡ joined pass.view other.view
+pub join_other : (rings : Rings_data) (pass pass' other : Pass_data) (r s n : ℕ) → pass.table ≡ rings.table → pass'.table ≡ pass.table → pass'.view ≡ joint_view pass.view other.view
     → speaks r pass.view.parts ≡ false → Stands rings other r s n → Stands rings pass' r s n
 join_other rings pass pass' other r s n is table view quiet at =
     let part = ap (λ (v : View). the_part r v.parts) view ∙ the_right r pass.view.parts other.view.parts quiet in record {
@@ -145,12 +145,12 @@ join_other rings pass pass' other r s n is table view quiet at =
       many = ap (λ (z : Part). length z.history) part ∙ at.many;
     }
 
-pub join_speaks : (pass pass' other : Pass_data) → pass'.view ≡ joined pass.view other.view → (r : ℕ) → speaks r other.view.parts ≡ true → speaks r pass'.view.parts ≡ true
+pub join_speaks : (pass pass' other : Pass_data) → pass'.view ≡ joint_view pass.view other.view → (r : ℕ) → speaks r other.view.parts ≡ true → speaks r pass'.view.parts ≡ true
 join_speaks pass pass' other view r says =
     ap (λ (v : View). speaks r v.parts) view
     ∙ ⊎_elim (λ yes'. speaks_left r pass.view.parts other.view.parts yes') (λ quiet. speaks_right r pass.view.parts other.view.parts quiet ∙ says) (bool_cases (speaks r pass.view.parts))
 
-pub join_keeps : (pass pass' other : Pass_data) → pass'.view ≡ joined pass.view other.view → (r : ℕ) → speaks r pass.view.parts ≡ true → speaks r pass'.view.parts ≡ true
+pub join_keeps : (pass pass' other : Pass_data) → pass'.view ≡ joint_view pass.view other.view → (r : ℕ) → speaks r pass.view.parts ≡ true → speaks r pass'.view.parts ≡ true
 join_keeps pass pass' other view r says = ap (λ (v : View). speaks r v.parts) view ∙ speaks_left r pass.view.parts other.view.parts says
 
 -- of two roles

@@ -8,7 +8,7 @@ use Rattle.rs_model.specs.declared.values.Sort.TheVariants as sort
 use Rattle.rs_model.specs.declared.values.Value.TheVariants as value
 use Rattle.rs_core.specs.Choices.{AreWellFormed}
 use Rattle.rs_slots.specs.declared.parcels.Parcel.{Parcel}
-use Rattle.rs_rings.specs.Acts.{numbered, MayPut}
+use Rattle.rs_rings.specs.Acts.{role_of_number, MayPut}
 use Rattle.ring_bench.specs.Players.{TakesOne}
 use Rattle.ring_bench.specs.Sessions.{arm, machines_of_stream, machines_of_relay, machines_of_rounds, machines_of_swap}
 use Rattle.ring_bench.proofs.Safe.{is_stream_fits, is_relay_fits, is_rounds_fit, is_swap_fits}
@@ -46,8 +46,8 @@ pub stream_puts : (ms : List Machine_data) (p s n : ℕ) (x : Parcel) → ms ≡
 stream_puts ms p s n x a b c d l = moved (λ m i j k z. MayPut m i j k z 0) ms machines_of_stream p 0 1 1 s 0 x (number 0 n) a b refl c d
     record { arms = arm 0 sort.Natural 0 ∷ []; place = 0; arm = arm 0 sort.Natural 0; puts = refl; picks = refl; same_label = refl; has_sort = small n l; goes = refl }
 
-pub stream_takes : (ms : List Machine_data) (q s : ℕ) → ms ≡ machines_of_stream → q ≡ 1 → s ≡ 0 → TakesOne ms q (numbered 0) s 0
-stream_takes ms q s a b c = taken 0 ms machines_of_stream q 1 (numbered 0) (numbered 0) s 0 a b refl c record { arm = arm 0 sort.Natural 0; takes = refl; goes = refl }
+pub stream_takes : (ms : List Machine_data) (q s : ℕ) → ms ≡ machines_of_stream → q ≡ 1 → s ≡ 0 → TakesOne ms q (role_of_number 0) s 0
+stream_takes ms q s a b c = taken 0 ms machines_of_stream q 1 (role_of_number 0) (role_of_number 0) s 0 a b refl c record { arm = arm 0 sort.Natural 0; takes = refl; goes = refl }
 
 pub rounds_puts : (ms : List Machine_data) (p q s n : ℕ) (x : Parcel) → ms ≡ machines_of_rounds → p + q ≡ 1 → s ≡ 0 → x ≡ number p n → n < 2 ^ 63 → MayPut ms p q s x 1
 rounds_puts ms zero q s n x a b c d l = let one : q ≡ 1 = omega arith in moved (λ m i j k z. MayPut m i j k z 1) ms machines_of_rounds 0 0 q 1 s 0 x (number 0 n) a refl one c d
@@ -56,9 +56,9 @@ rounds_puts ms (suc zero) q s n x a b c d l = let other : q ≡ 0 = omega arith 
     record { arms = arm 1 sort.Natural 1 ∷ []; place = 0; arm = arm 1 sort.Natural 1; puts = refl; picks = refl; same_label = refl; has_sort = small n l; goes = refl }
 rounds_puts ms (suc (suc p)) q s n x a b c d l = absurd (omega arith)
 
-pub rounds_takes : (ms : List Machine_data) (q p s : ℕ) → ms ≡ machines_of_rounds → q + p ≡ 1 → s ≡ 1 → TakesOne ms q (numbered p) s 0
-rounds_takes ms zero p s a b c = let one : p ≡ 1 = omega arith in taken 0 ms machines_of_rounds 0 0 (numbered p) (numbered 1) s 1 a refl (ap numbered one) c record { arm = arm 1 sort.Natural 0; takes = refl; goes = refl }
-rounds_takes ms (suc zero) p s a b c = let other : p ≡ 0 = omega arith in taken 0 ms machines_of_rounds 1 1 (numbered p) (numbered 0) s 1 a refl (ap numbered other) c record { arm = arm 0 sort.Natural 0; takes = refl; goes = refl }
+pub rounds_takes : (ms : List Machine_data) (q p s : ℕ) → ms ≡ machines_of_rounds → q + p ≡ 1 → s ≡ 1 → TakesOne ms q (role_of_number p) s 0
+rounds_takes ms zero p s a b c = let one : p ≡ 1 = omega arith in taken 0 ms machines_of_rounds 0 0 (role_of_number p) (role_of_number 1) s 1 a refl (ap role_of_number one) c record { arm = arm 1 sort.Natural 0; takes = refl; goes = refl }
+rounds_takes ms (suc zero) p s a b c = let other : p ≡ 0 = omega arith in taken 0 ms machines_of_rounds 1 1 (role_of_number p) (role_of_number 0) s 1 a refl (ap role_of_number other) c record { arm = arm 0 sort.Natural 0; takes = refl; goes = refl }
 rounds_takes ms (suc (suc q)) p s a b c = absurd (omega arith)
 
 pub ask_puts : (ms : List Machine_data) (p s n : ℕ) (x : Parcel) → ms ≡ machines_of_relay → p ≡ 1 → s ≡ 0 → x ≡ number 0 n → n < 2 ^ 63 → MayPut ms p 2 s x 1
@@ -73,14 +73,14 @@ pub answer_puts : (ms : List Machine_data) (p s n : ℕ) (x : Parcel) → ms ≡
 answer_puts ms p s n x a b c d l = moved (λ m i j k z. MayPut m i j k z 0) ms machines_of_relay p 2 1 1 s 1 x (number 1 n) a b refl c d
     record { arms = arm 1 sort.Natural 0 ∷ []; place = 0; arm = arm 1 sort.Natural 0; puts = refl; picks = refl; same_label = refl; has_sort = small n l; goes = refl }
 
-pub ask_takes : (ms : List Machine_data) (q s : ℕ) → ms ≡ machines_of_relay → q ≡ 1 → s ≡ 1 → TakesOne ms q (numbered 2) s 2
-ask_takes ms q s a b c = taken 2 ms machines_of_relay q 1 (numbered 2) (numbered 2) s 1 a b refl c record { arm = arm 1 sort.Natural 2; takes = refl; goes = refl }
+pub ask_takes : (ms : List Machine_data) (q s : ℕ) → ms ≡ machines_of_relay → q ≡ 1 → s ≡ 1 → TakesOne ms q (role_of_number 2) s 2
+ask_takes ms q s a b c = taken 2 ms machines_of_relay q 1 (role_of_number 2) (role_of_number 2) s 1 a b refl c record { arm = arm 1 sort.Natural 2; takes = refl; goes = refl }
 
-pub answer_takes : (ms : List Machine_data) (q s : ℕ) → ms ≡ machines_of_relay → q ≡ 2 → s ≡ 0 → TakesOne ms q (numbered 1) s 1
-answer_takes ms q s a b c = taken 1 ms machines_of_relay q 2 (numbered 1) (numbered 1) s 0 a b refl c record { arm = arm 0 sort.Natural 1; takes = refl; goes = refl }
+pub answer_takes : (ms : List Machine_data) (q s : ℕ) → ms ≡ machines_of_relay → q ≡ 2 → s ≡ 0 → TakesOne ms q (role_of_number 1) s 1
+answer_takes ms q s a b c = taken 1 ms machines_of_relay q 2 (role_of_number 1) (role_of_number 1) s 0 a b refl c record { arm = arm 0 sort.Natural 1; takes = refl; goes = refl }
 
-pub hear_takes : (ms : List Machine_data) (q s : ℕ) → ms ≡ machines_of_relay → q ≡ 0 → s ≡ 0 → TakesOne ms q (numbered 1) s 0
-hear_takes ms q s a b c = taken 0 ms machines_of_relay q 0 (numbered 1) (numbered 1) s 0 a b refl c record { arm = arm 2 sort.Natural 0; takes = refl; goes = refl }
+pub hear_takes : (ms : List Machine_data) (q s : ℕ) → ms ≡ machines_of_relay → q ≡ 0 → s ≡ 0 → TakesOne ms q (role_of_number 1) s 0
+hear_takes ms q s a b c = taken 0 ms machines_of_relay q 0 (role_of_number 1) (role_of_number 1) s 0 a b refl c record { arm = arm 2 sort.Natural 0; takes = refl; goes = refl }
 
 pub swap_puts : (ms : List Machine_data) (p q s : ℕ) (x : Parcel) → ms ≡ machines_of_swap → p + q ≡ 1 → s ≡ 0 → x ≡ unit p → MayPut ms p q s x 1
 swap_puts ms zero q s x a b c d = let one : q ≡ 1 = omega arith in moved (λ m i j k z. MayPut m i j k z 1) ms machines_of_swap 0 0 q 1 s 0 x (unit 0) a refl one c d
@@ -89,7 +89,7 @@ swap_puts ms (suc zero) q s x a b c d = let other : q ≡ 0 = omega arith in mov
     record { arms = arm 1 sort.Unit 1 ∷ []; place = 0; arm = arm 1 sort.Unit 1; puts = refl; picks = refl; same_label = refl; has_sort = refl; goes = refl }
 swap_puts ms (suc (suc p)) q s x a b c d = absurd (omega arith)
 
-pub swap_takes : (ms : List Machine_data) (q p s : ℕ) → ms ≡ machines_of_swap → q + p ≡ 1 → s ≡ 1 → TakesOne ms q (numbered p) s 2
-swap_takes ms zero p s a b c = let one : p ≡ 1 = omega arith in taken 2 ms machines_of_swap 0 0 (numbered p) (numbered 1) s 1 a refl (ap numbered one) c record { arm = arm 1 sort.Unit 2; takes = refl; goes = refl }
-swap_takes ms (suc zero) p s a b c = let other : p ≡ 0 = omega arith in taken 2 ms machines_of_swap 1 1 (numbered p) (numbered 0) s 1 a refl (ap numbered other) c record { arm = arm 0 sort.Unit 2; takes = refl; goes = refl }
+pub swap_takes : (ms : List Machine_data) (q p s : ℕ) → ms ≡ machines_of_swap → q + p ≡ 1 → s ≡ 1 → TakesOne ms q (role_of_number p) s 2
+swap_takes ms zero p s a b c = let one : p ≡ 1 = omega arith in taken 2 ms machines_of_swap 0 0 (role_of_number p) (role_of_number 1) s 1 a refl (ap role_of_number one) c record { arm = arm 1 sort.Unit 2; takes = refl; goes = refl }
+swap_takes ms (suc zero) p s a b c = let other : p ≡ 0 = omega arith in taken 2 ms machines_of_swap 1 1 (role_of_number p) (role_of_number 0) s 1 a refl (ap role_of_number other) c record { arm = arm 0 sort.Unit 2; takes = refl; goes = refl }
 swap_takes ms (suc (suc q)) p s a b c = absurd (omega arith)

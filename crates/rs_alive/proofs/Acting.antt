@@ -17,14 +17,14 @@ use Rattle.rs_core.specs.declared.messages.Stepped.{Stepped}
 use Rattle.rs_core.specs.declared.messages.Stepped.TheVariants.{Sent, Got}
 use Rattle.rs_core.specs.Choices.{AreWellFormed}
 use Rattle.rs_core.specs.Configurations.{Configuration, Step, state_at}
-use Rattle.rs_core.specs.Core.{HasStepped, IsRefused, IsUnsent, send_fault}
+use Rattle.rs_core.specs.Core.{HasStepped, StepIsRefused, IsUnsent, send_fault}
 use Rattle.rs_core.specs.Safety.{CanMove, MaySend, MayReceive}
 use Rattle.rs_core.proofs.Stands.{here-is}
-use Rattle.rs_alive.specs.Schedule.{CanLeadOn, LeadsOn, act_of}
+use Rattle.rs_alive.specs.Schedule.{CanLeadOn, WaitsLeadOn, act_of}
 use Rattle.rs_alive.proofs.Chains.{one-chain}
 
 -- where the waits lead, the role can go on
-pub can-move : (ms : List Machine_data) (c : Configuration) (p last : ℕ) → CanLeadOn ms c p → LeadsOn ms c p last → CanMove ms c last
+pub can-move : (ms : List Machine_data) (c : Configuration) (p last : ℕ) → CanLeadOn ms c p → WaitsLeadOn ms c p last → CanMove ms c last
 can-move ms c p last can leads =
     let one = one-chain ms c can.1.0 leads.0 p can.0 last can.1.1 leads.1 in
     subst (CanMove ms c) one.1 can.3
@@ -60,15 +60,15 @@ unsent o NotReceiving e u = absurd (cc (e, u))
 unsent o QueueEmpty e u = absurd (cc (e, u))
 unsent o NoMemory e u = refl
 
-pub memory : (ms : List Machine_data) (c : Configuration) (role : Role) (event : Event) (fault : StepFault) → CanMove ms c role.0 → act_of ms c role ≡ Some event → IsRefused ms c event fault
+pub memory : (ms : List Machine_data) (c : Configuration) (role : Role) (event : Event) (fault : StepFault) → CanMove ms c role.0 → act_of ms c role ≡ Some event → StepIsRefused ms c event fault
     → fault ≡ NoMemory
 memory ms c role event fault (MaySend peer arms h) a r =
     let s = sends-first ms c role peer arms event h a in
-    let P : Event → Type 0 = λ z. IsRefused ms c z fault in
+    let P : Event → Type 0 = λ z. StepIsRefused ms c z fault in
     let right : send_fault (state_at ms c role.0) 0 (empty_value s.0.sort) ≡ None = rw h (rw s.1 (rw (empty-fits s.0.sort) refl)) in
     unsent (send_fault (state_at ms c role.0) 0 (empty_value s.0.sort)) fault right (subst P s.2 r)
 memory ms c role event fault (MayReceive peer arms m later h q) a r =
-    let P : Event → Type 0 = λ z. IsRefused ms c z fault in
+    let P : Event → Type 0 = λ z. StepIsRefused ms c z fault in
     let e = subst P (receives ms c role peer arms event h a) r in
     let none : None ≡ Some fault = rw (h, q) at e in
     absurd (cc (none))

@@ -15,7 +15,7 @@ use Rattle.rs_core.specs.Configurations.{Configuration, Receives, Sends, StartsA
 use Rattle.rs_core.proofs.Ends.{get-there}
 use Rattle.rs_core.proofs.Moves.{after_receive, after_send, receive-step, send-step}
 use Rattle.rs_core.proofs.Stands.{here-is, within}
-use Rattle.rs_alive.specs.Pasts.{AgreeFor, IsNoPast, LeadsTo}
+use Rattle.rs_alive.specs.Pasts.{AgreeFor, IsNoPast, PastLeadsTo}
 
 -- what is the same at p, and elsewhere as before, is the same
 at-all : (n : ℕ) (c d c' d' : Configuration) (p : ℕ) → AgreeFor n c d → c'.at p ≡ d'.at p → ((r : ℕ) → r ≢ p → c'.at r ≡ c.at r) → ((r : ℕ) → r ≢ p → d'.at r ≡ d.at r)
@@ -101,7 +101,7 @@ starts-all ms c d s t = record {
   queue = λ p q. s.queues p q ∙ sym (t.queues p q);
 }
 
-pub one-configuration : (ms : List Machine_data) (past : List Event) (c d : Configuration) → HaveLabelsOnce ms → LeadsTo ms past c → LeadsTo ms past d → AgreeFor (length ms) c d
+pub one-configuration : (ms : List Machine_data) (past : List Event) (c d : Configuration) → HaveLabelsOnce ms → PastLeadsTo ms past c → PastLeadsTo ms past d → AgreeFor (length ms) c d
 one-configuration ms past c d once s t = steps-all ms s.first t.first past c d once (starts-all ms s.first t.first s.starts t.starts) s.steps t.steps
 
 -- the events before a place lead somewhere, and the event there is a step
@@ -111,7 +111,7 @@ steps-at ms c [] d i e s h = absurd (cc (h))
 steps-at ms c (z ∷ es) d zero e s h = let same : z ≡ e = cc (h) in let P : Event → Type 0 = λ w. Step ms c w s.0 in (c, s.0, refl, subst P same s.1)
 steps-at ms c (z ∷ es) d (suc i) e s h = let r = steps-at ms s.0 es d i e s.2 h in (r.0, r.1, (s.0, s.1, r.2), r.3)
 
-pub leads-nowhere : (ms : List Machine_data) (past : List Event) (place : ℕ) (c : Configuration) → HaveLabelsOnce ms → IsNoPast ms past place → LeadsTo ms past c → ⊥
+pub leads-nowhere : (ms : List Machine_data) (past : List Event) (place : ℕ) (c : Configuration) → HaveLabelsOnce ms → IsNoPast ms past place → PastLeadsTo ms past c → ⊥
 leads-nowhere ms past place c once n l =
     let r = steps-at ms l.first past c place n.event l.steps n.is in
     let a = one-configuration ms (take place past) r.0 n.at once record { first = l.first; starts = l.starts; steps = r.2 } n.leads in

@@ -11,7 +11,7 @@ use Rattle.rs_core.specs.declared.messages.Message.{Message}
 use Rattle.rs_core.specs.Choices.{AreWellFormed}
 use Rattle.rs_core.specs.Configurations.{Configuration, state_at}
 use Rattle.rs_core.proofs.Stands.{here-is}
-use Rattle.rs_alive.specs.Schedule.{CanLeadOn, Chain, LeadsOn, waits_by, waits_for}
+use Rattle.rs_alive.specs.Schedule.{CanLeadOn, Chain, WaitsLeadOn, waits_by, waits_for}
 
 -- who stands at a receive from an empty queue waits for its peer ..
 pub waits : (ms : List Machine_data) (c : Configuration) (p : ℕ) (peer : Role) (arms : List Arm) → state_at ms c p ≡ Some (Takes peer arms) → c.queue peer.0 p ≡ []
@@ -161,10 +161,10 @@ seek-on ms c from at hops peer s w there = by s.rest s.ahead s.all
         let P : Role → Type 0 = λ z. Chain ms c rest z.0 s.last in
         record { last = s.last; many = s.many; rest = rest; whole = s.whole; ahead = subst P same ahead.2; all = omega (arith, all); there = there }
 
-pub sought : (ms : List Machine_data) (c : Configuration) (from at hops : ℕ) → Sought ms c from at hops → waits_for ms c at ≡ None → LeadsOn ms c from at
+pub sought : (ms : List Machine_data) (c : Configuration) (from at hops : ℕ) → Sought ms c from at hops → waits_for ms c at ≡ None → WaitsLeadOn ms c from at
 sought ms c from at hops s w = by s.rest s.ahead
   where
-    by : (rest : ℕ) → Chain ms c rest at s.last → LeadsOn ms c from at
+    by : (rest : ℕ) → Chain ms c rest at s.last → WaitsLeadOn ms c from at
     by zero ahead = let P : ℕ → Type 0 = λ z. Chain ms c s.many from z in (s.many, subst P (sym ahead.1) s.whole)
     by (suc rest) ahead = absurd (let a = ahead.1 in cc (a, w))
 

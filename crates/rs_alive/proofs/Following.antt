@@ -15,7 +15,7 @@ use Rattle.rs_safety.specs.Accepting.{Accepted_data, IsAcceptedSession}
 use Rattle.rs_safety.specs.Room.{room_of}
 use Rattle.rs_safety.proofs.Walks.{same-role}
 use Rattle.rs_walks.proofs.Walked.{WalksOf, good, of-accepted}
-use Rattle.rs_alive.specs.Pasts.{LeadsTo}
+use Rattle.rs_alive.specs.Pasts.{PastLeadsTo}
 use Rattle.rs_alive.specs.Schedule.{Advances, CanLeadOn, act_of, takes_from}
 use Rattle.rs_alive.specs.Taken.{Else, IsTaken, Older, Oldest, acts_by}
 use Rattle.rs_alive.proofs.Acting.{receives, sends-first}
@@ -51,7 +51,7 @@ pub record Following (a : Accepted_data) (past : List Event) (p u : Role) (place
   pub count : length events + total (length a.machines) (most_of a past p) (done_after (done_in past) events) ≤ length a.machines * most_of a past p
   pub so_far : (rest : List Event) → IsTaken a.machines p u c before rest → IsTaken a.machines p u c0 place (events ++ rest)
 
-pub start : (a : Accepted_data) (past : List Event) (p u : Role) (place : ℕ) (c : Configuration) → IsAcceptedSession a → LeadsTo a.machines past c
+pub start : (a : Accepted_data) (past : List Event) (p u : Role) (place : ℕ) (c : Configuration) → IsAcceptedSession a → PastLeadsTo a.machines past c
     → p.0 < length a.machines → u.0 < length a.machines → p.0 ≢ u.0 → place < length (c.queue p.0 u.0) → Following a past p u place c c place []
 start a past p u place c s l hp hu ne there =
     let ds = of-accepted a s in

@@ -9,7 +9,7 @@ use Rattle.rs_alive.specs.declared.taking.AliveFault.{AliveFault}
 use Rattle.rs_alive.specs.declared.taking.AliveFault.TheVariants as fault
 
 -- the events, one after the other, lead from the start to c
-pub record LeadsTo (machines : List Machine_data) (events : List Event) (c : Configuration) : Type 0 where
+pub record PastLeadsTo (machines : List Machine_data) (events : List Event) (c : Configuration) : Type 0 where
   pub first : Configuration
   pub starts : StartsAt machines first
   pub steps : Steps machines first events c
@@ -18,7 +18,7 @@ pub record LeadsTo (machines : List Machine_data) (events : List Event) (c : Con
 -- sender to the receiver
 pub record IsContinued (machines : List Machine_data) (past : List Event) (sender receiver : Role) (place : ℕ) (events : List Event) : Type 0 where
   pub at : Configuration
-  pub leads : LeadsTo machines past at
+  pub leads : PastLeadsTo machines past at
   pub taken : IsTaken machines sender receiver at place events
 
 -- the event at that place is the first one of the past that is no step: those before it lead to a configuration, and from
@@ -27,22 +27,22 @@ pub record IsNoPast (machines : List Machine_data) (past : List Event) (place : 
   pub event : Event
   pub is : slice_get past place ≡ Some event
   pub at : Configuration
-  pub leads : LeadsTo machines (take place past) at
+  pub leads : PastLeadsTo machines (take place past) at
   pub no_step : (d : Configuration) → Step machines at event d → ⊥
 
 -- the past leads to a configuration in which the queue from the sender to the receiver has so many messages, and none
 -- stands at the place
 pub record HasNoMessage (machines : List Machine_data) (past : List Event) (sender receiver : Role) (place many : ℕ) : Type 0 where
   pub at : Configuration
-  pub leads : LeadsTo machines past at
+  pub leads : PastLeadsTo machines past at
   pub has : length (at.queue sender.0 receiver.0) ≡ many
   pub few : many ≤ place
 
 -- what a fault says; of refused memory nothing is said
-abbrev pub Tells : List Machine_data → List Event → Role → Role → ℕ → AliveFault → Type 0
-Tells machines past sender receiver place (fault.NotAPast at) = IsNoPast machines past at
-Tells machines past sender receiver place (fault.NoMessage len) = HasNoMessage machines past sender receiver place len
-Tells machines past sender receiver place fault.NoMemory = Unit {0}
+abbrev pub PastTells : List Machine_data → List Event → Role → Role → ℕ → AliveFault → Type 0
+PastTells machines past sender receiver place (fault.NotAPast at) = IsNoPast machines past at
+PastTells machines past sender receiver place (fault.NoMessage len) = HasNoMessage machines past sender receiver place len
+PastTells machines past sender receiver place fault.NoMemory = Unit {0}
 
 -- the same states of the first so many roles, and the same messages under way
 pub record AgreeFor (roles : ℕ) (c d : Configuration) : Type 0 where

@@ -33,12 +33,12 @@ Chain machines c zero p last = (waits_for machines c p ≡ None) × (p ≡ last)
 Chain machines c (suc many) p last = (peer : Role) × (waits_for machines c p ≡ Some peer) × Chain machines c many peer.0 last
 
 -- some waits lead from one role to another
-abbrev pub LeadsOn : List Machine_data → Configuration → ℕ → ℕ → Type 0
-LeadsOn machines c p last = (many : ℕ) × Chain machines c many p last
+abbrev pub WaitsLeadOn : List Machine_data → Configuration → ℕ → ℕ → Type 0
+WaitsLeadOn machines c p last = (many : ℕ) × Chain machines c many p last
 
 -- .. which is one of the roles and can go on
 abbrev pub CanLeadOn : List Machine_data → Configuration → ℕ → Type 0
-CanLeadOn machines c p = (last : ℕ) × LeadsOn machines c p last × (last < length machines) × CanMove machines c last
+CanLeadOn machines c p = (last : ℕ) × WaitsLeadOn machines c p last × (last < length machines) × CanMove machines c last
 
 -- what a role in that state does: it sends by its first arm, or it receives
 abbrev pub act_by : Option State → Role → Option Event
@@ -67,7 +67,7 @@ takes_from machines c role sender receiver = nat_eq role.0 receiver.0 && takes_b
 -- takes a message of the sender to the receiver
 pub record Advances (machines : List Machine_data) (sender receiver : Role) (c d : Configuration) (event : Event) (takes : Bool) : Type 0 where
   pub role : Role
-  pub leads : LeadsOn machines c receiver.0 role.0
+  pub leads : WaitsLeadOn machines c receiver.0 role.0
   pub acts : act_of machines c role ≡ Some event
   pub step : Step machines c event d
   pub tells : takes ≡ takes_from machines c role sender receiver

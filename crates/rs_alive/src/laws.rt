@@ -13,7 +13,7 @@ ghost use Rattle.rs_derive.specs.Data.{Derivation_data};
 ghost use Rattle.rs_core.specs.Choices.{AreWellFormed, HaveLabelsOnce};
 ghost use Rattle.rs_safety.specs.Sessions.{AreDerivations};
 ghost use Rattle.rs_safety.specs.Room.{room_of};
-ghost use Rattle.rs_alive.specs.Pasts.{AgreeFor, IsNoPast, LeadsTo};
+ghost use Rattle.rs_alive.specs.Pasts.{AgreeFor, IsNoPast, PastLeadsTo};
 ghost use Rattle.rs_alive.specs.Taken.{EndsWithReceive, IsTaken, acts_by};
 
 /// Every message that is under way can be taken: some events lead to its receive, and they are at most twice the number
@@ -36,11 +36,11 @@ pub fn taken_is_the_message_at_the_place()
 
 /// A past leads to one configuration, as far as the roles and the queues go.
 pub fn a_past_leads_to_one_configuration()
-    ensures { (machines : List Machine_data) (past : List Event) (c d : Configuration) → HaveLabelsOnce machines → LeadsTo machines past c → LeadsTo machines past d
+    ensures { (machines : List Machine_data) (past : List Event) (c d : Configuration) → HaveLabelsOnce machines → PastLeadsTo machines past c → PastLeadsTo machines past d
         → AgreeFor (length machines) c d }
 {}
 
 /// What has an event that is no step leads nowhere.
 pub fn no_past_leads_nowhere()
-    ensures { (machines : List Machine_data) (past : List Event) (place : ℕ) (c : Configuration) → HaveLabelsOnce machines → IsNoPast machines past place → LeadsTo machines past c → ⊥ }
+    ensures { (machines : List Machine_data) (past : List Event) (place : ℕ) (c : Configuration) → HaveLabelsOnce machines → IsNoPast machines past place → PastLeadsTo machines past c → ⊥ }
 {}

@@ -7,7 +7,7 @@ ghost use Rattle.rs_model.specs.declared.graph.Arm.{Arm};
 ghost use Rattle.rs_model.specs.declared.graph.Role.{Role};
 ghost use Rattle.rs_model.specs.declared.machines.State.TheVariants.{Takes};
 ghost use Rattle.rs_core.specs.Choices.{AreWellFormed};
-ghost use Rattle.rs_alive.specs.Schedule.{Advances, CanLeadOn, LeadsOn, act_of, takes_from, waits_for};
+ghost use Rattle.rs_alive.specs.Schedule.{Advances, CanLeadOn, WaitsLeadOn, act_of, takes_from, waits_for};
 
 use rs_core::{Core, Event, StepFault};
 use rs_model::{Machine, NoMemory, Numbers, Octets, Role, Sort, State, Value};
@@ -50,7 +50,7 @@ fn last_of(machines: &[Machine], core: &Core, role: Role) -> Role
     requires well_formed { AreWellFormed machines.now }
     requires there { role.0 < length machines.now }
     requires leads { CanLeadOn core.now.machines (configuration_of core.now) role.0 }
-    ensures leads { LeadsOn core.now.machines (configuration_of core.now) role.0 result.0 }
+    ensures leads { WaitsLeadOn core.now.machines (configuration_of core.now) role.0 result.0 }
     ensures there { result.0 < length machines.now }
 {
     let mut last = role;

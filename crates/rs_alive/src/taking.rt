@@ -1,5 +1,5 @@
 ghost use Rattle.std.specs.Prelude.{◌≡◌, ◌≢◌, ◌<◌, ◌≤◌, ◌^◌, ◌*◌, ◌+◌, ◌++◌, ◌∷◌, [], IfOk, IfErr, OnOk, length};
-ghost use Rattle.rs_alive.specs.Pasts.{IsContinued, LeadsTo, Tells};
+ghost use Rattle.rs_alive.specs.Pasts.{IsContinued, PastLeadsTo, PastTells};
 ghost use Rattle.rs_alive.specs.Replays.{IsReplayFault, IsStepFault};
 ghost use Rattle.rs_alive.specs.Taken.{acts_by};
 ghost use Rattle.rs_core.specs.Configurations.{Step, role_of};
@@ -53,7 +53,7 @@ pub fn taken_within(
     requires few { length past.now < 2 ^ 32 }
     ensures continued { IfOk result (λ v. IsContinued accepted.now.machines past.now sender receiver place v.items) }
     ensures bounded { IfOk result (λ v. length v.items ≤ 2 * length accepted.now.machines * length accepted.now.protocol.nodes * (acts_by sender.0 past.now + 3 * room_of accepted.now.derivations)) }
-    ensures fault { IfErr result (λ e. Tells accepted.now.machines past.now sender receiver place e) }
+    ensures fault { IfErr result (λ e. PastTells accepted.now.machines past.now sender receiver place e) }
 {
     let machines = accepted.machines();
     let mut core = replayed(alloc, accepted, past)?;
@@ -86,7 +86,7 @@ fn push(events: &mut Vec<Event>, event: Event) -> Result<(), NoMemory>
 fn replayed(alloc: Global, accepted: &Accepted, past: &[Event]) -> Result<Core, AliveFault>
     requires few { length past.now < 2 ^ 32 }
     ensures machines { IfOk result (λ c. c.machines ≡ accepted.now.machines) }
-    ensures leads { IfOk result (λ c. LeadsTo accepted.now.machines past.now (configuration_of c)) }
+    ensures leads { IfOk result (λ c. PastLeadsTo accepted.now.machines past.now (configuration_of c)) }
     ensures fault { IfErr result (λ e. IsReplayFault accepted.now.machines past.now e) }
 {
     let mut core = Core::begin(alloc, copies_of(alloc, accepted.machines())?)?;

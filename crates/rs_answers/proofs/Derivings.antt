@@ -19,14 +19,14 @@ use Rattle.rs_safety.proofs.Accepts.{accepted-safe, gets, machine-proper, projec
 use Rattle.rs_safety.proofs.Sessions.{no-machine, no-projection}
 use Rattle.rs_search.proofs.Accepted.{accepted, derives, remembers}
 use Rattle.rs_search.proofs.Determined.{few_nodes}
-use Rattle.rs_search.specs.Canonical.{IsFound, Refuses}
+use Rattle.rs_search.specs.Canonical.{IsCanonical, SearchRefuses}
 use Rattle.rs_search.specs.declared.faults.SearchFault.{SearchFault}
 use Rattle.rs_search.specs.declared.faults.SearchFault.TheVariants as search
 use Rattle.rs_wellformed.specs.Faults as of_protocols
 use Rattle.rs_wellformed.proofs.Faults as well_formed_protocols
 use Rattle.rs_documents.specs.Data.{Document_data}
-use Rattle.rs_answers.specs.Derivations.{AreCanonical, AreFirstCanonical, IsBound, IsUnderivable}
-use Rattle.rs_documents.specs.Reading.{AreInPlace, IsReady}
+use Rattle.rs_answers.specs.Derivations.{AreCanonical, AreFirstCanonical, IsSearchBound, IsUnderivable}
+use Rattle.rs_documents.specs.Reading.{AreInPlace, DocumentIsReady}
 use Rattle.rs_answers.specs.Sessions.{HasMachines, MachineRefusal, first_refusal, refusal_or}
 use Rattle.rs_answers.specs.Machines.{machine_or, machines_of}
 use Rattle.rs_documents.proofs.SpeltSessions.{IsSpeltSession}
@@ -91,11 +91,11 @@ session_of d ps ms spelt none h e fine =
     }
 
 -- what is ready gives the same
-pub ready_session : (d : Document_data) → IsReady d → length d.names.roles ≡ d.protocol.roles → IsSpeltSession d
+pub ready_session : (d : Document_data) → DocumentIsReady d → length d.names.roles ≡ d.protocol.roles → IsSpeltSession d
 ready_session d ready roles = record { two = ready.two; few = ready.roles; roles = roles; one_each = ready.one_each; in_place = ready.in_place; a_derivation_each = ready.derivations.one_each; derivations_in_place = ready.derivations.in_place }
 
 -- .. of machines that the document has
-pub session_has : (d : Document_data) (ps : List Projection_data) (ms : List Machine_data) → IsReady d → length d.names.roles ≡ d.protocol.roles → HasMachines d ps ms → IsSession d.protocol ps ms
+pub session_has : (d : Document_data) (ps : List Projection_data) (ms : List Machine_data) → DocumentIsReady d → length d.names.roles ≡ d.protocol.roles → HasMachines d ps ms → IsSession d.protocol ps ms
 session_has d ps ms ready roles h = session_of d ps ms (ready_session d ready roles) h.projections_are.well_formed h.projections_are.projected h.machines_are h.well_formed
 
 -- no role is there yet
@@ -113,7 +113,7 @@ last_or_before (z ∷ zs) y (suc q) x e = elim (last_or_before zs y q x e) [
 
 -- one role more
 pub next_canonical : (bound : ℕ) (ms : List Machine_data) (ps : List Projection_data) (count : ℕ) (ds : List Derivation_data) (m : Machine_data) (j : Projection_data) (d : Derivation_data) → AreFirstCanonical bound ms ps count ds
-    → slice_get ms count ≡ Some m → slice_get ps count ≡ Some j → IsFound m j.machine bound d → AreFirstCanonical bound ms ps (count + 1) (ds ++ d ∷ [])
+    → slice_get ms count ≡ Some m → slice_get ps count ≡ Some j → IsCanonical m j.machine bound d → AreFirstCanonical bound ms ps (count + 1) (ds ++ d ∷ [])
 next_canonical bound ms ps count ds m j d h am aj found =
     let size = length-append ds (d ∷ []) in
     let many = h.many in
@@ -125,16 +125,16 @@ next_canonical bound ms ps count ds m j d h am aj found =
             let place : p ≡ count = last.0 ∙ many in
             let em : m ≡ m' = same_Some m m' (sym am ∙ ap (λ z. slice_get ms z) (sym place) ∙ hm) in
             let ej : j ≡ j' = same_Some j j' (sym aj ∙ ap (λ z. slice_get ps z) (sym place) ∙ hj) in
-            let P : Machine_data → Type 0 = λ z. IsFound z j.machine bound d in
-            let Q : Projection_data → Type 0 = λ z. IsFound m' z.machine bound d in
-            let R : Derivation_data → Type 0 = λ z. IsFound m' j'.machine bound z in
+            let P : Machine_data → Type 0 = λ z. IsCanonical z j.machine bound d in
+            let Q : Projection_data → Type 0 = λ z. IsCanonical m' z.machine bound d in
+            let R : Derivation_data → Type 0 = λ z. IsCanonical m' j'.machine bound z in
             subst R last.1 (subst Q ej (subst P em found)))
       ];
     }
 
 -- .. or none for it
 pub underivable : (bound : ℕ) (ms : List Machine_data) (ps : List Projection_data) (role : Role) (ds : List Derivation_data) (m : Machine_data) (j : Projection_data) (fault : SearchFault) → AreFirstCanonical bound ms ps role.0 ds
-    → slice_get ms role.0 ≡ Some m → slice_get ps role.0 ≡ Some j → Refuses m j.machine bound fault → (fault ≡ search.NoMemory) ⊎ IsUnderivable bound ms ps role fault
+    → slice_get ms role.0 ≡ Some m → slice_get ps role.0 ≡ Some j → SearchRefuses m j.machine bound fault → (fault ≡ search.NoMemory) ⊎ IsUnderivable bound ms ps role fault
 underivable bound ms ps role ds m j search.NoMemory h am aj r = inl refl
 underivable bound ms ps role ds m j (search.NotFound cut) h am aj r = inr record { machine = m; projection = j; runs = am; projects = aj; earlier = ds; derived = h; refused = r; cause = λ e. cc (e) }
 underivable bound ms ps role ds m j (search.Forgets node) h am aj r = inr record { machine = m; projection = j; runs = am; projects = aj; earlier = ds; derived = h; refused = r; cause = λ e. cc (e) }
@@ -146,7 +146,7 @@ pub record FoundAt (bound : ℕ) (ms : List Machine_data) (ps : List Projection_
   pub projection : Projection_data
   pub runs : slice_get ms p ≡ Some machine
   pub projects : slice_get ps p ≡ Some projection
-  pub found : IsFound machine projection.machine bound d
+  pub found : IsCanonical machine projection.machine bound d
 
 pub found_at : (bound : ℕ) (pr : Protocol_data) (ps : List Projection_data) (ms : List Machine_data) (ds : List Derivation_data) → IsSession pr ps ms → AreCanonical bound ms ps ds → (p : ℕ) (d : Derivation_data) → slice_get ds p ≡ Some d → FoundAt bound ms ps p d
 found_at bound pr ps ms ds s h p d at =
@@ -167,7 +167,7 @@ derivations_are bound pr ps ms ds s h = record {
 }
 
 -- what was found for the roles can be tested
-pub one_each : (bound : ℕ) → IsBound bound → (pr : Protocol_data) (ps : List Projection_data) (ms : List Machine_data) (ds : List Derivation_data) → IsSession pr ps ms → AreCanonical bound ms ps ds → AreOneEach pr.roles ds
+pub one_each : (bound : ℕ) → IsSearchBound bound → (pr : Protocol_data) (ps : List Projection_data) (ms : List Machine_data) (ds : List Derivation_data) → IsSession pr ps ms → AreCanonical bound ms ps ds → AreOneEach pr.roles ds
 one_each bound within pr ps ms ds s h = record {
   many = h.many ∙ s.a_machine_each;
   role = λ p d at. (let f = found_at bound pr ps ms ds s h p d at in ap (λ (z : Role). z.0) f.found.canonical.role ∙ s.machines_fit.role p f.machine f.runs);

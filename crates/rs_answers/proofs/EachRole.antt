@@ -9,7 +9,7 @@ use Rattle.rs_project.specs.Refusals.{FirstRefusal}
 use Rattle.rs_project.specs.declared.projecting.ProjFault.{ProjFault}
 use Rattle.rs_project.specs.declared.projecting.ProjFault.TheVariants as proj
 use Rattle.rs_documents.specs.Data.{Document_data}
-use Rattle.rs_documents.specs.Reading.{AreShort, IsReady}
+use Rattle.rs_documents.specs.Reading.{AreShort, DocumentIsReady}
 use Rattle.rs_answers.specs.Sessions.{Refuses, machine_or, machines_of}
 
 last_or_before : (xs : List Projection_data) (y : Projection_data) (q : ℕ) (x : Projection_data) → slice_get (xs ++ y ∷ []) q ≡ Some x → (slice_get xs q ≡ Some x) ⊎ ((q ≡ length xs) × (y ≡ x))
@@ -88,10 +88,10 @@ chosen_small (x ∷ xs) (p ∷ ps) short few zero d lt =
     small_one x p (λ m e. let a : length m.states ≤ MOST_ACTS + 1 = short 0 m (ap Some e) in omega arith) (let b : length p.machine.states ≤ MOST_STATES = few 0 p refl in omega arith)
 chosen_small (x ∷ xs) (p ∷ ps) short few (suc k) d lt = chosen_small xs ps (λ j m e. short (suc j) m e) (λ j q e. few (suc j) q e) k d (omega arith)
 
-sizes : (own : List (Option Machine_data)) (d : Document_data) (projections : List Projection_data) → own ≡ d.machines → IsReady d → length d.names.roles ≡ d.protocol.roles → AreNumberedProjections d.protocol projections → length own ≡ length projections
+sizes : (own : List (Option Machine_data)) (d : Document_data) (projections : List Projection_data) → own ≡ d.machines → DocumentIsReady d → length d.names.roles ≡ d.protocol.roles → AreNumberedProjections d.protocol projections → length own ≡ length projections
 sizes own d projections e ready roles h = ap length e ∙ ready.one_each ∙ roles ∙ sym h.many
 
-pub chosen_size_by : (d : Document_data) (own : List (Option Machine_data)) (projections : List Projection_data) (machines : List Machine_data) → own ≡ d.machines → IsReady d → length d.names.roles ≡ d.protocol.roles
+pub chosen_size_by : (d : Document_data) (own : List (Option Machine_data)) (projections : List Projection_data) (machines : List Machine_data) → own ≡ d.machines → DocumentIsReady d → length d.names.roles ≡ d.protocol.roles
     → AreNumberedProjections d.protocol projections → machines ≡ machines_of own projections → length machines ≡ length projections
 chosen_size_by d own projections machines e ready roles h is = ap length is ∙ chosen_size own projections (sizes own d projections e ready roles h)
 
@@ -103,7 +103,7 @@ few_states protocol projections h k p e =
     let few = x.few in
     omega arith
 
-pub chosen_small_by : (d : Document_data) (own : List (Option Machine_data)) (projections : List Projection_data) (machines : List Machine_data) → own ≡ d.machines → IsReady d
+pub chosen_small_by : (d : Document_data) (own : List (Option Machine_data)) (projections : List Projection_data) (machines : List Machine_data) → own ≡ d.machines → DocumentIsReady d
     → AreNumberedProjections d.protocol projections → machines ≡ machines_of own projections → (k : ℕ) (x : Machine_data) → k < length machines → length (slice_index_or machines k x).states < 4294967296
 chosen_small_by d own projections machines e ready h is =
     subst (λ (z : List Machine_data). (k : ℕ) (x : Machine_data) → k < length z → length (slice_index_or z k x).states < 4294967296) (sym is)

@@ -8,7 +8,7 @@ use Rattle.rs_project.specs.Data.{Projection_data}
 use Rattle.rs_project.specs.Numbered.{AreFirstProjections, AreNumberedProjections}
 use Rattle.rs_project.specs.declared.projecting.ProjFault.{ProjFault}
 use Rattle.rs_derive.specs.Data.{Derivation_data}
-use Rattle.rs_search.specs.Canonical.{Refuses}
+use Rattle.rs_search.specs.Canonical.{SearchRefuses}
 use Rattle.rs_search.specs.declared.faults.SearchFault.{SearchFault}
 use Rattle.rs_search.proofs.Determined.{not_both_ways}
 use Rattle.rs_search.proofs.Determined as searched
@@ -127,9 +127,9 @@ one_underivable bound ms ps r s f g u v = elim (leb_tells (suc r.0) s.0) [
         let same : r ≡ s = same_role r s place in
         let machine : u.machine ≡ v.machine = same_Some u.machine v.machine (sym u.runs ∙ ap (λ z. slice_get ms z) place ∙ v.runs) in
         let projection : u.projection ≡ v.projection = same_Some u.projection v.projection (sym u.projects ∙ ap (λ z. slice_get ps z) place ∙ v.projects) in
-        let P : Machine_data → Type 0 = λ z. Refuses z u.projection.machine bound f in
-        let Q : Projection_data → Type 0 = λ z. Refuses v.machine z.machine bound f in
-        let refused : Refuses v.machine v.projection.machine bound f = subst Q projection (subst P machine u.refused) in
+        let P : Machine_data → Type 0 = λ z. SearchRefuses z u.projection.machine bound f in
+        let Q : Projection_data → Type 0 = λ z. SearchRefuses v.machine z.machine bound f in
+        let refused : SearchRefuses v.machine v.projection.machine bound f = subst Q projection (subst P machine u.refused) in
         (same, searched.one_refusal v.machine v.projection.machine bound f g u.cause v.cause refused v.refused)
   ]
 ]

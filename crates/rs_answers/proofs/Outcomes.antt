@@ -13,7 +13,7 @@ use Rattle.rs_core.specs.Determined.{SameMoment, SameOutcome}
 use Rattle.rs_core.specs.Draws.{by_draws}
 use Rattle.rs_core.specs.Histories.{History, transcript_of}
 use Rattle.rs_core.specs.Plain.{Moment, Ending, Ended, Stopped, Stuck, IsPlain, FirstFull}
-use Rattle.rs_core.specs.Runs.{HasActors, HasTranscripts, IsFullAt, IsShown, got_from, sent_to}
+use Rattle.rs_core.specs.Runs.{HasActors, HasTranscripts, IsFullAt, EndingShows, got_from, sent_to}
 use Rattle.rs_core.specs.Safety.{IsSafe}
 use Rattle.rs_core.specs.declared.runs.Outcome.{Outcome}
 use Rattle.rs_core.specs.declared.runs.Outcome.TheVariants as outcome
@@ -28,11 +28,11 @@ use Rattle.rs_safety.specs.Sessions.{IsSession}
 use Rattle.rs_answers.specs.Data.{Answer_data}
 use Rattle.rs_answers.specs.Runs.{TellsEnd, HasEnded, IsStopped, IsFull, TellsRun, actor_of, capacity_of, ended_answer, outcome_answer, stopped_answer, full_answer}
 use Rattle.rs_answers.specs.declared.runs.RunOptions.{RunOptions}
-use Rattle.rs_words.specs.Meaning.{IsFrom}
+use Rattle.rs_words.specs.Meaning.{IsFromTo}
 use Rattle.rs_model.specs.declared.limits.TheConstants.{MOST_CAPACITY}
 
 -- a capacity that is asked for, or that the room gives, is one that queues can have
-pub capacity_fits : (ring : Option ℕ) (derivations : List Derivation_data) → IfSome ring (IsFrom 1 MOST_CAPACITY) → (1 ≤ capacity_of ring (room_of derivations)) × (capacity_of ring (room_of derivations) ≤ MOST_CAPACITY)
+pub capacity_fits : (ring : Option ℕ) (derivations : List Derivation_data) → IfSome ring (IsFromTo 1 MOST_CAPACITY) → (1 ≤ capacity_of ring (room_of derivations)) × (capacity_of ring (room_of derivations) ≤ MOST_CAPACITY)
 capacity_fits (Some ring) ds h = h
 capacity_fits None ds h = (omega arith, omega arith)
 
@@ -41,7 +41,7 @@ pub few_machines : (pr : Protocol_data) (ps : List Projection_data) (ms : List M
 few_machines pr ps ms s = let many = s.a_machine_each in let few = s.roles.1 in omega arith
 
 -- what a run shows is what is told of its end
-tells_shown : (names : Names_data) (ms : List Machine_data) (capacity : ℕ) (o : Ending ℕ) (x : Outcome) (actors : List ℕ) (a : Answer_data) → IsShown (length ms) o x actors → a ≡ outcome_answer names x → TellsEnd names ms capacity a o
+tells_shown : (names : Names_data) (ms : List Machine_data) (capacity : ℕ) (o : Ending ℕ) (x : Outcome) (actors : List ℕ) (a : Answer_data) → EndingShows (length ms) o x actors → a ≡ outcome_answer names x → TellsEnd names ms capacity a o
 tells_shown names ms capacity (Ended k) (outcome.Ended transcripts) actors a s e = HasEnded k transcripts s.0 e
 tells_shown names ms capacity (Ended k) (outcome.Stopped role) actors a s e = absurd s
 tells_shown names ms capacity (Stopped p k) (outcome.Ended transcripts) actors a s e = absurd s
@@ -50,7 +50,7 @@ tells_shown names ms capacity (Stuck k) (outcome.Ended transcripts) actors a s e
 tells_shown names ms capacity (Stuck k) (outcome.Stopped role) actors a s e = absurd s
 
 pub tells_run : (options : RunOptions) (names : Names_data) (ms : List Machine_data) (ds : List Derivation_data) (x : Outcome) (actors : List ℕ) (a : Answer_data)
-    → (o : Ending ℕ) × IsPlain ms by_draws (actor_of options.seed) options.limit (Some (capacity_of options.ring (room_of ds))) o × IsShown (length ms) o x actors
+    → (o : Ending ℕ) × IsPlain ms by_draws (actor_of options.seed) options.limit (Some (capacity_of options.ring (room_of ds))) o × EndingShows (length ms) o x actors
     → a ≡ outcome_answer names x → TellsRun options names ms ds a
 tells_run options names ms ds x actors a p e = record { end = p.0; plain = p.1; tells = tells_shown names ms (capacity_of options.ring (room_of ds)) p.0 x actors a p.2 e }
 

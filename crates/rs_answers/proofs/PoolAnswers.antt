@@ -8,7 +8,7 @@ use Rattle.rs_core.specs.Determined.{SameOutcome}
 use Rattle.rs_core.specs.Draws.{by_draws}
 use Rattle.rs_core.specs.Histories.{transcript_of}
 use Rattle.rs_core.specs.Plain.{Moment, Ending, Ended, Stopped, Stuck, IsPlain}
-use Rattle.rs_core.specs.Runs.{HasActors, HasTranscripts, IsShown}
+use Rattle.rs_core.specs.Runs.{HasActors, HasTranscripts, EndingShows}
 use Rattle.rs_core.specs.Safety.{IsSafe}
 use Rattle.rs_core.specs.declared.runs.Outcome.{Outcome}
 use Rattle.rs_core.specs.declared.runs.Outcome.TheVariants as outcome
@@ -103,7 +103,7 @@ one_with workers options bytes d a b doc (BySeveral more h) (BySeveral other k) 
 -- ---- some answer
 
 -- where a run has ended, each that comes to the same shows the same
-still_shown : (roles : ℕ) (k : Moment ℕ) (o : Ending ℕ) (transcripts : List (List Entry)) (left : List ℕ) → HasTranscripts roles k.history transcripts → HasActors roles k.actor left → SameOutcome roles (Ended k) o → IsShown roles o (outcome.Ended transcripts) left
+still_shown : (roles : ℕ) (k : Moment ℕ) (o : Ending ℕ) (transcripts : List (List Entry)) (left : List ℕ) → HasTranscripts roles k.history transcripts → HasActors roles k.actor left → SameOutcome roles (Ended k) o → EndingShows roles o (outcome.Ended transcripts) left
 still_shown roles k (Ended l) transcripts left t a same = (
   record { many = t.many; each = λ p there. t.each p there ∙ ap (λ z. Some (transcript_of z)) (same.history p) },
   record { many = a.many; each = λ p there. a.each p there ∙ ap (λ (z : ℕ). Some z) (same.actor p) },

@@ -13,7 +13,7 @@ use Rattle.rs_derive.specs.Derivations.{spot_of}
 use Rattle.rs_derive.specs.Moves.{Spot}
 use Rattle.rs_documents.specs.Canonical.{ArePrintable, CanBeShown}
 use Rattle.rs_documents.specs.Data.{Document_data}
-use Rattle.rs_documents.specs.Reading.{IsReady}
+use Rattle.rs_documents.specs.Reading.{DocumentIsReady}
 use Rattle.rs_global.specs.Enough.{AreEnough}
 use Rattle.rs_graph.proofs.Growth.{at_in}
 use Rattle.rs_graph.specs.Lists.{Among}
@@ -31,14 +31,14 @@ use Rattle.rs_project.proofs.Machines.{projection-machine}
 use Rattle.rs_project.proofs.Numbers.{choice-leads}
 use Rattle.rs_project.specs.Data.{Projection_data}
 use Rattle.rs_project.specs.Marks as marks
-use Rattle.rs_project.specs.Projection.{Choice, IsProjection, IsStateOf, IsDone, IsPuts, IsTakes, LeadsOn, choice_of, merged_choices}
+use Rattle.rs_project.specs.Projection.{LabelChoice, IsProjection, IsStateOf, IsDone, IsPuts, IsTakes, LeadsOn, choice_of, merged_choices}
 use Rattle.rs_safety.specs.Sessions.{IsSession}
 use Rattle.rs_search.proofs.Accepted.{nodes_are_candidates}
 use Rattle.rs_search.proofs.Determined.{few_nodes}
-use Rattle.rs_search.specs.Canonical.{IsFound}
+use Rattle.rs_search.specs.Canonical.{IsCanonical}
 use Rattle.rs_wellformed.specs.WellFormed.{IsWellFormed}
 use Rattle.rs_answers.specs.Checks.{with_derivations}
-use Rattle.rs_answers.specs.Derivations.{AreCanonical, IsBound}
+use Rattle.rs_answers.specs.Derivations.{AreCanonical, IsSearchBound}
 use Rattle.rs_answers.specs.Sessions.{HasMachines}
 use Rattle.rs_answers.proofs.Derivings.{found_at, session_has}
 use Rattle.rs_answers.proofs.Owed.{IsActOf, Sends, Receives, owed_acts}
@@ -57,7 +57,7 @@ led-named names pr members l next enough on =
 arm-named : (names : Names_data) (pr : Protocol_data) (members : List ℕ) (arms : List Arm) (place : ℕ) (arm : Arm) → AreEnough names pr → map choice_of arms ≡ merged_choices pr members → slice_get arms place ≡ Some arm
     → arm.label.0 < length names.labels
 arm-named names pr members arms place arm enough same at =
-    let on = choice-leads pr members (choice_of arm) (subst (λ (z : List Choice). marks.Among z (choice_of arm)) same (arm-choice arms place arm at)) in
+    let on = choice-leads pr members (choice_of arm) (subst (λ (z : List LabelChoice). marks.Among z (choice_of arm)) same (arm-choice arms place arm at)) in
     led-named names pr members arm.label on.0 enough on.1
 
 puts-named : (names : Names_data) (pr : Protocol_data) (role : Role) (sets : List (List ℕ)) (members : List ℕ) (peer : Role) (arms : List Arm) (place : ℕ) (arm : Arm) → AreEnough names pr → IsStateOf pr role sets members (Puts peer arms)
@@ -115,7 +115,7 @@ owed-at (n ∷ nodes) a h = elim (in-parts n.pending (flat_map (λ (m : DNode_da
 ]
 
 owed-named : (names : Names_data) (pr : Protocol_data) (role : Role) (m : Machine_data) (j : Projection_data) (bound : ℕ) (d : Derivation_data) → AreEnough names pr → IsProjection pr role j → IsWellFormedMachine j.machine pr.roles
-    → IsFound m j.machine bound d → (a : Act) → Among (acts_of d) a → IsNamed names a
+    → IsCanonical m j.machine bound d → (a : Act) → Among (acts_of d) a → IsNamed names a
 owed-named names pr role m j bound d enough is w found a h =
     let o = owed-at d.nodes a h in
     let at = at_in d.nodes o.0 o.1 in
@@ -168,7 +168,7 @@ label-below (a ∷ acts) n q h e = elim (or-first (eqb q (label_of a)) (list_any
 
 -- what is found for a role
 pub printable : (names : Names_data) (pr : Protocol_data) (role : Role) (m : Machine_data) (j : Projection_data) (bound : ℕ) (d : Derivation_data) → IsWellFormed pr → AreEnough names pr → length names.labels ≤ MOST_LABELS
-    → role.0 < pr.roles → IsProjection pr role j → m.role ≡ role → IsBound bound → IsFound m j.machine bound d → IsPrintable names d
+    → role.0 < pr.roles → IsProjection pr role j → m.role ≡ role → IsSearchBound bound → IsCanonical m j.machine bound d → IsPrintable names d
 printable names pr role m j bound d wf enough few known is same within found =
     let w = projection-machine pr role j wf known is in
     let named = owed-named names pr role m j bound d enough is w found in
@@ -193,7 +193,7 @@ printable names pr role m j bound d wf enough few known is same within found =
     some-nodes [] x e = absurd (none-some x e)
     some-nodes (n ∷ nodes) x e = omega arith
 
-    at-first : (d : Derivation_data) → IsFound m j.machine bound d → 1 ≤ length d.nodes
+    at-first : (d : Derivation_data) → IsCanonical m j.machine bound d → 1 ≤ length d.nodes
     at-first d f = some-nodes d.nodes _ f.canonical.first
 
 there : (ds : List Derivation_data) (k : ℕ) (d : Derivation_data) → slice_get (map Some ds) k ≡ Some (Some d) → slice_get ds k ≡ Some d
@@ -203,7 +203,7 @@ there (x ∷ ds) (suc k) d e = there ds k d e
 
 -- .. for each role of a session
 all_printable : (names : Names_data) (bound : ℕ) (pr : Protocol_data) (ps : List Projection_data) (ms : List Machine_data) (ds : List Derivation_data) → IsSession pr ps ms → AreEnough names pr → length names.labels ≤ MOST_LABELS
-    → IsBound bound → AreCanonical bound ms ps ds → ArePrintable names (map Some ds)
+    → IsSearchBound bound → AreCanonical bound ms ps ds → ArePrintable names (map Some ds)
 all_printable names bound pr ps ms ds s enough few within h k d at =
     let stands = there ds k d at in
     let f = found_at bound pr ps ms ds s h k d stands in
@@ -214,7 +214,7 @@ all_printable names bound pr ps ms ds s enough few within h k d at =
     printable names pr (record { 0 = k }) f.machine f.projection bound d s.well_formed enough few (omega (arith, lt, many, each)) (s.projected.each k f.projection f.projects).is role within f.found
 
 -- a document that can be shown can be shown with the derivations that are found for it
-pub can_show_found : (bound : ℕ) (d : Document_data) (ps : List Projection_data) (ms : List Machine_data) (ds : List Derivation_data) → IsReady d → length d.names.roles ≡ d.protocol.roles → CanBeShown d → IsBound bound
+pub can_show_found : (bound : ℕ) (d : Document_data) (ps : List Projection_data) (ms : List Machine_data) (ds : List Derivation_data) → DocumentIsReady d → length d.names.roles ≡ d.protocol.roles → CanBeShown d → IsSearchBound bound
     → HasMachines d ps ms → AreCanonical bound ms ps ds → CanBeShown (with_derivations d ds)
 can_show_found bound d ps ms ds ready roles shown within h found = record {
   sound = shown.sound;

@@ -13,7 +13,7 @@ use Rattle.rs_safety.specs.Sessions.{IsSession}
 use Rattle.rs_safety.proofs.Accepts.{machine-proper, projection-proper}
 use Rattle.rs_safety.proofs.Sessions.{no-machine, no-projection}
 use Rattle.rs_search.proofs.Deciding as searching
-use Rattle.rs_search.specs.Canonical.{IsFound, Refuses}
+use Rattle.rs_search.specs.Canonical.{IsCanonical, SearchRefuses}
 use Rattle.rs_search.specs.declared.faults.SearchFault.{SearchFault}
 use Rattle.rs_search.specs.declared.faults.SearchFault.TheVariants as search
 use Rattle.rs_answers.specs.Derivations.{AreCanonical, AreFirstCanonical, IsUnderivable}
@@ -52,7 +52,7 @@ pub data Searched (bound : ℕ) (ms : List Machine_data) (ps : List Projection_d
   OneIsnt : (role : Role) (fault : SearchFault) → IsUnderivable bound ms ps role fault → Searched bound ms ps count
 
 found_next : (bound : ℕ) (ms : List Machine_data) (ps : List Projection_data) (count : ℕ) (m : Machine_data) (j : Projection_data) (ds : List Derivation_data) → slice_get ms count ≡ Some m → slice_get ps count ≡ Some j → AreFirstCanonical bound ms ps count ds
-    → ((d : Derivation_data) × IsFound m j.machine bound d) ⊎ ((f : SearchFault) × (f ≢ search.NoMemory) × Refuses m j.machine bound f) → Searched bound ms ps (suc count)
+    → ((d : Derivation_data) × IsCanonical m j.machine bound d) ⊎ ((f : SearchFault) × (f ≢ search.NoMemory) × SearchRefuses m j.machine bound f) → Searched bound ms ps (suc count)
 found_next bound ms ps count m j ds hm hj h (inl d) =
     let one : count + 1 ≡ suc count = omega arith in
     AllFound (ds ++ d.0 ∷ []) (subst (λ (n : ℕ). AreFirstCanonical bound ms ps n (ds ++ d.0 ∷ [])) one (next_canonical bound ms ps count ds m j d.0 h hm hj d.1))

@@ -5,19 +5,19 @@ use Rattle.rs_model.specs.Data.{Machine_data}
 use Rattle.rs_model.specs.declared.graph.Role.{Role}
 use Rattle.rs_model.specs.declared.limits.TheConstants.{MOST_BOUND}
 use Rattle.rs_project.specs.Data.{Projection_data}
-use Rattle.rs_search.specs.Canonical.{IsFound, Refuses}
+use Rattle.rs_search.specs.Canonical.{IsCanonical, SearchRefuses}
 use Rattle.rs_search.specs.declared.faults.SearchFault.{SearchFault}
 use Rattle.rs_search.specs.declared.faults.SearchFault.TheVariants as search
 
 -- what the search can be bounded by
-abbrev pub IsBound : ℕ → Type 0
-IsBound bound = (1 ≤ bound) × (bound ≤ MOST_BOUND)
+abbrev pub IsSearchBound : ℕ → Type 0
+IsSearchBound bound = (1 ≤ bound) × (bound ≤ MOST_BOUND)
 
 -- the canonical derivations within the bound of the first so many roles' machines from their projections, in role order
 pub record AreFirstCanonical (bound : ℕ) (machines : List Machine_data) (projections : List Projection_data) (count : ℕ) (derivations : List Derivation_data) : Type 0 where
   pub many : length derivations ≡ count
   pub each : (p : ℕ) (m : Machine_data) (j : Projection_data) (d : Derivation_data) → slice_get machines p ≡ Some m → slice_get projections p ≡ Some j
-      → slice_get derivations p ≡ Some d → IsFound m j.machine bound d
+      → slice_get derivations p ≡ Some d → IsCanonical m j.machine bound d
 
 -- .. of all roles
 abbrev pub AreCanonical : ℕ → List Machine_data → List Projection_data → List Derivation_data → Type 0
@@ -31,5 +31,5 @@ pub record IsUnderivable (bound : ℕ) (machines : List Machine_data) (projectio
   pub projects : slice_get projections role.0 ≡ Some projection
   pub earlier : List Derivation_data
   pub derived : AreFirstCanonical bound machines projections role.0 earlier
-  pub refused : Refuses machine projection.machine bound fault
+  pub refused : SearchRefuses machine projection.machine bound fault
   pub cause : fault ≢ search.NoMemory

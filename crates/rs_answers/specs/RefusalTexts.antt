@@ -20,7 +20,7 @@ use Rattle.rs_search.specs.declared.faults.SearchFault.TheVariants as search
 use Rattle.rs_answers.specs.Data.{Answer_data}
 use Rattle.rs_derive.specs.declared.faults.DeriveFault.{DeriveFault}
 use Rattle.rs_derive.specs.declared.faults.DeriveFault.TheVariants as derive
-use Rattle.rs_answers.specs.Texts.{joined}
+use Rattle.rs_answers.specs.Texts.{joined_texts}
 use Rattle.rs_answers.specs.declared.verdicts.Verdict.{Verdict}
 use Rattle.rs_answers.specs.declared.verdicts.Verdict.TheVariants as verdict
 use Rattle.rs_answers.specs.declared.verifying.Blame.{Blame}
@@ -28,7 +28,7 @@ use Rattle.rs_answers.specs.declared.verifying.Blame.TheVariants as blame
 
 -- what is said, behind the words that tell its kind, and the end of the line
 abbrev pub line_of_answer : List ℕ → List ℕ → Verdict → Answer_data
-line_of_answer kind what verdict = record { text = joined (kind ∷ what ∷ codes "\n" ∷ []); verdict = verdict }
+line_of_answer kind what verdict = record { text = joined_texts (kind ∷ what ∷ codes "\n" ∷ []); verdict = verdict }
 
 -- the words are none of the program's
 abbrev pub usage : Answer_data
@@ -40,40 +40,40 @@ too_large what = line_of_answer (codes "too large: ") what verdict.TooLarge
 
 -- the rings hold fewer messages than the room of the session
 abbrev pub too_small : ℕ → ℕ → Answer_data
-too_small capacity room = line_of_answer (codes "room too small: ring ") (joined (decimal capacity ∷ codes " room " ∷ decimal room ∷ [])) verdict.RoomTooSmall
+too_small capacity room = line_of_answer (codes "room too small: ring ") (joined_texts (decimal capacity ∷ codes " room " ∷ decimal room ∷ [])) verdict.RoomTooSmall
 
 -- the text is at fault
-abbrev pub malformed : List ℕ → Answer_data
-malformed what = line_of_answer (codes "malformed ") what verdict.Malformed
+abbrev pub malformed_answer : List ℕ → Answer_data
+malformed_answer what = line_of_answer (codes "malformed_answer ") what verdict.Malformed
 
 -- the protocol has no projection onto the role
 abbrev pub unprojectable : List ℕ → List ℕ → Answer_data
-unprojectable role what = line_of_answer (codes "unprojectable\n") (joined (role ∷ codes ": " ∷ what ∷ [])) verdict.Unprojectable
+unprojectable role what = line_of_answer (codes "unprojectable\n") (joined_texts (role ∷ codes ": " ∷ what ∷ [])) verdict.Unprojectable
 
 -- the role's machine is refused
-abbrev pub refused : List ℕ → List ℕ → Answer_data
-refused role what = line_of_answer (codes "refused\n") (joined (role ∷ codes ": " ∷ what ∷ [])) verdict.Refused
+abbrev pub refused_answer : List ℕ → List ℕ → Answer_data
+refused_answer role what = line_of_answer (codes "refused_answer\n") (joined_texts (role ∷ codes ": " ∷ what ∷ [])) verdict.Refused
 
 -- `L:C` and what is said: line and column of the offset
-abbrev pub malformed_at : List ℕ → ℕ → List ℕ → Answer_data
-malformed_at bytes at what =
-    malformed (joined (decimal (line_of bytes at) ∷ codes ":" ∷ decimal (column_of bytes at) ∷ codes " " ∷ what ∷ []))
+abbrev pub text_at_place : List ℕ → ℕ → List ℕ → Answer_data
+text_at_place bytes at what =
+    malformed_answer (joined_texts (decimal (line_of bytes at) ∷ codes ":" ∷ decimal (column_of bytes at) ∷ codes " " ∷ what ∷ []))
 
 -- what is answered to the first fault of the text. That memory is refused is no fault of a text: its line is never
 -- written
 abbrev pub fault_answer : List ℕ → TextKind → ℕ → Answer_data
-fault_answer bytes (kind.Expected w) at = malformed_at bytes at (joined (codes "expected " ∷ wanted_text w ∷ []))
-fault_answer bytes kind.UnknownRole at = malformed_at bytes at (codes "unknown role")
-fault_answer bytes kind.UnboundName at = malformed_at bytes at (codes "unbound name")
-fault_answer bytes kind.NameTwice at = malformed_at bytes at (codes "name twice")
+fault_answer bytes (kind.Expected w) at = text_at_place bytes at (joined_texts (codes "expected " ∷ wanted_text w ∷ []))
+fault_answer bytes kind.UnknownRole at = text_at_place bytes at (codes "unknown role")
+fault_answer bytes kind.UnboundName at = text_at_place bytes at (codes "unbound name")
+fault_answer bytes kind.NameTwice at = text_at_place bytes at (codes "name twice")
 fault_answer bytes kind.TooDeep at = too_large (codes "nesting")
 fault_answer bytes kind.TooManyRoles at = too_large (codes "roles")
 fault_answer bytes kind.TooManyNodes at = too_large (codes "nodes")
-fault_answer bytes kind.NoMemory at = malformed_at bytes at (codes "no memory")
-fault_answer bytes kind.Unguarded at = malformed_at bytes at (codes "unguarded name")
+fault_answer bytes kind.NoMemory at = text_at_place bytes at (codes "no memory")
+fault_answer bytes kind.Unguarded at = text_at_place bytes at (codes "unguarded name")
 fault_answer bytes kind.TooManyLabels at = too_large (codes "labels")
-fault_answer bytes kind.BadByte at = malformed_at bytes at (codes "bad byte")
-fault_answer bytes kind.NumberTooLarge at = malformed_at bytes at (codes "number too large")
+fault_answer bytes kind.BadByte at = text_at_place bytes at (codes "bad byte")
+fault_answer bytes kind.NumberTooLarge at = text_at_place bytes at (codes "number too large")
 fault_answer bytes kind.NameTooLong at = too_large (codes "name")
 
 -- the name of a label
@@ -87,40 +87,40 @@ role_name names role = name_at names.roles role.0
 -- what is answered to a protocol that isn't well formed, by its first fault. What a text spells has arms everywhere, and
 -- leads to its own nodes (`faults_of_spelt_protocols`): the second and the last line are never written
 abbrev pub wf_answer : Names_data → WfFault → Answer_data
-wf_answer names (wf.SelfTalk n) = malformed (joined (codes "protocol: node " ∷ decimal n ∷ codes " talks to itself" ∷ []))
-wf_answer names (wf.NoArms n) = malformed (joined (codes "protocol: no arms at node " ∷ decimal n ∷ []))
+wf_answer names (wf.SelfTalk n) = malformed_answer (joined_texts (codes "protocol: node " ∷ decimal n ∷ codes " talks to itself" ∷ []))
+wf_answer names (wf.NoArms n) = malformed_answer (joined_texts (codes "protocol: no arms at node " ∷ decimal n ∷ []))
 wf_answer names (wf.TooManyArms n) = too_large (codes "arms")
 wf_answer names (wf.TwiceLabel n label) =
-    malformed (joined (codes "protocol: label " ∷ label_name names label ∷ codes " twice at node " ∷ decimal n ∷ []))
-wf_answer names (wf.BadNext n) = malformed (joined (codes "protocol: bad next at node " ∷ decimal n ∷ []))
+    malformed_answer (joined_texts (codes "protocol: label " ∷ label_name names label ∷ codes " twice at node " ∷ decimal n ∷ []))
+wf_answer names (wf.BadNext n) = malformed_answer (joined_texts (codes "protocol: bad next at node " ∷ decimal n ∷ []))
 
 -- the two members that don't merge: talks, or a talk and the end
 abbrev pub clash_text : ℕ → Option ℕ → List ℕ
-clash_text a (Some b) = joined (codes "nodes " ∷ decimal a ∷ codes " and " ∷ decimal b ∷ codes " do not merge" ∷ [])
-clash_text a None = joined (codes "node " ∷ decimal a ∷ codes " and the end do not merge" ∷ [])
+clash_text a (Some b) = joined_texts (codes "nodes " ∷ decimal a ∷ codes " and " ∷ decimal b ∷ codes " do not merge" ∷ [])
+clash_text a None = joined_texts (codes "node " ∷ decimal a ∷ codes " and the end do not merge" ∷ [])
 
 -- what is answered to a protocol that has no projection onto a role. That memory is refused is no such reason: the last
 -- line is never written
 abbrev pub proj_answer : Names_data → ProjFault → Answer_data
 proj_answer names (proj.Unmergeable role a b) = unprojectable (role_name names role) (clash_text a b)
 proj_answer names (proj.Unreached role node) =
-    unprojectable (role_name names role) (joined (codes "unreached at node " ∷ decimal node ∷ []))
-proj_answer names (proj.TooManyStates role) = too_large (joined (codes "projection " ∷ role_name names role ∷ []))
+    unprojectable (role_name names role) (joined_texts (codes "unreached at node " ∷ decimal node ∷ []))
+proj_answer names (proj.TooManyStates role) = too_large (joined_texts (codes "projection " ∷ role_name names role ∷ []))
 proj_answer names proj.NoMemory = unprojectable [] []
 
 -- what is wrong at a state. What a text spells has arms everywhere, leads to its own states and knows its peers
 -- (`faults_of_spelt_machines`): the last three lines are never written
 abbrev pub state_text : Names_data → MachineFault → List ℕ
-state_text names (bad.TwiceLabel s label) = joined (codes "label " ∷ label_name names label ∷ codes " twice at state " ∷ decimal s ∷ [])
-state_text names (bad.SelfPeer s) = joined (codes "state " ∷ decimal s ∷ codes " talks to itself" ∷ [])
-state_text names (bad.NoArms s) = joined (codes "no arms at state " ∷ decimal s ∷ [])
-state_text names (bad.BadNext s) = joined (codes "bad next at state " ∷ decimal s ∷ [])
-state_text names (bad.UnknownPeer s) = joined (codes "unknown peer at state " ∷ decimal s ∷ [])
+state_text names (bad.TwiceLabel s label) = joined_texts (codes "label " ∷ label_name names label ∷ codes " twice at state " ∷ decimal s ∷ [])
+state_text names (bad.SelfPeer s) = joined_texts (codes "state " ∷ decimal s ∷ codes " talks to itself" ∷ [])
+state_text names (bad.NoArms s) = joined_texts (codes "no arms at state " ∷ decimal s ∷ [])
+state_text names (bad.BadNext s) = joined_texts (codes "bad next at state " ∷ decimal s ∷ [])
+state_text names (bad.UnknownPeer s) = joined_texts (codes "unknown peer at state " ∷ decimal s ∷ [])
 
 -- what is answered to a machine that isn't well formed, by its role and its first fault
 abbrev pub machine_answer : Names_data → Role → MachineFault → Answer_data
 machine_answer names role fault =
-    malformed (joined (codes "machine " ∷ role_name names role ∷ codes ": " ∷ state_text names fault ∷ []))
+    malformed_answer (joined_texts (codes "machine " ∷ role_name names role ∷ codes ": " ∷ state_text names fault ∷ []))
 
 -- whether some candidate of the search met a cut
 abbrev pub cut_text : Bool → List ℕ
@@ -130,18 +130,18 @@ cut_text false = codes "not found, cut no"
 -- what is answered where the search finds no derivation of the role's machine. That memory is refused is no such reason:
 -- the last line is never written
 abbrev pub search_answer : Names_data → Role → SearchFault → Answer_data
-search_answer names role (search.NotFound cut) = refused (role_name names role) (cut_text cut)
-search_answer names role (search.Forgets node) = refused (role_name names role) (joined (codes "forgets at node " ∷ decimal node ∷ []))
-search_answer names role search.TooLarge = too_large (joined (codes "candidates " ∷ role_name names role ∷ []))
-search_answer names role search.NoMemory = refused [] []
+search_answer names role (search.NotFound cut) = refused_answer (role_name names role) (cut_text cut)
+search_answer names role (search.Forgets node) = refused_answer (role_name names role) (joined_texts (codes "forgets at node " ∷ decimal node ∷ []))
+search_answer names role search.TooLarge = too_large (joined_texts (codes "candidates " ∷ role_name names role ∷ []))
+search_answer names role search.NoMemory = refused_answer [] []
 
 -- where a derivation is refused
 abbrev pub at_node : List ℕ → ℕ → List ℕ
-at_node what node = joined (what ∷ codes " at node " ∷ decimal node ∷ [])
+at_node what node = joined_texts (what ∷ codes " at node " ∷ decimal node ∷ [])
 
 -- .. and at which arm of its node
 abbrev pub at_arm : List ℕ → ℕ → ℕ → List ℕ
-at_arm what node arm = joined (what ∷ codes " at node " ∷ decimal node ∷ codes " arm " ∷ decimal arm ∷ [])
+at_arm what node arm = joined_texts (what ∷ codes " at node " ∷ decimal node ∷ codes " arm " ∷ decimal arm ∷ [])
 
 -- .. and why
 abbrev pub derive_text : DeriveFault → List ℕ
@@ -159,4 +159,4 @@ blame_text (blame.Fault fault) = derive_text fault
 
 -- what is answered where the role's own derivation doesn't show that its machine may stand for its projection
 abbrev pub blame_answer : Names_data → Role → Blame → Answer_data
-blame_answer names role why = refused (role_name names role) (blame_text why)
+blame_answer names role why = refused_answer (role_name names role) (blame_text why)

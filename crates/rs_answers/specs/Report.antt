@@ -4,14 +4,14 @@ use Rattle.std.specs.Fmt.{decimal}
 use Rattle.rs_derive.specs.Data.{Derivation_data}
 use Rattle.rs_safety.specs.Room.{longest, room_of, top_rank}
 use Rattle.rs_answers.specs.Data.{Answer_data}
-use Rattle.rs_answers.specs.Texts.{joined}
+use Rattle.rs_answers.specs.Texts.{joined_texts}
 use Rattle.rs_answers.specs.declared.verdicts.Verdict.TheVariants.{Fine}
 
 -- `P: nodes A pending B rank C`: how many nodes the derivation has, the most acts that are owed at one of them, and the
 -- greatest rank
 abbrev pub figures_text : List ℕ → Derivation_data → List ℕ
 figures_text name d =
-    joined (name ∷ codes ": nodes " ∷ decimal (length d.nodes) ∷ codes " pending " ∷ decimal (longest d) ∷ codes " rank " ∷ decimal (top_rank d) ∷ codes "\n" ∷ [])
+    joined_texts (name ∷ codes ": nodes " ∷ decimal (length d.nodes) ∷ codes " pending " ∷ decimal (longest d) ∷ codes " rank " ∷ decimal (top_rank d) ∷ codes "\n" ∷ [])
 
 -- a line for each role in order
 abbrev pub all_figures_text : List (List ℕ) → List Derivation_data → List ℕ
@@ -22,6 +22,6 @@ all_figures_text [] derivations = []
 -- the session is accepted: a line for each role, and the room
 abbrev pub report : List (List ℕ) → List Derivation_data → Answer_data
 report names derivations = record {
-  text = joined (codes "accepted\n" ∷ all_figures_text names derivations ∷ codes "room " ∷ decimal (room_of derivations) ∷ codes "\n" ∷ []);
+  text = joined_texts (codes "accepted\n" ∷ all_figures_text names derivations ∷ codes "room " ∷ decimal (room_of derivations) ∷ codes "\n" ∷ []);
   verdict = Fine;
 }

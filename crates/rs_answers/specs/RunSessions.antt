@@ -42,12 +42,12 @@ pub record WasRun {A : Type 0} (machines : List Machine_data) (b : Behaviour A) 
 
 -- what is told is an outcome to which the histories come: all have ended, and the histories, without the values that were
 -- sent, are the transcripts; or the role that is named has as many acts as the limit, and hasn't ended
-abbrev pub ComesTo : Names_data → List Machine_data → ℕ → Answer_data → (ℕ → History) → Configuration → Type 0
-ComesTo names machines limit answer history end = (o : Outcome) × IsOutcomeOf machines limit history end o × (answer ≡ outcome_answer names o)
+abbrev pub RunComesTo : Names_data → List Machine_data → ℕ → Answer_data → (ℕ → History) → Configuration → Type 0
+RunComesTo names machines limit answer history end = (o : Outcome) × IsOutcomeOf machines limit history end o × (answer ≡ outcome_answer names o)
 
 -- the session is the run of these machines by the actors of the seed, and comes to what is told
 abbrev pub WasRunByDraws : RunOptions → Names_data → List Machine_data → Answer_data → Closed_data → Type 0
-WasRunByDraws options names machines answer = WasRun machines by_draws (actor_of options.seed) options.limit (λ history end after. ComesTo names machines options.limit answer history end)
+WasRunByDraws options names machines answer = WasRun machines by_draws (actor_of options.seed) options.limit (λ history end after. RunComesTo names machines options.limit answer history end)
 
 -- .. of the machines of the document
 pub record WasRunOf (options : RunOptions) (d : Document_data) (answer : Answer_data) (closed : Closed_data) : Type 0 where

@@ -19,7 +19,7 @@ use Rattle.rs_answers.specs.Derivations.{AreCanonical}
 use Rattle.rs_answers.specs.RefusalTexts.{line_of_answer, role_name}
 use Rattle.rs_answers.specs.Refusals.{HasNoDerivations, refusal_answer}
 use Rattle.rs_answers.specs.Sessions.{HasMachines}
-use Rattle.rs_answers.specs.Texts.{joined}
+use Rattle.rs_answers.specs.Texts.{joined_texts}
 use Rattle.rs_answers.specs.TranscriptTexts.{transcripts_text}
 use Rattle.rs_answers.specs.declared.refusals.Refusal.{Refusal}
 use Rattle.rs_answers.specs.declared.runs.RunOptions.{RunOptions}
@@ -38,7 +38,7 @@ capacity_of None room = min room MOST_CAPACITY
 -- all roles have ended: what each did
 abbrev pub ended_answer : Names_data → List (List Entry) → Answer_data
 ended_answer names transcripts = record {
-  text = joined (codes "ended\n" ∷ transcripts_text names names.roles transcripts ∷ []);
+  text = joined_texts (codes "ended\n" ∷ transcripts_text names names.roles transcripts ∷ []);
   verdict = verdict.Fine;
 }
 
@@ -55,7 +55,7 @@ outcome_answer names (outcome.Stopped role) = stopped_answer names role
 -- were taken
 abbrev pub full_answer : Names_data → Role → Role → ℕ → ℕ → Answer_data
 full_answer names sender receiver sent taken =
-    line_of_answer (codes "full ") (joined (role_name names sender ∷ codes "->" ∷ role_name names receiver ∷ codes " sent " ∷ decimal sent ∷ codes " taken " ∷ decimal taken ∷ []))
+    line_of_answer (codes "full ") (joined_texts (role_name names sender ∷ codes "->" ∷ role_name names receiver ∷ codes " sent " ∷ decimal sent ∷ codes " taken " ∷ decimal taken ∷ []))
     verdict.Full
 
 -- what is told of the end of a run with queues of this capacity

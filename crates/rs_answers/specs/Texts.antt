@@ -15,5 +15,5 @@ abbrev pub text_of : List Piece → List ℕ
 text_of pieces = flat_map bytes_of pieces
 
 -- texts, one behind the other
-abbrev pub joined : List (List ℕ) → List ℕ
-joined texts = flat_map (λ text. text) texts
+abbrev pub joined_texts : List (List ℕ) → List ℕ
+joined_texts texts = flat_map (λ text. text) texts

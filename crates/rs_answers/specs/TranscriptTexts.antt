@@ -8,7 +8,7 @@ use Rattle.rs_model.specs.Data.{Names_data}
 use Rattle.rs_model.specs.declared.values.Value.{Value}
 use Rattle.rs_model.specs.declared.values.Value.TheVariants as value
 use Rattle.rs_answers.specs.RefusalTexts.{label_name, role_name}
-use Rattle.rs_answers.specs.Texts.{joined}
+use Rattle.rs_answers.specs.Texts.{joined_texts}
 
 -- a truth value
 abbrev pub flag_text : Bool → List ℕ
@@ -31,21 +31,21 @@ numbers_text (n ∷ ns) = signed_decimal n ++ flat_map number_behind ns
 -- a value in parentheses, and nothing for the only value of its sort
 abbrev pub value_text : Value → List ℕ
 value_text value.Unit = []
-value_text (value.Flag flag) = joined (codes "(" ∷ flag_text flag ∷ codes ")" ∷ [])
-value_text (value.Natural n) = joined (codes "(" ∷ decimal n ∷ codes ")" ∷ [])
-value_text (value.Whole n) = joined (codes "(" ∷ signed_decimal n ∷ codes ")" ∷ [])
-value_text (value.Octets bytes) = joined (codes "(" ∷ flat_map hex_text bytes ∷ codes ")" ∷ [])
-value_text (value.Numbers ns) = joined (codes "([" ∷ numbers_text ns ∷ codes "])" ∷ [])
+value_text (value.Flag flag) = joined_texts (codes "(" ∷ flag_text flag ∷ codes ")" ∷ [])
+value_text (value.Natural n) = joined_texts (codes "(" ∷ decimal n ∷ codes ")" ∷ [])
+value_text (value.Whole n) = joined_texts (codes "(" ∷ signed_decimal n ∷ codes ")" ∷ [])
+value_text (value.Octets bytes) = joined_texts (codes "(" ∷ flat_map hex_text bytes ∷ codes ")" ∷ [])
+value_text (value.Numbers ns) = joined_texts (codes "([" ∷ numbers_text ns ∷ codes "])" ∷ [])
 
 -- a send as ` Q!label`, and a receive as ` Q?label(value)`
 abbrev pub entry_text : Names_data → Entry → List ℕ
-entry_text names (entry.Sent peer label) = joined (codes " " ∷ role_name names peer ∷ codes "!" ∷ label_name names label ∷ [])
+entry_text names (entry.Sent peer label) = joined_texts (codes " " ∷ role_name names peer ∷ codes "!" ∷ label_name names label ∷ [])
 entry_text names (entry.Got peer label value) =
-    joined (codes " " ∷ role_name names peer ∷ codes "?" ∷ label_name names label ∷ value_text value ∷ [])
+    joined_texts (codes " " ∷ role_name names peer ∷ codes "?" ∷ label_name names label ∷ value_text value ∷ [])
 
 -- `P:` and all that the role did: a line
 abbrev pub transcript_text : Names_data → List ℕ → List Entry → List ℕ
-transcript_text names name entries = joined (name ∷ codes ":" ∷ flat_map (entry_text names) entries ∷ codes "\n" ∷ [])
+transcript_text names name entries = joined_texts (name ∷ codes ":" ∷ flat_map (entry_text names) entries ∷ codes "\n" ∷ [])
 
 -- a line for each role, in order
 abbrev pub transcripts_text : Names_data → List (List ℕ) → List (List Entry) → List ℕ

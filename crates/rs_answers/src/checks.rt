@@ -2,9 +2,9 @@
 
 ghost use Rattle.std.specs.Prelude.{◌≡◌, Some, false, length, map, true, IfOk};
 ghost use Rattle.rs_answers.specs.Checks.{Checks};
-ghost use Rattle.rs_answers.specs.Derivations.{IsBound};
+ghost use Rattle.rs_answers.specs.Derivations.{IsSearchBound};
 ghost use Rattle.rs_documents.specs.Canonical.{CanBeShown};
-ghost use Rattle.rs_documents.specs.Reading.{IsReady};
+ghost use Rattle.rs_documents.specs.Reading.{DocumentIsReady};
 
 use crate::answers::Answer;
 use crate::derivations::{DerivedSession, accept_derived, derived_session};
@@ -19,9 +19,9 @@ use std::alloc::Global;
 /// What `check` answers to a document, with a search within the bound: the first reason to refuse it, else the report of
 /// its session.
 pub fn check(alloc: Global, document: &Document, bound: u8) -> Result<Answer, NoMemory>
-    requires ready { IsReady document.now }
+    requires ready { DocumentIsReady document.now }
     requires roles { length document.now.names.roles ≡ document.now.protocol.roles }
-    requires bound { IsBound bound }
+    requires bound { IsSearchBound bound }
     ensures { IfOk result (Checks bound false document.now) }
 {
     let names = &document.names;
@@ -63,10 +63,10 @@ pub fn check_with_derivations(
     mut document: Document,
     bound: u8,
 ) -> Result<Answer, NoMemory>
-    requires ready { IsReady document }
+    requires ready { DocumentIsReady document }
     requires roles { length document.names.roles ≡ document.protocol.roles }
     requires shown { CanBeShown document }
-    requires bound { IsBound bound }
+    requires bound { IsSearchBound bound }
     ensures { IfOk result (Checks bound true document) }
 {
     match derived_session(alloc, &document, bound) {

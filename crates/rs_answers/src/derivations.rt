@@ -3,8 +3,8 @@
 ghost use Rattle.std.specs.Prelude.{◌≡◌, ◌⊎◌, ℕ, IfOk, IfErr, length};
 ghost use Rattle.rs_model.specs.Data.{Protocol_data};
 ghost use Rattle.rs_safety.specs.Sessions.{IsSession};
-ghost use Rattle.rs_answers.specs.Derivations.{AreCanonical, IsBound, IsUnderivable};
-ghost use Rattle.rs_documents.specs.Reading.{IsReady};
+ghost use Rattle.rs_answers.specs.Derivations.{AreCanonical, IsSearchBound, IsUnderivable};
+ghost use Rattle.rs_documents.specs.Reading.{DocumentIsReady};
 ghost use Rattle.rs_answers.specs.Refusals.{HasNoDerivations};
 ghost use Rattle.rs_answers.specs.Sessions.{HasMachines};
 
@@ -70,7 +70,7 @@ pub fn derived_session(
     document: &Document,
     bound: u8,
 ) -> Result<DerivedSession, Refusal>
-    requires ready { IsReady document.now }
+    requires ready { DocumentIsReady document.now }
     requires roles { length document.now.names.roles ≡ document.now.protocol.roles }
     ensures machines { IfOk result (λ s. HasMachines document.now s.projections.items s.machines.items) }
     ensures derivations { IfOk result (λ s. AreCanonical bound s.machines.items s.projections.items s.derivations.items) }
@@ -96,7 +96,7 @@ pub fn accept_derived<'a>(
     derivations: &'a [Derivation],
 ) -> Accepted<'a>
     requires session { IsSession protocol.now projections.now machines.items }
-    requires derivations { (bound : ℕ) × IsBound bound × AreCanonical bound machines.items projections.now derivations.now }
+    requires derivations { (bound : ℕ) × IsSearchBound bound × AreCanonical bound machines.items projections.now derivations.now }
     ensures { result ≡ record { protocol = protocol.now; projections = projections.now; derivations = derivations.now; machines = machines.items } }
 {
     match accept(protocol, projections, machines, derivations) {

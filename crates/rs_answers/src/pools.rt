@@ -1,12 +1,12 @@
 //! What `run` answers to a document whose session several workers run.
 
 ghost use Rattle.std.specs.Prelude.{◌≡◌, ◌≤◌, length, IfOk, IfSome};
-ghost use Rattle.rs_answers.specs.Derivations.{IsBound};
+ghost use Rattle.rs_answers.specs.Derivations.{IsSearchBound};
 ghost use Rattle.rs_answers.specs.Pools.{RunsByWorkers, RunsTogether};
 ghost use Rattle.rs_answers.specs.RunSessions.{HasCome, IsThereWhere, WasRunByDraws, WasRunOf};
-ghost use Rattle.rs_documents.specs.Reading.{IsReady};
+ghost use Rattle.rs_documents.specs.Reading.{DocumentIsReady};
 ghost use Rattle.rs_model.specs.declared.limits.TheConstants.{MOST_CAPACITY, MOST_WORKERS};
-ghost use Rattle.rs_words.specs.Meaning.{IsFrom};
+ghost use Rattle.rs_words.specs.Meaning.{IsFromTo};
 
 use crate::answers::AnswerWithSession;
 use crate::derivations::{DerivedSession, accept_derived, derived_session};
@@ -34,8 +34,8 @@ fn run_together<R: Threads + Wait + Sync, G: Gate + Sync>(
     workers: u8,
     gate: &G,
 ) -> Result<AnswerWithSession, NoMemory>
-    requires ring { IfSome options.ring (IsFrom 1 MOST_CAPACITY) }
-    requires workers { IsFrom 1 MOST_WORKERS workers }
+    requires ring { IfSome options.ring (IsFromTo 1 MOST_CAPACITY) }
+    requires workers { IsFromTo 1 MOST_WORKERS workers }
     ensures answer { IfOk result (λ a. RunsTogether options names.now accepted.now.machines accepted.now.derivations a.answer) }
     ensures closed { IfOk result (λ a. IsThereWhere (HasCome a.answer.verdict) (WasRunByDraws options names.now accepted.now.machines a.answer) a.closed) }
 {
@@ -76,11 +76,11 @@ pub fn run_by_workers<R: Threads + Wait + Sync, G: Gate + Sync>(
     workers: u8,
     gate: &G,
 ) -> Result<AnswerWithSession, NoMemory>
-    requires ready { IsReady document.now }
+    requires ready { DocumentIsReady document.now }
     requires roles { length document.now.names.roles ≡ document.now.protocol.roles }
-    requires bound { IsBound options.bound }
-    requires ring { IfSome options.ring (IsFrom 1 MOST_CAPACITY) }
-    requires workers { IsFrom 1 MOST_WORKERS workers }
+    requires bound { IsSearchBound options.bound }
+    requires ring { IfSome options.ring (IsFromTo 1 MOST_CAPACITY) }
+    requires workers { IsFromTo 1 MOST_WORKERS workers }
     ensures answer { IfOk result (λ a. RunsByWorkers options document.now a.answer) }
     ensures closed { IfOk result (λ a. IsThereWhere (HasCome a.answer.verdict) (WasRunOf options document.now a.answer) a.closed) }
 {

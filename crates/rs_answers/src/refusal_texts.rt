@@ -63,14 +63,18 @@ pub fn too_small(alloc: Global, capacity: u16, room: u64) -> Result<Answer, NoMe
 }
 
 /// The text is at fault.
-fn malformed(alloc: Global, what: &[Piece]) -> Result<Answer, NoMemory>
-    ensures { IfOk result (λ a. a ≡ spec.malformed (texts.text_of what.now)) }
+fn malformed_answer(alloc: Global, what: &[Piece]) -> Result<Answer, NoMemory>
+    ensures { IfOk result (λ a. a ≡ spec.malformed_answer (texts.text_of what.now)) }
 {
     line_of_answer(alloc, b"malformed ", what, Verdict::Malformed)
 }
 
 /// The protocol has no projection onto the role.
-fn unprojectable<'a>(alloc: Global, role: &'a [u8], what: &'a [u8]) -> Result<Answer, NoMemory>
+fn unprojectable_answer<'a>(
+    alloc: Global,
+    role: &'a [u8],
+    what: &'a [u8],
+) -> Result<Answer, NoMemory>
     ensures { IfOk result (λ a. a ≡ spec.unprojectable role.now what.now) }
 {
     line_of_answer(
@@ -82,8 +86,8 @@ fn unprojectable<'a>(alloc: Global, role: &'a [u8], what: &'a [u8]) -> Result<An
 }
 
 /// The role's machine is refused.
-fn refused<'a>(alloc: Global, role: &'a [u8], what: &'a [u8]) -> Result<Answer, NoMemory>
-    ensures { IfOk result (λ a. a ≡ spec.refused role.now what.now) }
+fn refused_answer<'a>(alloc: Global, role: &'a [u8], what: &'a [u8]) -> Result<Answer, NoMemory>
+    ensures { IfOk result (λ a. a ≡ spec.refused_answer role.now what.now) }
 {
     line_of_answer(
         alloc,
@@ -94,12 +98,12 @@ fn refused<'a>(alloc: Global, role: &'a [u8], what: &'a [u8]) -> Result<Answer, 
 }
 
 /// What is said, behind line and column of the offset.
-fn malformed_at(alloc: Global, bytes: &[u8], at: usize, what: &[u8]) -> Result<Answer, NoMemory>
+fn text_at_place(alloc: Global, bytes: &[u8], at: usize, what: &[u8]) -> Result<Answer, NoMemory>
     requires { at ≤ length bytes.now }
-    ensures { IfOk result (λ a. a ≡ spec.malformed_at bytes.now at what.now) }
+    ensures { IfOk result (λ a. a ≡ spec.text_at_place bytes.now at what.now) }
 {
     let (line, column) = place(bytes, at);
-    malformed(
+    malformed_answer(
         alloc,
         &[
             Number(line as u64),
@@ -122,19 +126,19 @@ fn fault_answer(alloc: Global, bytes: &[u8], fault: TextFault) -> Result<Answer,
                 alloc,
                 &[Words(b"expected "), Words(wanted.text().as_bytes())],
             )?;
-            malformed_at(alloc, bytes, fault.at, what.as_slice())
+            text_at_place(alloc, bytes, fault.at, what.as_slice())
         }
-        TextKind::UnknownRole => malformed_at(alloc, bytes, fault.at, b"unknown role"),
-        TextKind::UnboundName => malformed_at(alloc, bytes, fault.at, b"unbound name"),
-        TextKind::NameTwice => malformed_at(alloc, bytes, fault.at, b"name twice"),
+        TextKind::UnknownRole => text_at_place(alloc, bytes, fault.at, b"unknown role"),
+        TextKind::UnboundName => text_at_place(alloc, bytes, fault.at, b"unbound name"),
+        TextKind::NameTwice => text_at_place(alloc, bytes, fault.at, b"name twice"),
         TextKind::TooDeep => too_large(alloc, &[Words(b"nesting")]),
         TextKind::TooManyRoles => too_large(alloc, &[Words(b"roles")]),
         TextKind::TooManyNodes => too_large(alloc, &[Words(b"nodes")]),
-        TextKind::NoMemory => malformed_at(alloc, bytes, fault.at, b"no memory"),
-        TextKind::Unguarded => malformed_at(alloc, bytes, fault.at, b"unguarded name"),
+        TextKind::NoMemory => text_at_place(alloc, bytes, fault.at, b"no memory"),
+        TextKind::Unguarded => text_at_place(alloc, bytes, fault.at, b"unguarded name"),
         TextKind::TooManyLabels => too_large(alloc, &[Words(b"labels")]),
-        TextKind::BadByte => malformed_at(alloc, bytes, fault.at, b"bad byte"),
-        TextKind::NumberTooLarge => malformed_at(alloc, bytes, fault.at, b"number too large"),
+        TextKind::BadByte => text_at_place(alloc, bytes, fault.at, b"bad byte"),
+        TextKind::NumberTooLarge => text_at_place(alloc, bytes, fault.at, b"number too large"),
         TextKind::NameTooLong => too_large(alloc, &[Words(b"name")]),
     }
 }
@@ -180,7 +184,7 @@ pub fn wf_answer(alloc: Global, names: &Names, fault: WfFault) -> Result<Answer,
     ensures { IfOk result (λ a. a ≡ spec.wf_answer names.now fault) }
 {
     match fault {
-        WfFault::SelfTalk { node } => malformed(
+        WfFault::SelfTalk { node } => malformed_answer(
             alloc,
             &[
                 Words(b"protocol: node "),
@@ -188,7 +192,7 @@ pub fn wf_answer(alloc: Global, names: &Names, fault: WfFault) -> Result<Answer,
                 Words(b" talks to itself"),
             ],
         ),
-        WfFault::NoArms { node } => malformed(
+        WfFault::NoArms { node } => malformed_answer(
             alloc,
             &[
                 Words(b"protocol: no arms at node "),
@@ -196,7 +200,7 @@ pub fn wf_answer(alloc: Global, names: &Names, fault: WfFault) -> Result<Answer,
             ],
         ),
         WfFault::TooManyArms { .. } => too_large(alloc, &[Words(b"arms")]),
-        WfFault::TwiceLabel { node, label } => malformed(
+        WfFault::TwiceLabel { node, label } => malformed_answer(
             alloc,
             &[
                 Words(b"protocol: label "),
@@ -205,7 +209,7 @@ pub fn wf_answer(alloc: Global, names: &Names, fault: WfFault) -> Result<Answer,
                 Number(u64::from(node)),
             ],
         ),
-        WfFault::BadNext { node } => malformed(
+        WfFault::BadNext { node } => malformed_answer(
             alloc,
             &[
                 Words(b"protocol: bad next at node "),
@@ -249,14 +253,14 @@ pub fn proj_answer(alloc: Global, names: &Names, fault: ProjFault) -> Result<Ans
     match fault {
         ProjFault::Unmergeable { role, a, b } => {
             let what = clash_text(alloc, a, b)?;
-            unprojectable(alloc, role_name(names, role), what.as_slice())
+            unprojectable_answer(alloc, role_name(names, role), what.as_slice())
         }
         ProjFault::Unreached { role, node } => {
             let what = text_of(
                 alloc,
                 &[Words(b"unreached at node "), Number(u64::from(node))],
             )?;
-            unprojectable(alloc, role_name(names, role), what.as_slice())
+            unprojectable_answer(alloc, role_name(names, role), what.as_slice())
         }
         ProjFault::TooManyStates { role } => too_large(
             alloc,
@@ -313,7 +317,7 @@ pub fn machine_answer(
     ensures { IfOk result (λ a. a ≡ spec.machine_answer names.now role fault) }
 {
     let what = state_text(alloc, names, fault)?;
-    malformed(
+    malformed_answer(
         alloc,
         &[
             Words(b"machine "),
@@ -346,13 +350,17 @@ pub fn search_answer(
     ensures memory { OnOk result (fault ≡ SearchFault.NoMemory → ⊥) }
 {
     match fault {
-        SearchFault::NotFound { cut } => refused(alloc, role_name(names, role), cut_text(cut)),
+        SearchFault::NotFound { cut } => refused_answer(
+            alloc,
+            role_name(names, role),
+            cut_text(cut),
+        ),
         SearchFault::Forgets { node } => {
             let what = text_of(
                 alloc,
                 &[Words(b"forgets at node "), Number(u64::from(node))],
             )?;
-            refused(alloc, role_name(names, role), what.as_slice())
+            refused_answer(alloc, role_name(names, role), what.as_slice())
         }
         SearchFault::TooLarge => too_large(
             alloc,
@@ -419,5 +427,5 @@ pub fn blame_answer(
     ensures { IfOk result (λ a. a ≡ spec.blame_answer names.now role blame) }
 {
     let what = blame_text(alloc, blame)?;
-    refused(alloc, role_name(names, role), what.as_slice())
+    refused_answer(alloc, role_name(names, role), what.as_slice())
 }

@@ -2,12 +2,12 @@
 
 ghost use Rattle.std.specs.Prelude.{◌≡◌, ◌≤◌, length, IfOk, IfSome};
 ghost use Rattle.rs_core.specs.Runs.{IsGiven};
-ghost use Rattle.rs_answers.specs.Derivations.{IsBound};
-ghost use Rattle.rs_documents.specs.Reading.{IsReady};
+ghost use Rattle.rs_answers.specs.Derivations.{IsSearchBound};
+ghost use Rattle.rs_documents.specs.Reading.{DocumentIsReady};
 ghost use Rattle.rs_answers.specs.Runs as spec;
 ghost use Rattle.rs_answers.specs.RunSessions.{HasCome, IsThereWhere, WasRunByDraws, WasRunOf};
 ghost use Rattle.rs_answers.specs.Runs.{Runs, TellsRun};
-ghost use Rattle.rs_words.specs.Meaning.{IsFrom};
+ghost use Rattle.rs_words.specs.Meaning.{IsFromTo};
 
 use crate::answers::{Answer, AnswerWithSession};
 use crate::derivations::{DerivedSession, accept_derived, derived_session};
@@ -136,7 +136,7 @@ fn run_accepted(
     accepted: &Accepted,
     options: RunOptions,
 ) -> Result<AnswerWithSession, NoMemory>
-    requires ring { IfSome options.ring (IsFrom 1 MOST_CAPACITY) }
+    requires ring { IfSome options.ring (IsFromTo 1 MOST_CAPACITY) }
     ensures answer { IfOk result (λ a. TellsRun options names.now accepted.now.machines accepted.now.derivations a.answer) }
     ensures closed { IfOk result (λ a. IsThereWhere (HasCome a.answer.verdict) (WasRunByDraws options names.now accepted.now.machines a.answer) a.closed) }
 {
@@ -170,10 +170,10 @@ pub fn run(
     document: &Document,
     options: RunOptions,
 ) -> Result<AnswerWithSession, NoMemory>
-    requires ready { IsReady document.now }
+    requires ready { DocumentIsReady document.now }
     requires roles { length document.now.names.roles ≡ document.now.protocol.roles }
-    requires bound { IsBound options.bound }
-    requires ring { IfSome options.ring (IsFrom 1 MOST_CAPACITY) }
+    requires bound { IsSearchBound options.bound }
+    requires ring { IfSome options.ring (IsFromTo 1 MOST_CAPACITY) }
     ensures answer { IfOk result (λ a. Runs options document.now a.answer) }
     ensures closed { IfOk result (λ a. IsThereWhere (HasCome a.answer.verdict) (WasRunOf options document.now a.answer) a.closed) }
 {

@@ -3,7 +3,7 @@
 ghost use Rattle.std.specs.Prelude.{◌≡◌, ◌<◌, ◌⊎◌, ◌^◌, length, IfOk, IfErr, IfSome, IfNone, Some, None};
 ghost use Rattle.std.specs.List.{All};
 ghost use Rattle.rs_project.specs.Numbered.{AreNumberedProjections};
-ghost use Rattle.rs_documents.specs.Reading.{IsReady};
+ghost use Rattle.rs_documents.specs.Reading.{DocumentIsReady};
 ghost use Rattle.rs_answers.specs.Refusals.{HasNoSession};
 ghost use Rattle.rs_answers.specs.Sessions.{HasMachines, Refuses, first_refusal, machine_or, machines_of};
 ghost use Rattle.rs_wellformed.specs.WellFormed.{IsWellFormed};
@@ -86,7 +86,7 @@ pub fn first_refusal(machines: &[Machine], roles: u8) -> Option<(Role, MachineFa
 
 /// The session of the document; or the first reason why it has none.
 pub fn session_of(alloc: Global, document: &Document) -> Result<Session, Refusal>
-    requires { IsReady document.now }
+    requires { DocumentIsReady document.now }
     ensures ok { IfOk result (λ s. HasMachines document.now s.projections.items s.machines.items) }
     ensures err { IfErr result (λ r. (r ≡ Refusal.NoMemory) ⊎ HasNoSession document.now r) }
 {

@@ -1,7 +1,7 @@
 //! What `project` answers to a document.
 
 ghost use Rattle.std.specs.Prelude.{◌≡◌, ◌++◌, IfOk, OnOk};
-ghost use Rattle.rs_documents.specs.Reading.{IsReady};
+ghost use Rattle.rs_documents.specs.Reading.{DocumentIsReady};
 ghost use Rattle.rs_answers.specs.Tables.{Projects, tables_text};
 
 use crate::answers::Answer;
@@ -30,7 +30,7 @@ fn tables_text(alloc: Global, names: &Names, projections: &[Projection]) -> Resu
 
 /// What `project` answers to a document: why it has no projections, else their tables.
 pub fn project_all(alloc: Global, document: &Document) -> Result<Answer, NoMemory>
-    requires { IsReady document.now }
+    requires { DocumentIsReady document.now }
     ensures { IfOk result (Projects document.now) }
 {
     let names = &document.names;

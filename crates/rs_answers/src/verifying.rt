@@ -3,7 +3,7 @@
 ghost use Rattle.std.specs.Prelude.{◌≡◌, ◌≤◌, ◌+◌, length, IfNone, IfOk, IfSome, None, Some};
 ghost use Rattle.std.specs.List.{list_all};
 ghost use Rattle.std.specs.Option.{is_some};
-ghost use Rattle.rs_documents.specs.Reading.{IsReady};
+ghost use Rattle.rs_documents.specs.Reading.{DocumentIsReady};
 ghost use Rattle.rs_model.specs.declared.limits.TheConstants.{MOST_ROLES};
 ghost use Rattle.rs_answers.specs.Verifying as spec;
 ghost use Rattle.rs_answers.specs.Verifying.{AreCheckable, IsCheckable, Verifies};
@@ -92,7 +92,7 @@ fn those_there(alloc: Global, own: Vec<Option<Derivation>>) -> Result<Vec<Deriva
 /// What `verify` answers to a document: the first reason why its own derivations don't show that its machines may stand
 /// for their projections, else the report of its session, with the figures of these derivations.
 pub fn verify(alloc: Global, document: Document) -> Result<Answer, NoMemory>
-    requires ready { IsReady document }
+    requires ready { DocumentIsReady document }
     requires roles { length document.names.roles ≡ document.protocol.roles }
     ensures { IfOk result (Verifies document) }
 {

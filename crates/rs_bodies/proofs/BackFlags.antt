@@ -9,7 +9,7 @@ use Rattle.rs_bodies.specs.declared.dialects.Head.{Head}
 use Rattle.rs_bodies.specs.declared.places.Place.{Place}
 use Rattle.rs_bodies.specs.declared.places.Place.TheVariants as place
 use Rattle.rs_bodies.specs.Places.{choice, IsGoneBackTo}
-use Rattle.rs_bodies.specs.Printing.{marked, marked_place, marked_at, marked_all, back_flags, AreBack}
+use Rattle.rs_bodies.specs.Printing.{flags_behind_arms, marked_place, flags_behind_place, flags_behind_places, back_flags, AreBack}
 
 abbrev one_marked : ℕ → Arm → List Bool → List Bool
 one_marked n a flags = if nat_le a.next n && nat_lt a.next (length flags) then slice_set flags a.next true else flags
@@ -73,7 +73,7 @@ later_head x rest all k h = subst (λ j. slice_get all j ≡ Some x) (omega arit
 leads_back : (p : List Place) (number index : ℕ) (h : Head) (all : List Arm) (a : Arm) → slice_get p number ≡ Some (choice h all) → slice_get all index ≡ Some a → Leads p number a
 leads_back p number index h all a stands holds later = record { number = number; behind = later; head = h; arms = all; stands = stands; index = index; arm = a; holds = holds; leads = refl }
 
-arms_sound : (arms : List Arm) (p : List Place) (number k : ℕ) (h : Head) (all : List Arm) (flags : List Bool) → slice_get p number ≡ Some (choice h all) → Later arms all k → AreSound p flags → AreSound p (marked number arms flags)
+arms_sound : (arms : List Arm) (p : List Place) (number k : ℕ) (h : Head) (all : List Arm) (flags : List Bool) → slice_get p number ≡ Some (choice h all) → Later arms all k → AreSound p flags → AreSound p (flags_behind_arms number arms flags)
 arms_sound [] p number k h all flags stands later sound = sound
 arms_sound (a ∷ arms) p number k h all flags stands later sound =
     arms_sound arms p number (k + 1) h all (one_marked number a flags) stands (later_tail a arms all k later) (one_sound p number a flags (leads_back p number k h all a stands (later_head a arms all k later)) sound)
@@ -85,7 +85,7 @@ place_sound : (x : Place) (p : List Place) (n : ℕ) (flags : List Bool) → sli
 place_sound place.End p n flags h sound = sound
 place_sound (place.Point x) p n flags h sound = arms_sound x.arms p n 0 x.head x.arms flags h (same_later x.arms) sound
 
-all_sound : (places p : List Place) (n : ℕ) (flags : List Bool) → Later places p n → AreSound p flags → AreSound p (marked_all n places flags)
+all_sound : (places p : List Place) (n : ℕ) (flags : List Bool) → Later places p n → AreSound p flags → AreSound p (flags_behind_places n places flags)
 all_sound [] p n flags later sound = sound
 all_sound (x ∷ places) p n flags later sound =
     all_sound places p (n + 1) (marked_place n x flags) (later_tail x places p n later) (place_sound x p n flags (later_head x places p n later) sound)
@@ -101,15 +101,15 @@ one_keeps number a flags n h = elim (tells number a flags) [ inl e ↦ rw e.is (
 one_marks : (number : ℕ) (a : Arm) (flags : List Bool) → a.next ≤ number → a.next < length flags → get_or (one_marked number a flags) a.next false ≡ true
 one_marks number a flags later within = elim (tells number a flags) [ inl e ↦ rw e.is (get_or-set_same flags a.next true false within) | inr e ↦ absurd (e.1 later within) ]
 
-arms_length : (arms : List Arm) (number : ℕ) (flags : List Bool) → length (marked number arms flags) ≡ length flags
+arms_length : (arms : List Arm) (number : ℕ) (flags : List Bool) → length (flags_behind_arms number arms flags) ≡ length flags
 arms_length [] number flags = refl
 arms_length (a ∷ arms) number flags = arms_length arms number (one_marked number a flags) ∙ one_length number a flags
 
-arms_keep : (arms : List Arm) (number : ℕ) (flags : List Bool) (n : ℕ) → get_or flags n false ≡ true → get_or (marked number arms flags) n false ≡ true
+arms_keep : (arms : List Arm) (number : ℕ) (flags : List Bool) (n : ℕ) → get_or flags n false ≡ true → get_or (flags_behind_arms number arms flags) n false ≡ true
 arms_keep [] number flags n h = h
 arms_keep (a ∷ arms) number flags n h = arms_keep arms number (one_marked number a flags) n (one_keeps number a flags n h)
 
-arms_mark : (arms : List Arm) (index number : ℕ) (flags : List Bool) (a : Arm) → slice_get arms index ≡ Some a → a.next ≤ number → a.next < length flags → get_or (marked number arms flags) a.next false ≡ true
+arms_mark : (arms : List Arm) (index number : ℕ) (flags : List Bool) (a : Arm) → slice_get arms index ≡ Some a → a.next ≤ number → a.next < length flags → get_or (flags_behind_arms number arms flags) a.next false ≡ true
 arms_mark [] index number flags a h later within = absurd (cc h)
 arms_mark (b ∷ arms) zero number flags a h later within =
     arms_keep arms number (one_marked number b flags) a.next (subst (λ (x : Arm). get_or (one_marked number b flags) x.next false ≡ true) (some_is b a h) (one_marks number b flags (rw (some_is b a h) later) (rw (some_is b a h) within)))
@@ -123,11 +123,11 @@ place_keeps : (x : Place) (k : ℕ) (flags : List Bool) (n : ℕ) → get_or fla
 place_keeps place.End k flags n h = h
 place_keeps (place.Point x) k flags n h = arms_keep x.arms k flags n h
 
-all_keep : (places : List Place) (k : ℕ) (flags : List Bool) (n : ℕ) → get_or flags n false ≡ true → get_or (marked_all k places flags) n false ≡ true
+all_keep : (places : List Place) (k : ℕ) (flags : List Bool) (n : ℕ) → get_or flags n false ≡ true → get_or (flags_behind_places k places flags) n false ≡ true
 all_keep [] k flags n h = h
 all_keep (x ∷ places) k flags n h = all_keep places (k + 1) (marked_place k x flags) n (place_keeps x k flags n h)
 
-all_mark : (places : List Place) (i k : ℕ) (flags : List Bool) (h : Head) (arms : List Arm) (index : ℕ) (a : Arm) → slice_get places i ≡ Some (choice h arms) → slice_get arms index ≡ Some a → a.next ≤ k + i → a.next < length flags → get_or (marked_all k places flags) a.next false ≡ true
+all_mark : (places : List Place) (i k : ℕ) (flags : List Bool) (h : Head) (arms : List Arm) (index : ℕ) (a : Arm) → slice_get places i ≡ Some (choice h arms) → slice_get arms index ≡ Some a → a.next ≤ k + i → a.next < length flags → get_or (flags_behind_places k places flags) a.next false ≡ true
 all_mark [] i k flags h arms index a stands holds later within = absurd (cc stands)
 all_mark (x ∷ places) zero k flags h arms index a stands holds later within =
     all_keep places (k + 1) (marked_place k x flags) a.next (rw (some_is x (choice h arms) stands) (arms_mark arms index k flags a holds (omega arith) within))
@@ -160,13 +160,13 @@ flags_are_back p flags e n = rw e (back_is p n, is_back p n)
 
 -- ---- place by place
 
-marked_in : (places : List Place) (n k : ℕ) (flags : List Bool) → marked_all (k + 1) (drop (suc n) places) (marked_at k (slice_get places n) flags) ≡ marked_all k (drop n places) flags
+marked_in : (places : List Place) (n k : ℕ) (flags : List Bool) → flags_behind_places (k + 1) (drop (suc n) places) (flags_behind_place k (slice_get places n) flags) ≡ flags_behind_places k (drop n places) flags
 marked_in [] zero k flags = refl
 marked_in [] (suc n) k flags = refl
 marked_in (x ∷ places) zero k flags = refl
 marked_in (x ∷ places) (suc n) k flags = marked_in places n k flags
 
-pub marked_on : (places : List Place) (n : ℕ) (flags : List Bool) → marked_all (n + 1) (drop (n + 1) places) (marked_at n (slice_get places n) flags) ≡ marked_all n (drop n places) flags
+pub marked_on : (places : List Place) (n : ℕ) (flags : List Bool) → flags_behind_places (n + 1) (drop (n + 1) places) (flags_behind_place n (slice_get places n) flags) ≡ flags_behind_places n (drop n places) flags
 marked_on places n flags =
     let next : suc n ≡ n + 1 = omega arith in
-    subst (λ j. marked_all (n + 1) (drop j places) (marked_at n (slice_get places n) flags) ≡ marked_all n (drop n places) flags) next (marked_in places n n flags)
+    subst (λ j. flags_behind_places (n + 1) (drop j places) (flags_behind_place n (slice_get places n) flags) ≡ flags_behind_places n (drop n places) flags) next (marked_in places n n flags)

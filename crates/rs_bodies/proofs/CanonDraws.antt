@@ -4,7 +4,7 @@ use Rattle.std.proofs.lemmas.Bool.{ltb-true}
 use Rattle.rs_model.specs.Data.{Names_data}
 use Rattle.rs_model.specs.declared.graph.Arm.{Arm}
 use Rattle.rs_model.specs.declared.values.Sort.{Sort}
-use Rattle.rs_text.specs.Names.{Bound, bound_to, number_or}
+use Rattle.rs_text.specs.Names.{Bound, nearest_binding, number_or}
 use Rattle.rs_text.proofs.Basics.{or_end}
 use Rattle.rs_bodies.specs.declared.dialects.Dialect.{Dialect}
 use Rattle.rs_bodies.specs.declared.dialects.Dialect.TheVariants.{Talks, Acts}
@@ -35,7 +35,7 @@ head_has : (dia : Dialect) (w : Writing) (s : List ℕ) (r : Turn dia) → HeadH
 head_has Talks w s (sends_to r) h = (h.0, h.1)
 head_has Acts w s (with_mark m) h = (h, tt)
 
-name_draws : (w : Writing) (p : List Place) (from k : ℕ) (found : Option ℕ) (x : List ℕ) (bound : Bound) → bound_to x bound ≡ found → is_guarded found k ≡ true → Ins bound from k → (number_or found < from) × (name_of_place (number_or found) ≡ name_of_place (number_or found))
+name_draws : (w : Writing) (p : List Place) (from k : ℕ) (found : Option ℕ) (x : List ℕ) (bound : Bound) → nearest_binding x bound ≡ found → is_guarded found k ≡ true → Ins bound from k → (number_or found < from) × (name_of_place (number_or found) ≡ name_of_place (number_or found))
 name_draws w p from k None x bound e g ins = absurd (cc g)
 name_draws w p from k (Some m) x bound e g ins = (ins x m e (ltb-true m k g), refl)
 
@@ -62,7 +62,7 @@ mutual
   pub draws : {dia : Dialect} (w : Writing) (p : List Place) (b : Body dia) (bound : Bound) (from k : ℕ) (pre post : List Place) → w.places ≡ p → HaveNames w.names p → p ≡ pre ++ (places_in w.numbers b bound k ++ post) → length pre ≡ k → from ≤ k
       → (has_end dia b ≡ true → slice_get p w.numbers.last ≡ Some place.End) → Named dia b bound k → Low bound k → Ins bound from k → Draws dia w.names p from (first_of dia b bound k w.numbers.last) (canon w b bound k)
   draws {dia} w p ends bound from k pre post n enough e h le end named low ins = end refl
-  draws {dia} w p (again x) bound from k pre post n enough e h le end named low ins = name_draws w p from k (bound_to x bound) x bound refl named ins
+  draws {dia} w p (again x) bound from k pre post n enough e h le end named low ins = name_draws w p from k (nearest_binding x bound) x bound refl named ins
   draws {dia} w p (binds x b) bound from k pre post n enough e h le end named low ins = draws w p b ((x, k) ∷ bound) from k pre post n enough e h le end named (low_rec bound k x low) (ins_rec bound from k x ins)
   draws {dia} w p (acts s r l sort b) bound from k pre post n enough e h le end named low ins =
       let a : Arm = arm_of w.numbers l sort (first_of dia b bound (suc k) w.numbers.last) in

@@ -5,7 +5,7 @@ use Rattle.rs_model.specs.Data.{Names_data}
 use Rattle.rs_model.specs.declared.values.Sort.{Sort}
 use Rattle.rs_text.specs.Arms.{sort_or_unit}
 use Rattle.rs_text.specs.Shown.{shown_sort}
-use Rattle.rs_text.specs.Names.{Bound, bound_to, number_or}
+use Rattle.rs_text.specs.Names.{Bound, nearest_binding, number_or}
 use Rattle.rs_bodies.specs.declared.dialects.Dialect.{Dialect}
 use Rattle.rs_bodies.specs.declared.places.Place.{Place}
 use Rattle.rs_bodies.specs.Dialects.{Turn, sends_to, with_mark}
@@ -44,7 +44,7 @@ sort_as sort = shown_sort (sort_or_unit sort)
 abbrev mutual
   pub canon : {dia : Dialect} → Writing → Body dia → Bound → ℕ → Body dia
   canon w ends bound count = ends
-  canon w (again x) bound count = again (name_of_place (number_or (bound_to x bound)))
+  canon w (again x) bound count = again (name_of_place (number_or (nearest_binding x bound)))
   canon w (binds x b) bound count = canon w b ((x, count) ∷ bound) count
   canon w (acts s r l sort b) bound count = wrapped (goes_back w.places count) count (acts (role_as w s) (turn_as w r) (label_as w l) (sort_as sort) (canon w b bound (suc count)))
   canon w (offers s r arms) bound count = wrapped (goes_back w.places count) count (offered (role_as w s) (turn_as w r) (canon_arms w arms bound (suc count)))

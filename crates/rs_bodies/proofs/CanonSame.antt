@@ -9,7 +9,7 @@ use Rattle.rs_text.proofs.Arms.{sort_same}
 use Rattle.rs_model.specs.declared.graph.Arm.{Arm}
 use Rattle.rs_model.specs.declared.values.Sort.{Sort}
 use Rattle.rs_text.specs.Arms.{sort_or_unit}
-use Rattle.rs_text.specs.Names.{Bound, bound_to, number_or}
+use Rattle.rs_text.specs.Names.{Bound, nearest_binding, number_or}
 use Rattle.rs_text.proofs.Basics.{some_is}
 use Rattle.rs_bodies.specs.declared.dialects.Dialect.{Dialect}
 use Rattle.rs_bodies.specs.declared.dialects.Dialect.TheVariants.{Talks, Acts}
@@ -37,14 +37,14 @@ picked false k found m h f = f refl
 -- ---- the canonical names lead where the names lead
 
 abbrev pub Inv : (ℕ → Bool) → Bound → Bound → ℕ → Type 0
-Inv back bound named k = (x : List ℕ) (m : ℕ) → bound_to x bound ≡ Some m → back m ≡ true → m < k → bound_to (name_of_place m) named ≡ Some m
+Inv back bound named k = (x : List ℕ) (m : ℕ) → nearest_binding x bound ≡ Some m → back m ≡ true → m < k → nearest_binding (name_of_place m) named ≡ Some m
 
 inv_pick : {P : Type 0} (c : Bool) (k : ℕ) (found : Option ℕ) (m : ℕ) → m < k → (if c then Some k else found) ≡ Some m → (found ≡ Some m → P) → P
 inv_pick true k found m lt e f = let same : k ≡ m = some_is k m e in absurd (omega arith)
 inv_pick false k found m lt e f = f e
 
 pub inv_rec : (back : ℕ → Bool) (bound named : Bound) (k : ℕ) (x : List ℕ) → Inv back bound named k → Inv back ((x, k) ∷ bound) named k
-inv_rec back bound named k x inv y m e b lt = inv_pick (bytes_eq x y) k (bound_to y bound) m lt e (λ h. inv y m h b lt)
+inv_rec back bound named k x inv y m e b lt = inv_pick (bytes_eq x y) k (nearest_binding y bound) m lt e (λ h. inv y m h b lt)
 
 place_named : (k m : ℕ) → k < 2 ^ 64 → m < 2 ^ 64 → bytes_eq (name_of_place k) (name_of_place m) ≡ true → k ≡ m
 place_named k m a b h = place_name_is k m a b ((bytes_eq-Decides (name_of_place k) (name_of_place m)).0 h)
@@ -54,14 +54,14 @@ not_named k m h e = cc ((bytes_eq-Decides (name_of_place k) (name_of_place m)).1
 
 pub inv_head : (back : ℕ → Bool) (bound named : Bound) (k : ℕ) (c : Bool) → k < 2 ^ 64 → back k ≡ c → Inv back bound named k → Inv back bound (opened_for c k named) (suc k)
 inv_head back bound named k true small bk inv x m e b lt =
-    picked (bytes_eq (name_of_place k) (name_of_place m)) k (bound_to (name_of_place m) named) m (λ h. place_named k m small (omega arith) h)
+    picked (bytes_eq (name_of_place k) (name_of_place m)) k (nearest_binding (name_of_place m) named) m (λ h. place_named k m small (omega arith) h)
     (λ h. let ne : k ≢ m = not_named k m h in inv x m e b (omega arith))
 inv_head back bound named k false small bk inv x m e b lt =
     let ne : k ≢ m = λ same. let wrong : back k ≡ true = ap back same ∙ b in cc (bk, wrong) in
     inv x m e b (omega arith)
 
 abbrev pub InvAll : (ℕ → Bool) → Bound → Bound → Type 0
-InvAll back bound named = (x : List ℕ) (m : ℕ) → bound_to x bound ≡ Some m → back m ≡ true → bound_to (name_of_place m) named ≡ Some m
+InvAll back bound named = (x : List ℕ) (m : ℕ) → nearest_binding x bound ≡ Some m → back m ≡ true → nearest_binding (name_of_place m) named ≡ Some m
 
 pub inv_all : (back : ℕ → Bool) (bound named : Bound) (k : ℕ) → Low bound k → Inv back bound named (suc k) → InvAll back bound named
 inv_all back bound named k low inv x m e b = let lt : m < k + 1 = low x m e in inv x m e b (omega arith)
@@ -143,14 +143,14 @@ few_small : (dia : Dialect) (k n : ℕ) → k + suc n ≤ most dia → k < 2 ^ 6
 few_small Talks k n h = omega arith
 few_small Acts k n h = omega arith
 
-name_first : (back : ℕ → Bool) (bound named : Bound) (k : ℕ) (x : List ℕ) (found : Option ℕ) → bound_to x bound ≡ found → Leads back found k → Inv back bound named k → number_or (bound_to (name_of_place (number_or found)) named) ≡ number_or found
+name_first : (back : ℕ → Bool) (bound named : Bound) (k : ℕ) (x : List ℕ) (found : Option ℕ) → nearest_binding x bound ≡ found → Leads back found k → Inv back bound named k → number_or (nearest_binding (name_of_place (number_or found)) named) ≡ number_or found
 name_first back bound named k x None e h inv = absurd h
 name_first back bound named k x (Some m) e h inv = ap number_or (inv x m e h.1 h.0)
 
 mutual
   pub same : {dia : Dialect} (P : List ℕ → Type 0) (w : Writing) (m : Numbering) (t : Body dia) (bound named : Bound) (k : ℕ) → SameNumbers P w m → k + acts_in dia t ≤ most dia → Fine dia (goes_back w.places) t bound k → Inv (goes_back w.places) bound named k → Low bound k → HasNames w P t → Same w m t (canon w t bound k) bound named k
   same {dia} P w m ends bound named k s few h inv low has = record { places = refl; first = s.last }
-  same {dia} P w m (again x) bound named k s few h inv low has = record { places = refl; first = name_first (goes_back w.places) bound named k x (bound_to x bound) refl h inv }
+  same {dia} P w m (again x) bound named k s few h inv low has = record { places = refl; first = name_first (goes_back w.places) bound named k x (nearest_binding x bound) refl h inv }
   same {dia} P w m (binds x b) bound named k s few h inv low has =
       let i = same P w m b ((x, k) ∷ bound) named k s few h (inv_rec (goes_back w.places) bound named k x inv) (low_rec bound k x low) has in
       record { places = i.places; first = i.first }
@@ -201,7 +201,7 @@ mutual
 
 -- ---- in the graph of a tree, names lead to heads that are gone back to
 
-fine_name : (p : List Place) (x : List ℕ) (bound : Bound) (from k : ℕ) (found : Option ℕ) → bound_to x bound ≡ found → is_guarded found k ≡ true → Ins bound from k → (number_or found < from → goes_back p (number_or found) ≡ true) → Leads (goes_back p) found k
+fine_name : (p : List Place) (x : List ℕ) (bound : Bound) (from k : ℕ) (found : Option ℕ) → nearest_binding x bound ≡ found → is_guarded found k ≡ true → Ins bound from k → (number_or found < from → goes_back p (number_or found) ≡ true) → Leads (goes_back p) found k
 fine_name p x bound from k None e g ins back = absurd (cc g)
 fine_name p x bound from k (Some m) e g ins back = let lt : m < k = ltb-true m k g in (lt, back (ins x m e lt))
 
@@ -209,7 +209,7 @@ mutual
   pub fine : {dia : Dialect} (m : Numbering) (p : List Place) (t : Body dia) (bound : Bound) (from k : ℕ) (pre post : List Place) → p ≡ pre ++ (places_in m t bound k ++ post) → length pre ≡ k → Named dia t bound k → Low bound k → Ins bound from k
       → (first_of dia t bound k m.last < from → goes_back p (first_of dia t bound k m.last) ≡ true) → Fine dia (goes_back p) t bound k
   fine {dia} m p ends bound from k pre post e h named low ins back = tt
-  fine {dia} m p (again x) bound from k pre post e h named low ins back = fine_name p x bound from k (bound_to x bound) refl named ins back
+  fine {dia} m p (again x) bound from k pre post e h named low ins back = fine_name p x bound from k (nearest_binding x bound) refl named ins back
   fine {dia} m p (binds x b) bound from k pre post e h named low ins back = fine m p b ((x, k) ∷ bound) from k pre post e h named (low_rec bound k x low) (ins_rec bound from k x ins) back
   fine {dia} m p (acts s r l sort b) bound from k pre post e h named low ins back =
       let a : Arm = arm_of m l sort (first_of dia b bound (suc k) m.last) in

@@ -4,7 +4,7 @@ use Rattle.std.proofs.Common.{◌≡◌, ℕ, suc, ◌+◌, ◌<◌, ◌≤◌, 
 use Rattle.rs_model.specs.Data.{Names_data}
 use Rattle.rs_model.specs.declared.limits.TheConstants.{MOST_TALKS}
 use Rattle.rs_text.proofs.PlainNames.{numbered_word}
-use Rattle.rs_text.specs.Names.{Bound, bound_to, number_or}
+use Rattle.rs_text.specs.Names.{Bound, nearest_binding, number_or}
 use Rattle.rs_text.specs.Words.{is_word, is_role_word}
 use Rattle.rs_bodies.specs.declared.dialects.Dialect.{Dialect}
 use Rattle.rs_bodies.specs.declared.dialects.Dialect.TheVariants.{Talks, Acts}
@@ -137,7 +137,7 @@ turn_word Acts w (with_mark m) roles has = tt
 mutual
   words : {dia : Dialect} (w : Writing) (t : Body dia) (bound : Bound) (k : ℕ) → k + acts_in dia t ≤ 1024 → RoleWords w → LabelWords w → HasNames w (HasLabel w) t → Low bound k → AreWordsIn dia (canon w t bound k)
   words w ends bound k few roles labels has low = tt
-  words w (again x) bound k few roles labels has low = let le : number_or (bound_to x bound) ≤ k = below_all (bound_to x bound) k (λ m e. low x m e) in place_name_law (number_or (bound_to x bound)) (omega arith)
+  words w (again x) bound k few roles labels has low = let le : number_or (nearest_binding x bound) ≤ k = below_all (nearest_binding x bound) k (λ m e. low x m e) in place_name_law (number_or (nearest_binding x bound)) (omega arith)
   words w (binds x b) bound k few roles labels has low = words w b ((x, k) ∷ bound) k few roles labels has (low_rec bound k x low)
   words {dia} w (acts s r l sort b) bound k few roles labels has low =
       one_words (goes_back w.places k) k (acts (role_as w s) (turn_as w r) (label_as w l) (sort_as sort) (canon w b bound (suc k))) (omega arith)

@@ -20,7 +20,7 @@ use Rattle.rs_bodies.specs.declared.reading.Mode.{Mode}
 use Rattle.rs_bodies.specs.declared.reading.Mode.TheVariants as mode
 use Rattle.rs_text.specs.Faults.{kind_of}
 use Rattle.rs_text.specs.Lexemes.{Lexeme}
-use Rattle.rs_text.specs.Names.{place_of, is_among, bound_to}
+use Rattle.rs_text.specs.Names.{place_of, is_among, nearest_binding}
 use Rattle.rs_text.specs.Signs.{Sign, rec_word, end_word, plain, colon, dot, comma, open_brace, close_brace, open_paren, close_paren, broken}
 use Rattle.rs_text.proofs.Naming.{among, not_among}
 use Rattle.rs_text.specs.Seen.{sort_named}
@@ -30,7 +30,7 @@ use Rattle.rs_bodies.specs.Trees.{ends_a_name}
 use Rattle.rs_text.specs.FirstFaults.{IsWhole}
 use Rattle.rs_bodies.specs.Scenes.{Scene}
 use Rattle.rs_bodies.specs.Misplaced.{fault_of_name, fault_of_word, fault_of_first, fault_of_role, fault_of_new_role}
-use Rattle.rs_bodies.specs.Feeding.{Fed, in_mode, linked, feed_machine, feed_roles, new_role, feed_line, received_by, placed, role_by, met_by, named, feed_word, feed_body, opened, label_of_number, labelled_by, sorted_by, feed_sort, feed_next, feed_at, feeding}
+use Rattle.rs_bodies.specs.Feeding.{Fed, in_mode, reader_behind_link, feed_machine, feed_roles, new_role, feed_line, feed_receiver_role, reader_at_head, role_by, feed_head_role, feed_bound_name, feed_word, feed_body, reader_in_braces, label_of_number, feed_label_number, feed_sort_word, feed_sort, feed_next, feed_at, feeding}
 use Rattle.rs_text.specs.Readings.{fault, expected, feed_sign}
 use Rattle.rs_text.proofs.Leading.{NotExpected}
 use Rattle.rs_bodies.proofs.FaultRuns.{Follower, a_turn, a_broken, a_name, follower, by_name}
@@ -88,17 +88,17 @@ role_step : (dia : Dialect) (found : Option ℕ) (word : List ℕ) (at : ℕ) (n
 role_step dia None word at n r e = misplaced dia wanted.Role (if is_among word r.roles then None else Some kind.UnknownRole) (plain word) at n kind.UnknownRole refl tt (ap (λ z. if z then None else Some kind.UnknownRole) (not_among r.roles word 0 e))
 role_step dia (Some k) word at n r e = (refl, ap (λ z. if z then None else Some kind.UnknownRole) (among r.roles word 0 k e))
 
-met_step : (dia : Dialect) (found : Option ℕ) (word : List ℕ) (from : Link) (at : ℕ) (n : Lexeme) (r : Reader_data) → place_of word r.roles ≡ found → Steps dia wanted.Body (fault_of_first dia word (scene_of r)) (plain word) at n (met_by dia found from at r)
+met_step : (dia : Dialect) (found : Option ℕ) (word : List ℕ) (from : Link) (at : ℕ) (n : Lexeme) (r : Reader_data) → place_of word r.roles ≡ found → Steps dia wanted.Body (fault_of_first dia word (scene_of r)) (plain word) at n (feed_head_role dia found from at r)
 met_step dia None word from at n r e = misplaced dia wanted.Body (fault_of_first dia word (scene_of r)) (plain word) at n kind.UnknownRole refl tt
     (ap (λ z. if z then (if nat_le (most dia) (length r.drafts) then Some kind.TooManyNodes else None) else Some kind.UnknownRole) (not_among r.roles word 0 e))
-met_step dia (Some k) word from at n r e = subst (λ (z : Bool). Steps dia wanted.Body (if z then (if nat_le (most dia) (length r.drafts) then Some kind.TooManyNodes else None) else Some kind.UnknownRole) (plain word) at n (met_by dia (Some k) from at r)) (sym (among r.roles word 0 k e))
+met_step dia (Some k) word from at n r e = subst (λ (z : Bool). Steps dia wanted.Body (if z then (if nat_le (most dia) (length r.drafts) then Some kind.TooManyNodes else None) else Some kind.UnknownRole) (plain word) at n (feed_head_role dia (Some k) from at r)) (sym (among r.roles word 0 k e))
     (step_guard dia (nat_le (most dia) (length r.drafts)) kind.TooManyNodes wanted.Body None (plain word) at n (in_mode (mode.AtTurn from (record { 0 = k })) r) refl tt (refl, refl))
 
-guarded_step : (dia : Dialect) (c : Bool) (k : ℕ) (word : List ℕ) (from : Link) (at : ℕ) (n : Lexeme) (r : Reader_data) → Steps dia wanted.Body (if c then None else Some kind.Unguarded) (plain word) at n (if c then in_mode mode.Next (linked from (Some k) r) else fault kind.Unguarded at)
+guarded_step : (dia : Dialect) (c : Bool) (k : ℕ) (word : List ℕ) (from : Link) (at : ℕ) (n : Lexeme) (r : Reader_data) → Steps dia wanted.Body (if c then None else Some kind.Unguarded) (plain word) at n (if c then in_mode mode.Next (reader_behind_link from (Some k) r) else fault kind.Unguarded at)
 guarded_step dia true k word from at n r = (refl, refl)
 guarded_step dia false k word from at n r = misplaced dia wanted.Body (Some kind.Unguarded) (plain word) at n kind.Unguarded refl tt refl
 
-named_step : (dia : Dialect) (found : Option ℕ) (word : List ℕ) (from : Link) (at : ℕ) (n : Lexeme) (r : Reader_data) → Steps dia wanted.Body (fault_of_name found (length r.drafts)) (plain word) at n (named found from at r)
+named_step : (dia : Dialect) (found : Option ℕ) (word : List ℕ) (from : Link) (at : ℕ) (n : Lexeme) (r : Reader_data) → Steps dia wanted.Body (fault_of_name found (length r.drafts)) (plain word) at n (feed_bound_name found from at r)
 named_step dia None word from at n r = misplaced dia wanted.Body (Some kind.UnboundName) (plain word) at n kind.UnboundName refl tt refl
 named_step dia (Some k) word from at n r = guarded_step dia (nat_lt k (length r.drafts)) k word from at n r
 
@@ -106,22 +106,22 @@ unless : (c : Bool) (x y : Option TextKind) → (if c then false else true) ≡ 
 unless true x y h = cc
 unless false x y h = refl
 
-pub by_name_fault : (dia : Dialect) (v : Sign) (word : List ℕ) (s : Scene) → ends_a_name dia v ≡ true → fault_of_word dia word v s ≡ fault_of_name (bound_to word s.bound) s.acts
+pub by_name_fault : (dia : Dialect) (v : Sign) (word : List ℕ) (s : Scene) → ends_a_name dia v ≡ true → fault_of_word dia word v s ≡ fault_of_name (nearest_binding word s.bound) s.acts
 by_name_fault dia (broken k) word s h = cc
-by_name_fault dia v word s h = unless (turns dia v) (fault_of_first dia word s) (fault_of_name (bound_to word s.bound) s.acts) h
+by_name_fault dia v word s h = unless (turns dia v) (fault_of_first dia word s) (fault_of_name (nearest_binding word s.bound) s.acts) h
 
 pub by_turn_fault : (dia : Dialect) (v : Sign) (word : List ℕ) (s : Scene) → turns dia v ≡ true → fault_of_word dia word v s ≡ fault_of_first dia word s
 by_turn_fault dia (broken k) word s h = cc
-by_turn_fault dia v word s h = ap (λ z. if z then fault_of_first dia word s else fault_of_name (bound_to word s.bound) s.acts) h
+by_turn_fault dia v word s h = ap (λ z. if z then fault_of_first dia word s else fault_of_name (nearest_binding word s.bound) s.acts) h
 
 word_step : (dia : Dialect) (v : Sign) (f : Follower dia v) (from : Link) (word : List ℕ) (at : ℕ) (n : Lexeme) (r : Reader_data) → n.sign ≡ v → Steps dia wanted.Body (fault_of_word dia word v (scene_of r)) (plain word) at n (feed_word dia from word v at n.from r)
 word_step dia _ (a_turn v h) from word at n r e =
     subst (λ (z : Fed). Steps dia wanted.Body (fault_of_word dia word v (scene_of r)) (plain word) at n z) (sym (by_turn dia v from word at n.from r h))
-    (subst (λ (z : Option TextKind). Steps dia wanted.Body z (plain word) at n (met_by dia (place_of word r.roles) from at r)) (sym (by_turn_fault dia v word (scene_of r) h)) (met_step dia (place_of word r.roles) word from at n r refl))
+    (subst (λ (z : Option TextKind). Steps dia wanted.Body z (plain word) at n (feed_head_role dia (place_of word r.roles) from at r)) (sym (by_turn_fault dia v word (scene_of r) h)) (met_step dia (place_of word r.roles) word from at n r refl))
 word_step dia _ (a_broken k) from word at n r e = inr (inr (record { kind = k; broken_is = e; kind_is = refl; at_is = refl; text = word; word = refl; body = refl; clear = refl }))
 word_step dia _ (a_name v h) from word at n r e =
     subst (λ (z : Fed). Steps dia wanted.Body (fault_of_word dia word v (scene_of r)) (plain word) at n z) (sym (by_name dia v from word at n.from r h))
-    (subst (λ (z : Option TextKind). Steps dia wanted.Body z (plain word) at n (named (bound_to word r.bound) from at r)) (sym (by_name_fault dia v word (scene_of r) h)) (named_step dia (bound_to word r.bound) word from at n r))
+    (subst (λ (z : Option TextKind). Steps dia wanted.Body z (plain word) at n (feed_bound_name (nearest_binding word r.bound) from at r)) (sym (by_name_fault dia v word (scene_of r) h)) (named_step dia (nearest_binding word r.bound) word from at n r))
 
 body_step : (dia : Dialect) (from : Link) (t : Sign) (at : ℕ) (n : Lexeme) (r : Reader_data) → Steps dia wanted.Body (fault_seen dia (mode.Body from) t n.sign r) t at n (feed_body dia from t at n r)
 body_step dia from rec_word at n r = step_guard dia (nat_le 200 r.depth) kind.TooDeep wanted.Body None rec_word at n (Ok (record r { depth = suc r.depth; mode = mode.RecName from })) refl tt (refl, refl)
@@ -130,10 +130,10 @@ body_step dia from (plain word) at n r = word_step dia n.sign (follower dia n.si
 body_step dia from _ at n r = inl (record { at_is = refl; kind_is = refl; stops = refl; unseen = refl })
 
 labelled_step : (dia : Dialect) (found : Option ℕ) (act : ℕ) (word : List ℕ) (w : Wanted) (t : Sign) (at : ℕ) (n : Lexeme) (r : Reader_data) → takes w t ≡ true → place_of word r.labels ≡ found
-    → Steps dia w (if is_among word r.labels then None else if nat_le 256 (length r.labels) then Some kind.TooManyLabels else None) t at n (labelled_by found act word at r)
+    → Steps dia w (if is_among word r.labels then None else if nat_le 256 (length r.labels) then Some kind.TooManyLabels else None) t at n (feed_label_number found act word at r)
 labelled_step dia (Some k) act word w t at n r h e = (h, ap (λ z. if z then None else if nat_le 256 (length r.labels) then Some kind.TooManyLabels else None) (among r.labels word 0 k e))
 labelled_step dia None act word w t at n r h e =
-    subst (λ (z : Bool). Steps dia w (if z then None else if nat_le 256 (length r.labels) then Some kind.TooManyLabels else None) t at n (labelled_by None act word at r)) (sym (not_among r.labels word 0 e))
+    subst (λ (z : Bool). Steps dia w (if z then None else if nat_le 256 (length r.labels) then Some kind.TooManyLabels else None) t at n (feed_label_number None act word at r)) (sym (not_among r.labels word 0 e))
     (step_guard dia (nat_le 256 (length r.labels)) kind.TooManyLabels w None t at n (Ok (record r { labels = r.labels ++ word ∷ []; mode = mode.Paren act (label_of_number (length r.labels)) })) h tt (h, refl))
 
 label_step : (dia : Dialect) (act : ℕ) (t : Sign) (at : ℕ) (n : Lexeme) (r : Reader_data) → Steps dia wanted.Label (fault_seen dia (mode.AtLabel act) t n.sign r) t at n (feed_at dia (mode.AtLabel act) t at n r)
@@ -144,24 +144,24 @@ label_step dia act _ at n r = inl (record { at_is = refl; kind_is = refl; stops 
 
 arms_step : (dia : Dialect) (act : ℕ) (t : Sign) (at : ℕ) (n : Lexeme) (r : Reader_data) → Steps dia (wanted_behind_head dia) (fault_seen dia (mode.AtArms act) t n.sign r) t at n (feed_at dia (mode.AtArms act) t at n r)
 arms_step Talks act colon at n r = (refl, refl)
-arms_step Talks act open_brace at n r = step_guard Talks (nat_le 200 r.depth) kind.TooDeep wanted.ColonOrBrace None open_brace at n (Ok (opened act r)) refl tt (refl, refl)
+arms_step Talks act open_brace at n r = step_guard Talks (nat_le 200 r.depth) kind.TooDeep wanted.ColonOrBrace None open_brace at n (Ok (reader_in_braces act r)) refl tt (refl, refl)
 arms_step Talks act _ at n r = inl (record { at_is = refl; kind_is = refl; stops = refl; unseen = refl })
-arms_step Acts act open_brace at n r = step_guard Acts (nat_le 200 r.depth) kind.TooDeep wanted.LabelOrBrace None open_brace at n (Ok (opened act r)) refl tt (refl, refl)
+arms_step Acts act open_brace at n r = step_guard Acts (nat_le 200 r.depth) kind.TooDeep wanted.LabelOrBrace None open_brace at n (Ok (reader_in_braces act r)) refl tt (refl, refl)
 arms_step Acts act rec_word at n r = labelled_step Acts (place_of (codes "rec") r.labels) act (codes "rec") wanted.LabelOrBrace rec_word at n r refl refl
 arms_step Acts act end_word at n r = labelled_step Acts (place_of (codes "end") r.labels) act (codes "end") wanted.LabelOrBrace end_word at n r refl refl
 arms_step Acts act (plain word) at n r = labelled_step Acts (place_of word r.labels) act word wanted.LabelOrBrace (plain word) at n r refl refl
 arms_step Acts act _ at n r = inl (record { at_is = refl; kind_is = refl; stops = refl; unseen = refl })
 
 -- a receiver
-headed_if : (dia : Dialect) (c : Bool) (t : Sign) (seen : Option TextKind) (at : ℕ) (n : Lexeme) (q : Head) (from : Link) (r : Reader_data) → c ≡ false → takes wanted.Role t ≡ true → seen ≡ None → Steps dia wanted.Role seen t at n (if c then fault kind.TooManyNodes at else Ok (placed from q r))
+headed_if : (dia : Dialect) (c : Bool) (t : Sign) (seen : Option TextKind) (at : ℕ) (n : Lexeme) (q : Head) (from : Link) (r : Reader_data) → c ≡ false → takes wanted.Role t ≡ true → seen ≡ None → Steps dia wanted.Role seen t at n (if c then fault kind.TooManyNodes at else Ok (reader_at_head from q r))
 headed_if dia true t seen at n q from r h a e = cc
 headed_if dia false t seen at n q from r h a e = (a, e)
 
-received_step : (dia : Dialect) (found : Option ℕ) (word : List ℕ) (from : Link) (p : Role) (at : ℕ) (n : Lexeme) (r : Reader_data) → place_of word r.roles ≡ found → nat_le (most dia) (length r.drafts) ≡ false → Steps dia wanted.Role (fault_of_role word r.roles) (plain word) at n (received_by dia found from p at r)
+received_step : (dia : Dialect) (found : Option ℕ) (word : List ℕ) (from : Link) (p : Role) (at : ℕ) (n : Lexeme) (r : Reader_data) → place_of word r.roles ≡ found → nat_le (most dia) (length r.drafts) ≡ false → Steps dia wanted.Role (fault_of_role word r.roles) (plain word) at n (feed_receiver_role dia found from p at r)
 received_step dia None word from p at n r e room = misplaced dia wanted.Role (fault_of_role word r.roles) (plain word) at n kind.UnknownRole refl tt (ap (λ z. if z then None else Some kind.UnknownRole) (not_among r.roles word 0 e))
 received_step dia (Some k) word from p at n r e room = headed_if dia (nat_le (most dia) (length r.drafts)) (plain word) (fault_of_role word r.roles) at n (head.Talk p (record { 0 = k })) from r room refl (ap (λ z. if z then None else Some kind.UnknownRole) (among r.roles word 0 k e))
 
-sorted_step : (dia : Dialect) (found : Option Sort) (act : ℕ) (label : Label) (t : Sign) (at : ℕ) (n : Lexeme) (r : Reader_data) → takes wanted.SortOrCloseParen t ≡ is_some found → Steps dia wanted.SortOrCloseParen None t at n (sorted_by found act label at r)
+sorted_step : (dia : Dialect) (found : Option Sort) (act : ℕ) (label : Label) (t : Sign) (at : ℕ) (n : Lexeme) (r : Reader_data) → takes wanted.SortOrCloseParen t ≡ is_some found → Steps dia wanted.SortOrCloseParen None t at n (feed_sort_word found act label at r)
 sorted_step dia None act label t at n r h = unexpected dia wanted.SortOrCloseParen t at n h
 sorted_step dia (Some s) act label t at n r h = (h, refl)
 

@@ -29,9 +29,9 @@ use Rattle.rs_bodies.specs.Trees.{body_signs}
 use Rattle.rs_bodies.specs.Cuts.{Cut, at_body, behind_end, behind_name, behind_rec, behind_rec_name, in_binds, in_turn, in_arm, in_acts, in_offers, behind_brace, BranchCut, in_head, in_branch, later, PartCut, in_opening, in_body, cut_signs, branch_cut_signs, part_cut_signs, wanted_at, wanted_in, wanted_of, IsBehind}
 use Rattle.rs_bodies.specs.Scenes.{Scene}
 use Rattle.rs_bodies.specs.Misplaced.{fault_by, fault_of}
-use Rattle.rs_bodies.specs.Faults.{Begins, IsWithin, EndsByName, IsInReach, FaultAt}
+use Rattle.rs_bodies.specs.Faults.{Begins, IsInPart, EndsByName, IsInReach, FaultAt}
 use Rattle.rs_text.specs.FirstFaults.{IsWhole, IsClear}
-use Rattle.rs_bodies.specs.Feeding.{Fed, begin, feed_at, feed_turn, feed_next, is_read, no_frames, behind_body, feeding}
+use Rattle.rs_bodies.specs.Feeding.{Fed, start_of_part, feed_at, feed_turn, feed_next, is_read, no_frames, behind_body, feeding}
 use Rattle.rs_text.specs.Readings.{feed_sign}
 use Rattle.rs_text.proofs.Leading.{NotExpected, Lands, sign_behind, lexeme, Leads, leads_split, Reached}
 use Rattle.rs_bodies.proofs.FaultPlaces.{place_wants, opening_wants, wanted_behind_head, wanted_by, fault_seen, is_named, is_named_in, is_named_of, NamedBy, PlaceAgrees, place_passes, tree_passes}
@@ -45,8 +45,8 @@ use Rattle.rs_text.proofs.Arms.{arm_not}
 abbrev pub There : (dia : Dialect) → List Sign → Type 0
 There dia xs = (c : PartCut dia) × (part_cut_signs dia c ≡ xs)
 
-pub agree : (dia : Dialect) (old : Names_data) (xs : List Sign) (u : Sign) (r : Reader_data) → Reached (feeding dia) (begin dia old) xs u r → (c : PartCut dia) → part_cut_signs dia c ≡ xs → PlaceAgrees dia old c u r
-agree dia old xs u r reach c e = reach NotExpected (λ d. PlaceAgrees dia old c u d) (subst (λ (z : List Sign). Leads (feeding dia) z u (λ d. PlaceAgrees dia old c u d) (begin dia old)) e (place_passes dia old c u))
+pub agree : (dia : Dialect) (old : Names_data) (xs : List Sign) (u : Sign) (r : Reader_data) → Reached (feeding dia) (start_of_part dia old) xs u r → (c : PartCut dia) → part_cut_signs dia c ≡ xs → PlaceAgrees dia old c u r
+agree dia old xs u r reach c e = reach NotExpected (λ d. PlaceAgrees dia old c u d) (subst (λ (z : List Sign). Leads (feeding dia) z u (λ d. PlaceAgrees dia old c u d) (start_of_part dia old)) e (place_passes dia old c u))
 
 pub begins_there : (dia : Dialect) (xs : List Sign) → There dia xs → Begins dia xs
 begins_there dia xs there = subst (λ (z : List Sign). Begins dia z) there.1 (place_begins dia there.0)
@@ -69,7 +69,7 @@ behind_wants dia (in_acts x y l s b) w h = behind_wants dia b w h
 behind_wants dia (in_offers x y arms) w h = absurd h
 behind_wants dia (behind_brace x y arms) w h = refl
 
-within_of : (dia : Dialect) (c : PartCut dia) → (place_wants dia c ≡ wanted.PartOrEnd → ⊥) → IsWithin dia c
+within_of : (dia : Dialect) (c : PartCut dia) → (place_wants dia c ≡ wanted.PartOrEnd → ⊥) → IsInPart dia c
 within_of dia (in_body x body) n = λ h. n (behind_wants dia body wanted.PartOrEnd h)
 within_of dia _ n = tt
 
@@ -210,7 +210,7 @@ place_says dia (in_body x body) = says dia body wanted.PartOrEnd refl
 -- ---- one token
 
 -- a token that is taken, and that breaks no rule of names or limits, is not at fault
-clear_of : (dia : Dialect) (old : Names_data) (xs : List Sign) (t u : Sign) (r : Reader_data) → Reached (feeding dia) (begin dia old) xs t r → There dia (xs ++ t ∷ []) → IsWhole t → fault_seen dia r.mode t u r ≡ None → IsClear (FaultAt dia old) xs t u
+clear_of : (dia : Dialect) (old : Names_data) (xs : List Sign) (t u : Sign) (r : Reader_data) → Reached (feeding dia) (start_of_part dia old) xs t r → There dia (xs ++ t ∷ []) → IsWhole t → fault_seen dia r.mode t u r ≡ None → IsClear (FaultAt dia old) xs t u
 clear_of dia old xs t u r reach there whole seen k f = elim f [
   | inl x ↦ x.2.stops (begins_there dia (xs ++ t ∷ []) there)
   | inr (inl m) ↦ absurd (cc (sym m.fault ∙ (agree dia old xs t r reach m.place m.stands).faults t u ∙ seen))
@@ -242,12 +242,12 @@ no_landing dia (Err e) w seen t at n Q s h l = elim s [
 ]
 
 -- with an unexpected token the tokens begin no part
-stops_there : (dia : Dialect) (old : Names_data) (xs : List Sign) (t : Sign) (r : Reader_data) (w : Wanted) (seen : Sign → Option TextKind) → Reached (feeding dia) (begin dia old) xs t r → IsWhole t → takes w t ≡ false → ((n : Lexeme) → Steps dia w (seen n.sign) t 0 n (feed_at dia r.mode t 0 n r)) → Begins dia (xs ++ t ∷ []) → ⊥
+stops_there : (dia : Dialect) (old : Names_data) (xs : List Sign) (t : Sign) (r : Reader_data) (w : Wanted) (seen : Sign → Option TextKind) → Reached (feeding dia) (start_of_part dia old) xs t r → IsWhole t → takes w t ≡ false → ((n : Lexeme) → Steps dia w (seen n.sign) t 0 n (feed_at dia r.mode t 0 n r)) → Begins dia (xs ++ t ∷ []) → ⊥
 stops_there dia old xs t r w seen reach whole h s b =
     let rest : List Sign = b.1 in
     let e : tree_signs dia b.0 ≡ xs ++ (t ∷ rest) = b.2 ∙ append_assoc xs (t ∷ []) rest in
-    let l : Leads (feeding dia) (xs ++ (t ∷ rest)) finish (λ d. Unit {0}) (begin dia old) = subst (λ (z : List Sign). Leads (feeding dia) z finish (λ d. Unit {0}) (begin dia old)) e (tree_passes dia old b.0) in
-    let k : Leads (feeding dia) (t ∷ rest) finish (λ d. Unit {0}) r = reach NotExpected (λ d. Leads (feeding dia) (t ∷ rest) finish (λ d. Unit {0}) d) (leads_split (feeding dia) NotExpected xs (t ∷ rest) finish (λ d. Unit {0}) (begin dia old) l) in
+    let l : Leads (feeding dia) (xs ++ (t ∷ rest)) finish (λ d. Unit {0}) (start_of_part dia old) = subst (λ (z : List Sign). Leads (feeding dia) z finish (λ d. Unit {0}) (start_of_part dia old)) e (tree_passes dia old b.0) in
+    let k : Leads (feeding dia) (t ∷ rest) finish (λ d. Unit {0}) r = reach NotExpected (λ d. Leads (feeding dia) (t ∷ rest) finish (λ d. Unit {0}) d) (leads_split (feeding dia) NotExpected xs (t ∷ rest) finish (λ d. Unit {0}) (start_of_part dia old) l) in
     let n : Lexeme = lexeme (sign_behind rest finish) 0 0 in
     no_landing dia (feed_at dia r.mode t 0 n r) w (seen n.sign) t 0 n (λ d. Leads (feeding dia) rest finish (λ d. Unit {0}) d) (s n) h (subst (λ (x : Fed). Lands x (λ d. Leads (feeding dia) rest finish (λ d. Unit {0}) d)) (whole_fed dia t 0 n r whole) (k 0 0 0))
 
@@ -263,7 +263,7 @@ not_part dia mode.Next [] a u h = cc
 not_part dia mode.Next (f ∷ fs) a u h = cc
 not_part dia _ fs a u h = cc
 
-here_unexpected : (dia : Dialect) (old : Names_data) (xs : List Sign) (t : Sign) (at : ℕ) (u : Sign) (r : Reader_data) (e : TextFault) → Reached (feeding dia) (begin dia old) xs t r → (there : There dia xs) → IsWhole t → (wanted_by dia r.mode r.frames ≡ wanted.PartOrEnd → ⊥)
+here_unexpected : (dia : Dialect) (old : Names_data) (xs : List Sign) (t : Sign) (at : ℕ) (u : Sign) (r : Reader_data) (e : TextFault) → Reached (feeding dia) (start_of_part dia old) xs t r → (there : There dia xs) → IsWhole t → (wanted_by dia r.mode r.frames ≡ wanted.PartOrEnd → ⊥)
     → ((n : Lexeme) → Steps dia (wanted_by dia r.mode r.frames) (fault_seen dia r.mode t n.sign r) t 0 n (feed_at dia r.mode t 0 n r)) → ToldUnexpected dia (wanted_by dia r.mode r.frames) (fault_seen dia r.mode t u r) t at e → Here (FaultAt dia old) xs t at u e
 here_unexpected dia old xs t at u r e reach there whole part s x =
     let a : PlaceAgrees dia old there.0 t r = agree dia old xs t r reach there.0 there.1 in
@@ -288,7 +288,7 @@ here_unexpected dia old xs t at u r e reach there whole part s x =
       ];
     }
 
-here_misplaced : (dia : Dialect) (old : Names_data) (xs : List Sign) (t : Sign) (at : ℕ) (u : Sign) (r : Reader_data) (e : TextFault) → Reached (feeding dia) (begin dia old) xs t r → (there : There dia xs) → There dia (xs ++ t ∷ []) → IsWhole t → e.at ≡ at → fault_seen dia r.mode t u r ≡ Some e.kind → Here (FaultAt dia old) xs t at u e
+here_misplaced : (dia : Dialect) (old : Names_data) (xs : List Sign) (t : Sign) (at : ℕ) (u : Sign) (r : Reader_data) (e : TextFault) → Reached (feeding dia) (start_of_part dia old) xs t r → (there : There dia xs) → There dia (xs ++ t ∷ []) → IsWhole t → e.at ≡ at → fault_seen dia r.mode t u r ≡ Some e.kind → Here (FaultAt dia old) xs t at u e
 here_misplaced dia old xs t at u r e reach there on whole at_is seen =
     let a : PlaceAgrees dia old there.0 t r = agree dia old xs t r reach there.0 there.1 in
     record {
@@ -301,7 +301,7 @@ here_misplaced dia old xs t at u r e reach there on whole at_is seen =
       ];
     }
 
-on_steps : (dia : Dialect) (old : Names_data) (x : Fed) (xs : List Sign) (t : Sign) (at : ℕ) (n : Lexeme) (r : Reader_data) → Reached (feeding dia) (begin dia old) xs t r → (there : There dia xs) → IsProper t → IsWhole t → (wanted_by dia r.mode r.frames ≡ wanted.PartOrEnd → ⊥)
+on_steps : (dia : Dialect) (old : Names_data) (x : Fed) (xs : List Sign) (t : Sign) (at : ℕ) (n : Lexeme) (r : Reader_data) → Reached (feeding dia) (start_of_part dia old) xs t r → (there : There dia xs) → IsProper t → IsWhole t → (wanted_by dia r.mode r.frames ≡ wanted.PartOrEnd → ⊥)
     → ((n : Lexeme) → Steps dia (wanted_by dia r.mode r.frames) (fault_seen dia r.mode t n.sign r) t 0 n (feed_at dia r.mode t 0 n r)) → Steps dia (wanted_by dia r.mode r.frames) (fault_seen dia r.mode t n.sign r) t at n x → Verdict dia old r xs t at n x
 on_steps dia old (Ok d) xs t at n r reach there proper whole part all s =
     let a : PlaceAgrees dia old there.0 t r = agree dia old xs t r reach there.0 there.1 in
@@ -347,7 +347,7 @@ mark_verdict : (dia : Dialect) (old : Names_data) (m : Mode) (q : Reader_data) (
 mark_verdict dia old (mode.AtTurn from p) q xs u at n r e a room on clear = turn_verdict dia old q from p xs u at n r e room on clear
 mark_verdict dia old _ q xs u at n r e a room on clear = absurd a
 
-whole_verdict : (dia : Dialect) (old : Names_data) (xs : List Sign) (t : Sign) (at : ℕ) (n : Lexeme) (r : Reader_data) → Reached (feeding dia) (begin dia old) xs t r → There dia xs → IsProper t → IsWhole t → is_read r ≡ false → Verdict dia old r xs t at n (feed_sign (feeding dia) t at n r)
+whole_verdict : (dia : Dialect) (old : Names_data) (xs : List Sign) (t : Sign) (at : ℕ) (n : Lexeme) (r : Reader_data) → Reached (feeding dia) (start_of_part dia old) xs t r → There dia xs → IsProper t → IsWhole t → is_read r ≡ false → Verdict dia old r xs t at n (feed_sign (feeding dia) t at n r)
 whole_verdict dia old xs t at n r reach there proper whole unread =
     let a : PlaceAgrees dia old there.0 t r = agree dia old xs t r reach there.0 there.1 in
     subst (λ (z : Fed). Verdict dia old r xs t at n z) (sym (whole_fed dia t at n r whole)) (elim (mark_or r.mode) [
@@ -375,7 +375,7 @@ no_arrow dia m j b r h a = cc (mark_facts dia m (broken j) b r a h).0
 broken_same : (i j : FaultKind) → broken i ≡ broken j → i ≡ j
 broken_same i j h = cc
 
-broken_verdict : (dia : Dialect) (old : Names_data) (xs : List Sign) (j : FaultKind) (at : ℕ) (n : Lexeme) (r : Reader_data) → Reached (feeding dia) (begin dia old) xs (broken j) r → There dia xs → is_read r ≡ false → Verdict dia old r xs (broken j) at n (feed_sign (feeding dia) (broken j) at n r)
+broken_verdict : (dia : Dialect) (old : Names_data) (xs : List Sign) (j : FaultKind) (at : ℕ) (n : Lexeme) (r : Reader_data) → Reached (feeding dia) (start_of_part dia old) xs (broken j) r → There dia xs → is_read r ≡ false → Verdict dia old r xs (broken j) at n (feed_sign (feeding dia) (broken j) at n r)
 broken_verdict dia old xs j at n r reach there unread =
     let a : PlaceAgrees dia old there.0 (broken j) r = agree dia old xs (broken j) r reach there.0 there.1 in
     inl (record {
@@ -388,12 +388,12 @@ broken_verdict dia old xs j at n r reach there unread =
       ];
     })
 
-verdict_by : (dia : Dialect) (old : Names_data) (t : Sign) → Wholeness t → (xs : List Sign) (at : ℕ) (n : Lexeme) (r : Reader_data) → Reached (feeding dia) (begin dia old) xs t r → There dia xs → IsProper t → is_read r ≡ false → Verdict dia old r xs t at n (feed_sign (feeding dia) t at n r)
+verdict_by : (dia : Dialect) (old : Names_data) (t : Sign) → Wholeness t → (xs : List Sign) (at : ℕ) (n : Lexeme) (r : Reader_data) → Reached (feeding dia) (start_of_part dia old) xs t r → There dia xs → IsProper t → is_read r ≡ false → Verdict dia old r xs t at n (feed_sign (feeding dia) t at n r)
 verdict_by dia old _ (a_faulty k) xs at n r reach there proper unread = broken_verdict dia old xs k at n r reach there unread
 verdict_by dia old _ (a_whole t w) xs at n r reach there proper unread = whole_verdict dia old xs t at n r reach there proper w unread
 
 -- what a token is, and what the reader says of it
-pub verdict : (dia : Dialect) (old : Names_data) (xs : List Sign) (t : Sign) (at : ℕ) (n : Lexeme) (r : Reader_data) → Reached (feeding dia) (begin dia old) xs t r → There dia xs → IsProper t → is_read r ≡ false → Verdict dia old r xs t at n (feed_sign (feeding dia) t at n r)
+pub verdict : (dia : Dialect) (old : Names_data) (xs : List Sign) (t : Sign) (at : ℕ) (n : Lexeme) (r : Reader_data) → Reached (feeding dia) (start_of_part dia old) xs t r → There dia xs → IsProper t → is_read r ≡ false → Verdict dia old r xs t at n (feed_sign (feeding dia) t at n r)
 verdict dia old xs t at n r reach there proper unread = verdict_by dia old t (wholeness t) xs at n r reach there proper unread
 
 -- ---- the end

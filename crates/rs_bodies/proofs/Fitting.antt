@@ -4,7 +4,7 @@ use Rattle.std.proofs.Common.{◌≡◌, ℕ, suc, ◌+◌, ◌<◌, ◌≤◌, 
 use Rattle.std.proofs.lemmas.Bool.{eq-eqb, lt-ltb, le-ltb, ltb-true}
 use Rattle.std.proofs.lemmas.Bool.Decides.{eqb_tells}
 use Rattle.std.specs.Str.{bytes_eq}
-use Rattle.rs_text.specs.Names.{Bound, bound_to, grown, is_among, number_or}
+use Rattle.rs_text.specs.Names.{Bound, nearest_binding, names_with, is_among, number_or}
 use Rattle.rs_text.proofs.Basics.{both, some_is}
 use Rattle.rs_text.proofs.Gaps.{true_or_false}
 use Rattle.rs_text.proofs.Naming.{grown_append}
@@ -22,7 +22,7 @@ use Rattle.rs_bodies.specs.Scenes.{Scene, with_label, in_act, in_braces, in_rec,
 abbrev mutual
   pub Named : (dia : Dialect) → Body dia → Bound → ℕ → Type 0
   Named dia ends bound count = Unit {0}
-  Named dia (again x) bound count = is_guarded (bound_to x bound) count ≡ true
+  Named dia (again x) bound count = is_guarded (nearest_binding x bound) count ≡ true
   Named dia (binds x b) bound count = Named dia b ((x, count) ∷ bound) count
   Named dia (acts s r l sort b) bound count = Named dia b bound (suc count)
   Named dia (offers s r arms) bound count = NamedArms dia arms bound (suc count)
@@ -110,7 +110,7 @@ mutual
 
 -- the names that lead to the head n or before it lead to good ones
 abbrev pub NamesGood : (ℕ → Bool) → Bound → ℕ → Type 0
-NamesGood good bound n = (x : List ℕ) (v : ℕ) → bound_to x bound ≡ Some v → v ≤ n → good v ≡ true
+NamesGood good bound n = (x : List ℕ) (v : ℕ) → nearest_binding x bound ≡ Some v → v ≤ n → good v ≡ true
 
 pub later_name : {P : Type 0} (c : Bool) (j v n : ℕ) (found : Option ℕ) → (if c then Some j else found) ≡ Some v → n < j → v ≤ n → (found ≡ Some v → P) → P
 later_name true j v n found e lt le f = let same : j ≡ v = some_is j v e in absurd (omega arith)
@@ -120,19 +120,19 @@ pub same_name : {P : Type 0} (c : Bool) (j v : ℕ) (found : Option ℕ) → (if
 same_name true j v found e f g = f (some_is j v e)
 same_name false j v found e f g = g e
 
-pub name_good : (good : ℕ → Bool) (x : List ℕ) (bound : Bound) (n j : ℕ) (found : Option ℕ) → bound_to x bound ≡ found → is_guarded found j ≡ true → NamesGood good bound n → number_or found ≤ n → good (number_or found) ≡ true
+pub name_good : (good : ℕ → Bool) (x : List ℕ) (bound : Bound) (n j : ℕ) (found : Option ℕ) → nearest_binding x bound ≡ found → is_guarded found j ≡ true → NamesGood good bound n → number_or found ≤ n → good (number_or found) ≡ true
 name_good good x bound n j None e g names le = absurd (cc g)
 name_good good x bound n j (Some v) e g names le = names x v e le
 
 pub lead_good : (dia : Dialect) (good : ℕ → Bool) (b : Body dia) (bound : Bound) (n j last : ℕ) → Named dia b bound j → NamesGood good bound n → n < j → n < last → first_of dia b bound j last ≤ n → good (first_of dia b bound j last) ≡ true
 lead_good dia good ends bound n j last named names lt end le = absurd (omega arith)
-lead_good dia good (again x) bound n j last named names lt end le = name_good good x bound n j (bound_to x bound) refl named names le
-lead_good dia good (binds x b) bound n j last named names lt end le = lead_good dia good b ((x, j) ∷ bound) n j last named (λ y v e i. later_name (bytes_eq x y) j v n (bound_to y bound) e lt i (λ f. names y v f i)) lt end le
+lead_good dia good (again x) bound n j last named names lt end le = name_good good x bound n j (nearest_binding x bound) refl named names le
+lead_good dia good (binds x b) bound n j last named names lt end le = lead_good dia good b ((x, j) ∷ bound) n j last named (λ y v e i. later_name (bytes_eq x y) j v n (nearest_binding y bound) e lt i (λ f. names y v f i)) lt end le
 lead_good dia good (acts s r l sort b) bound n j last named names lt end le = absurd (omega arith)
 lead_good dia good (offers s r arms) bound n j last named names lt end le = absurd (omega arith)
 
 -- behind head k the names that lead to k do so by a rec in front of it
-pub good_behind : (good : ℕ → Bool) (bound : Bound) (here : Bool) (k : ℕ) → ((x : List ℕ) (v : ℕ) → bound_to x bound ≡ Some v → v < k → good v ≡ true) → ((x : List ℕ) (v : ℕ) → bound_to x bound ≡ Some v → v ≡ k → here ≡ true) → (here ≡ true → good k ≡ true) → NamesGood good bound k
+pub good_behind : (good : ℕ → Bool) (bound : Bound) (here : Bool) (k : ℕ) → ((x : List ℕ) (v : ℕ) → nearest_binding x bound ≡ Some v → v < k → good v ≡ true) → ((x : List ℕ) (v : ℕ) → nearest_binding x bound ≡ Some v → v ≡ k → here ≡ true) → (here ≡ true → good k ≡ true) → NamesGood good bound k
 good_behind good bound here k before at g x v e le = elim (eqb_tells v k) [
   | inl same ↦ ap good same.1 ∙ g (at x v e same.1)
   | inr other ↦ (let ne : v ≢ k = other.1 in before x v e (omega arith))
@@ -146,7 +146,7 @@ Leads back (Some m) count = (m < count) × (back m ≡ true)
 abbrev mutual
   pub Fine : (dia : Dialect) → (ℕ → Bool) → Body dia → Bound → ℕ → Type 0
   Fine dia back ends bound count = Unit {0}
-  Fine dia back (again x) bound count = Leads back (bound_to x bound) count
+  Fine dia back (again x) bound count = Leads back (nearest_binding x bound) count
   Fine dia back (binds x b) bound count = Fine dia back b ((x, count) ∷ bound) count
   Fine dia back (acts s r l sort b) bound count = Fine dia back b bound (suc count)
   Fine dia back (offers s r arms) bound count = FineArms dia back arms bound (suc count)
@@ -157,25 +157,25 @@ abbrev mutual
 
 -- ---- what fits has few heads and labels
 
-pub few_labels : (ls : List (List ℕ)) (l : List ℕ) → length ls ≤ 256 → (is_among l ls || nat_lt (length ls) 256) ≡ true → length (grown ls (l ∷ [])) ≤ 256
+pub few_labels : (ls : List (List ℕ)) (l : List ℕ) → length ls ≤ 256 → (is_among l ls || nat_lt (length ls) 256) ≡ true → length (names_with ls (l ∷ [])) ≤ 256
 few_labels ls l few h = elim (true_or_false (is_among l ls)) [
   | inl e ↦ rw e few
   | inr e ↦ (let g : length ls < 256 = ltb-true (length ls) 256 (rw e at h) in let k : length (ls ++ l ∷ []) ≡ length ls + 1 = length-append ls (l ∷ []) in rw e (omega arith))
 ]
 
 mutual
-  pub fits_labels : (dia : Dialect) (t : Body dia) (s : Scene) → body_fits dia t s ≡ true → length s.labels ≤ 256 → length (grown s.labels (labels_of dia t)) ≤ 256
+  pub fits_labels : (dia : Dialect) (t : Body dia) (s : Scene) → body_fits dia t s ≡ true → length s.labels ≤ 256 → length (names_with s.labels (labels_of dia t)) ≤ 256
   fits_labels dia ends s h few = few
   fits_labels dia (again x) s h few = few
   fits_labels dia (binds x b) s h few = fits_labels dia b (in_rec x s) (both _ _ h).1 few
   fits_labels dia (acts x y l sort b) s h few = fits_labels dia b (with_label l (in_act s)) (both _ _ h).1 (few_labels s.labels l few (both _ _ (both _ _ h).0).1)
   fits_labels dia (offers x y arms) s h few = arms_labels dia arms (in_braces s) (both _ _ h).1 few
 
-  arms_labels : (dia : Dialect) (arms : Branches dia) (s : Scene) → arms_fit dia arms s ≡ true → length s.labels ≤ 256 → length (grown s.labels (labels_of_arms dia arms)) ≤ 256
+  arms_labels : (dia : Dialect) (arms : Branches dia) (s : Scene) → arms_fit dia arms s ≡ true → length s.labels ≤ 256 → length (names_with s.labels (labels_of_arms dia arms)) ≤ 256
   arms_labels dia (one l sort b) s h few = fits_labels dia b (with_label l s) (both _ _ h).1 (few_labels s.labels l few (both _ _ h).0)
   arms_labels dia (more l sort b arms) s h few =
       let p = both _ _ (both _ _ h).0 in
-      subst (λ (z : List (List ℕ)). length z ≤ 256) (sym (grown_append (labels_of dia b) (labels_of_arms dia arms) (grown s.labels (l ∷ []))))
+      subst (λ (z : List (List ℕ)). length z ≤ 256) (sym (grown_append (labels_of dia b) (labels_of_arms dia arms) (names_with s.labels (l ∷ []))))
       (arms_labels dia arms (behind dia b (with_label l s)) (both _ _ h).1 (fits_labels dia b (with_label l s) p.1 (few_labels s.labels l few p.0)))
 
 -- there is room for one more

@@ -14,13 +14,13 @@ use Rattle.rs_bodies.specs.declared.reading.Mode.TheVariants as mode
 use Rattle.rs_bodies.specs.declared.dialects.Dialect.TheVariants.{Acts}
 use Rattle.rs_text.specs.declared.faults.Wanted.{Wanted}
 use Rattle.rs_text.specs.Lexemes.{Lexeme}
-use Rattle.rs_text.specs.Names.{place_of, grown, bound_to}
+use Rattle.rs_text.specs.Names.{place_of, names_with, nearest_binding}
 use Rattle.rs_text.specs.Seen.{sort_named, word_text}
 use Rattle.rs_text.specs.Signs.{Sign, rec_word, end_word, plain, bang, question, colon, dot, comma, open_brace, close_brace, open_paren, close_paren, broken}
 use Rattle.rs_text.proofs.Naming.{among, not_among, grown_append}
 use Rattle.rs_bodies.specs.Data.{Reader_data}
 use Rattle.rs_bodies.specs.Faults.{opens_arm, label_there, labels_among}
-use Rattle.rs_bodies.specs.Feeding.{Fed, begin, in_mode, linked, feed_at, feed_machine, role_by, met_by, feed_word, feed_body, named, feed_next, labelled_by, sorted_by, feeding, feed_label, feed_arms}
+use Rattle.rs_bodies.specs.Feeding.{Fed, start_of_part, in_mode, reader_behind_link, feed_at, feed_machine, role_by, feed_head_role, feed_word, feed_body, feed_bound_name, feed_next, feed_label_number, feed_sort_word, feeding, feed_label, feed_arms}
 use Rattle.rs_bodies.proofs.FaultPlaces.{wanted_by}
 use Rattle.rs_text.specs.Readings.{feed_sign}
 
@@ -42,10 +42,10 @@ is_of_talks _ = false
 
 -- a token leads from r to a reader with its label, which is at a label where one may stand behind it
 abbrev pub Takes : Sign → Reader_data → Reader_data → Type 0
-Takes t r d = (d.labels ≡ grown r.labels (label_there (at_arm r.mode) t)) × (at_arm d.mode ≡ opens_arm t) × (is_of_talks d.mode ≡ false) × (d.roles ≡ r.roles)
+Takes t r d = (d.labels ≡ names_with r.labels (label_there (at_arm r.mode) t)) × (at_arm d.mode ≡ opens_arm t) × (is_of_talks d.mode ≡ false) × (d.roles ≡ r.roles)
 
 abbrev TakesAt : Mode → Sign → Reader_data → Reader_data → Type 0
-TakesAt m t r d = (d.labels ≡ grown r.labels (label_there (at_arm m) t)) × (at_arm d.mode ≡ opens_arm t) × (is_of_talks d.mode ≡ false) × (d.roles ≡ r.roles)
+TakesAt m t r d = (d.labels ≡ names_with r.labels (label_there (at_arm m) t)) × (at_arm d.mode ≡ opens_arm t) × (is_of_talks d.mode ≡ false) × (d.roles ≡ r.roles)
 
 take_if : (c : Bool) (m : Mode) (t : Sign) (r : Reader_data) (e : TextFault) (x : Fed) → IfOk x (TakesAt m t r) → IfOk (cond c (Err e) x) (TakesAt m t r)
 take_if true m t r e x h = tt
@@ -55,11 +55,11 @@ take_unless : (c : Bool) (m : Mode) (t : Sign) (r : Reader_data) (e : TextFault)
 take_unless true m t r e x h = h
 take_unless false m t r e x h = tt
 
-take_new : (c : Bool) (word : List ℕ) (at : ℕ) (r : Reader_data) (m : Mode) → at_arm m ≡ false → is_of_talks m ≡ false → r.labels ++ word ∷ [] ≡ grown r.labels (word ∷ []) → IfOk {E = TextFault} (cond c (Err (record { kind = kind.TooManyLabels; at = at })) (Ok (record r { labels = r.labels ++ word ∷ []; mode = m }))) (λ d. (d.labels ≡ grown r.labels (word ∷ [])) × (at_arm d.mode ≡ false) × (is_of_talks d.mode ≡ false) × (d.roles ≡ r.roles))
+take_new : (c : Bool) (word : List ℕ) (at : ℕ) (r : Reader_data) (m : Mode) → at_arm m ≡ false → is_of_talks m ≡ false → r.labels ++ word ∷ [] ≡ names_with r.labels (word ∷ []) → IfOk {E = TextFault} (cond c (Err (record { kind = kind.TooManyLabels; at = at })) (Ok (record r { labels = r.labels ++ word ∷ []; mode = m }))) (λ d. (d.labels ≡ names_with r.labels (word ∷ [])) × (at_arm d.mode ≡ false) × (is_of_talks d.mode ≡ false) × (d.roles ≡ r.roles))
 take_new true word at r m n o e = tt
 take_new false word at r m n o e = (e, n, o, refl)
 
-take_labelled : (found : Option ℕ) (act : ℕ) (word : List ℕ) (at : ℕ) (r : Reader_data) → place_of word r.labels ≡ found → IfOk (labelled_by found act word at r) (λ d. (d.labels ≡ grown r.labels (word ∷ [])) × (at_arm d.mode ≡ false) × (is_of_talks d.mode ≡ false) × (d.roles ≡ r.roles))
+take_labelled : (found : Option ℕ) (act : ℕ) (word : List ℕ) (at : ℕ) (r : Reader_data) → place_of word r.labels ≡ found → IfOk (feed_label_number found act word at r) (λ d. (d.labels ≡ names_with r.labels (word ∷ [])) × (at_arm d.mode ≡ false) × (is_of_talks d.mode ≡ false) × (d.roles ≡ r.roles))
 take_labelled (Some k) act word at r e = (sym (ap (λ z. if z then r.labels else r.labels ++ word ∷ []) (among r.labels word 0 k e)), refl, refl, refl)
 take_labelled None act word at r e = take_new (nat_le 256 (length r.labels)) word at r _ refl refl (sym (ap (λ z. if z then r.labels else r.labels ++ word ∷ []) (not_among r.labels word 0 e)))
 
@@ -84,19 +84,19 @@ take_role : (found : Option ℕ) (w : List ℕ) (at : ℕ) (r : Reader_data) →
 take_role None w at r = tt
 take_role (Some k) w at r = (refl, refl, refl, refl)
 
-take_met : (found : Option ℕ) (w : List ℕ) (from : Link) (at : ℕ) (r : Reader_data) → IfOk (met_by Acts found from at r) (TakesAt (mode.Body from) (plain w) r)
+take_met : (found : Option ℕ) (w : List ℕ) (from : Link) (at : ℕ) (r : Reader_data) → IfOk (feed_head_role Acts found from at r) (TakesAt (mode.Body from) (plain w) r)
 take_met None w from at r = tt
 take_met (Some k) w from at r = take_if (nat_le 256 (length r.drafts)) (mode.Body from) (plain w) r _ _ (refl, refl, refl, refl)
 
-take_named : (found : Option ℕ) (w : List ℕ) (from : Link) (at : ℕ) (r : Reader_data) → IfOk (named found from at r) (TakesAt (mode.Body from) (plain w) r)
+take_named : (found : Option ℕ) (w : List ℕ) (from : Link) (at : ℕ) (r : Reader_data) → IfOk (feed_bound_name found from at r) (TakesAt (mode.Body from) (plain w) r)
 take_named None w from at r = tt
-take_named (Some k) w from at r = take_unless (nat_lt k (length r.drafts)) (mode.Body from) (plain w) r (record { kind = kind.Unguarded; at = at }) (in_mode mode.Next (linked from (Some k) r)) (refl, refl, refl, refl)
+take_named (Some k) w from at r = take_unless (nat_lt k (length r.drafts)) (mode.Body from) (plain w) r (record { kind = kind.Unguarded; at = at }) (in_mode mode.Next (reader_behind_link from (Some k) r)) (refl, refl, refl, refl)
 
 take_word : (from : Link) (w : List ℕ) (s : Sign) (at next : ℕ) (r : Reader_data) → IfOk (feed_word Acts from w s at next r) (TakesAt (mode.Body from) (plain w) r)
 take_word from w bang at next r = take_met (place_of w r.roles) w from at r
 take_word from w question at next r = take_met (place_of w r.roles) w from at r
 take_word from w (broken k) at next r = tt
-take_word from w _ at next r = take_named (bound_to w r.bound) w from at r
+take_word from w _ at next r = take_named (nearest_binding w r.bound) w from at r
 
 take_body : (from : Link) (t : Sign) (at : ℕ) (next : Lexeme) (r : Reader_data) → IfOk (feed_body Acts from t at next r) (TakesAt (mode.Body from) t r)
 take_body from rec_word at next r = take_if (nat_le 200 r.depth) (mode.Body from) rec_word r _ _ (refl, refl, refl, refl)
@@ -110,7 +110,7 @@ take_next (f ∷ fs) comma at r = (refl, refl, refl, refl)
 take_next (f ∷ fs) close_brace at r = (refl, refl, refl, refl)
 take_next (f ∷ fs) _ at r = tt
 
-take_sorted : (found : Option Sort) (w : List ℕ) (act : ℕ) (l : Label) (at : ℕ) (r : Reader_data) → IfOk (sorted_by found act l at r) (TakesAt (mode.AtSort act l) (plain w) r)
+take_sorted : (found : Option Sort) (w : List ℕ) (act : ℕ) (l : Label) (at : ℕ) (r : Reader_data) → IfOk (feed_sort_word found act l at r) (TakesAt (mode.AtSort act l) (plain w) r)
 take_sorted None w act l at r = tt
 take_sorted (Some s) w act l at r = (refl, refl, refl, refl)
 
@@ -168,17 +168,17 @@ labels_on (x ∷ xs) here t = ap (λ z. label_there here x ++ z) (labels_on xs (
 
 -- the reader has the labels of these tokens
 pub record Follows (old : Names_data) (xs : List Sign) (r : Reader_data) : Type 0 where
-  pub labels : r.labels ≡ grown old.labels (labels_among false xs)
+  pub labels : r.labels ≡ names_with old.labels (labels_among false xs)
   pub mode : at_arm r.mode ≡ opened_by false xs
   pub line : is_of_talks r.mode ≡ false
   pub roles : r.roles ≡ old.roles
 
-pub follows_first : (old : Names_data) → Follows old [] (begin Acts old)
+pub follows_first : (old : Names_data) → Follows old [] (start_of_part Acts old)
 follows_first old = record { labels = refl; mode = refl; line = refl; roles = refl }
 
-more_labels : (old : Names_data) (xs : List Sign) (r : Reader_data) (t : Sign) → Follows old xs r → grown r.labels (label_there (at_arm r.mode) t) ≡ grown old.labels (labels_among false (xs ++ t ∷ []))
-more_labels old xs r t k = ap (λ z. grown z (label_there (at_arm r.mode) t)) k.labels ∙ ap (λ z. grown (grown old.labels (labels_among false xs)) (label_there z t)) k.mode
-    ∙ sym (grown_append (labels_among false xs) (label_there (opened_by false xs) t) old.labels) ∙ ap (λ z. grown old.labels z) (sym (labels_on xs false t))
+more_labels : (old : Names_data) (xs : List Sign) (r : Reader_data) (t : Sign) → Follows old xs r → names_with r.labels (label_there (at_arm r.mode) t) ≡ names_with old.labels (labels_among false (xs ++ t ∷ []))
+more_labels old xs r t k = ap (λ z. names_with z (label_there (at_arm r.mode) t)) k.labels ∙ ap (λ z. names_with (names_with old.labels (labels_among false xs)) (label_there z t)) k.mode
+    ∙ sym (grown_append (labels_among false xs) (label_there (opened_by false xs) t) old.labels) ∙ ap (λ z. names_with old.labels z) (sym (labels_on xs false t))
 
 on_ok : (x : Fed) (d : Reader_data) (t : Sign) (r : Reader_data) → x ≡ Ok d → IfOk x (Takes t r) → Takes t r d
 on_ok (Ok e) d t r same h = let k : e ≡ d = cc in subst (λ (z : Reader_data). Takes t r z) k h
@@ -195,5 +195,5 @@ no_arm (mode.AtArms act) fs h = cc
 no_arm _ fs h = refl
 
 -- a word at the start of a body is no label
-pub follows_word : (old : Names_data) (xs : List Sign) (t : Sign) (r : Reader_data) → Follows old xs r → wanted_by Acts r.mode r.frames ≡ wanted.Body → r.labels ≡ grown old.labels (labels_among false (xs ++ t ∷ []))
-follows_word old xs t r k h = ap (λ z. grown r.labels (label_there z t)) (sym (no_arm r.mode r.frames h)) ∙ more_labels old xs r t k
+pub follows_word : (old : Names_data) (xs : List Sign) (t : Sign) (r : Reader_data) → Follows old xs r → wanted_by Acts r.mode r.frames ≡ wanted.Body → r.labels ≡ names_with old.labels (labels_among false (xs ++ t ∷ []))
+follows_word old xs t r k h = ap (λ z. names_with r.labels (label_there z t)) (sym (no_arm r.mode r.frames h)) ∙ more_labels old xs r t k

@@ -3,7 +3,7 @@ use Rattle.std.proofs.Common.{◌≡◌, ◌≢◌, ℕ, zero, suc, ◌+◌, ◌
 use Rattle.std.proofs.lemmas.Bool.{ltb-true}
 use Rattle.rs_model.specs.Data.{Names_data}
 use Rattle.rs_model.specs.declared.graph.Arm.{Arm}
-use Rattle.rs_text.specs.Names.{place_of, is_among, Bound, bound_to, number_or}
+use Rattle.rs_text.specs.Names.{place_of, is_among, Bound, nearest_binding, number_or}
 use Rattle.rs_text.proofs.Naming.{not_among}
 use Rattle.rs_text.proofs.Numbers.{place_below}
 use Rattle.rs_bodies.specs.Data.{Point_data, Spelling_data}
@@ -82,7 +82,7 @@ guard_below (Some k) count h = ltb-true k count h
 
 first_leads : (d : Dialect) (b : Body d) (s : Scene) (last places : ℕ) → body_fits d b s ≡ true → (has_end d b ≡ true → last < places) → s.acts + acts_in d b ≤ last → last ≤ places → first_of d b s.bound s.acts last < places
 first_leads d ends s last places fits h n k = h refl
-first_leads d (again name) s last places fits h n k = let g : number_or (bound_to name s.bound) < s.acts = guard_below (bound_to name s.bound) s.acts fits in omega arith
+first_leads d (again name) s last places fits h n k = let g : number_or (nearest_binding name s.bound) < s.acts = guard_below (nearest_binding name s.bound) s.acts fits in omega arith
 first_leads d (binds name body) s last places fits h n k = first_leads d body (in_rec name s) last places (and_split _ (body_fits d body (in_rec name s)) fits).1 h n k
 first_leads d (acts p t l sort body) s last places fits h n k = omega arith
 first_leads d (offers p t arms) s last places fits h n k = omega arith

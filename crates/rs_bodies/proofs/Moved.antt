@@ -20,7 +20,7 @@ use Rattle.rs_bodies.specs.Canonical.{IsHeadOf, IsPointOf, IsOneArm, AreArms, Dr
 use Rattle.rs_bodies.specs.Dialects.{Turn, sends_to, with_mark}
 use Rattle.rs_bodies.specs.Graph.{labels_of, labels_of_arms}
 use Rattle.rs_bodies.specs.Places.{choice, IsGoneBackTo}
-use Rattle.rs_bodies.specs.Printing.{marked, marked_place, marked_all}
+use Rattle.rs_bodies.specs.Printing.{flags_behind_arms, marked_place, flags_behind_places}
 use Rattle.rs_bodies.specs.Trees.{Body, ends, again, binds, acts, offers, Branches, one, more}
 use Rattle.rs_bodies.proofs.BackFlags.{goes_back, back_is, is_back}
 
@@ -71,21 +71,21 @@ places_stay (x ∷ p) = ap (λ z. z ∷ places_moved same_number p) (place_stays
 
 -- ---- the same places are gone back to
 
-arms_marked : (arms : List Arm) (number : ℕ → ℕ) (n : ℕ) (flags : List Bool) → marked n (map (arm_moved number) arms) flags ≡ marked n arms flags
+arms_marked : (arms : List Arm) (number : ℕ → ℕ) (n : ℕ) (flags : List Bool) → flags_behind_arms n (map (arm_moved number) arms) flags ≡ flags_behind_arms n arms flags
 arms_marked [] number n flags = refl
-arms_marked (a ∷ arms) number n flags = arms_marked arms number n (marked n (a ∷ []) flags)
+arms_marked (a ∷ arms) number n flags = arms_marked arms number n (flags_behind_arms n (a ∷ []) flags)
 
 place_marked : (x : Place) (number : ℕ → ℕ) (n : ℕ) (flags : List Bool) → marked_place n (place_moved number x) flags ≡ marked_place n x flags
 place_marked place.End number n flags = refl
 place_marked (place.Point x) number n flags = arms_marked x.arms number n flags
 
-all_marked : (p : List Place) (number : ℕ → ℕ) (n : ℕ) (flags : List Bool) → marked_all n (places_moved number p) flags ≡ marked_all n p flags
+all_marked : (p : List Place) (number : ℕ → ℕ) (n : ℕ) (flags : List Bool) → flags_behind_places n (places_moved number p) flags ≡ flags_behind_places n p flags
 all_marked [] number n flags = refl
-all_marked (x ∷ p) number n flags = all_marked p number (n + 1) (marked_place n (place_moved number x) flags) ∙ ap (λ z. marked_all (n + 1) p z) (place_marked x number n flags)
+all_marked (x ∷ p) number n flags = all_marked p number (n + 1) (marked_place n (place_moved number x) flags) ∙ ap (λ z. flags_behind_places (n + 1) p z) (place_marked x number n flags)
 
 back_as_before : (p : List Place) (number : ℕ → ℕ) (n : ℕ) → goes_back (places_moved number p) n ≡ goes_back p n
 back_as_before p number n =
-    ap (λ z. get_or z n false) (ap (λ z. marked_all 0 (places_moved number p) (replicate z false)) (length-map p (place_moved number)) ∙ all_marked p number 0 (replicate (length p) false))
+    ap (λ z. get_or z n false) (ap (λ z. flags_behind_places 0 (places_moved number p) (replicate z false)) (length-map p (place_moved number)) ∙ all_marked p number 0 (replicate (length p) false))
 
 back_again : (p : List Place) (number : ℕ → ℕ) (n : ℕ) → IsGoneBackTo p n → IsGoneBackTo (places_moved number p) n
 back_again p number n g = back_is (places_moved number p) n (back_as_before p number n ∙ is_back p n g)

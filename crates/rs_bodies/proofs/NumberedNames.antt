@@ -9,7 +9,7 @@ use Rattle.rs_text.proofs.Basics.{both, test_below, one_of, below_test, two_true
 use Rattle.rs_text.proofs.Gaps.{true_or_false}
 use Rattle.rs_text.proofs.Naming.{grown_stays, place_of_new, place_stands, placed_by, absent_by}
 use Rattle.rs_text.proofs.Numbers.{place_below}
-use Rattle.rs_text.specs.Names.{Bound, grown, is_among, place_of, number_or}
+use Rattle.rs_text.specs.Names.{Bound, names_with, is_among, place_of, number_or}
 use Rattle.rs_bodies.specs.declared.dialects.Dialect.{Dialect}
 use Rattle.rs_bodies.specs.declared.dialects.Dialect.TheVariants.{Talks, Acts}
 use Rattle.rs_bodies.specs.declared.dialects.Head.{Head}
@@ -99,7 +99,7 @@ placed x names = elim (true_or_false (is_among x names)) [
   | inr e ↦ rw e (length names, place_of_new names x (absent_by (place_of x names) x names refl e))
 ]
 
-numbered_in : (xs names : List (List ℕ)) (m : Numbering) → m.names.labels ≡ grown names xs → list_all (is_numbered m) xs ≡ true
+numbered_in : (xs names : List (List ℕ)) (m : Numbering) → m.names.labels ≡ names_with names xs → list_all (is_numbered m) xs ≡ true
 numbered_in [] names m h = refl
 numbered_in (x ∷ xs) names m h =
     let p = placed x names in
@@ -117,7 +117,7 @@ head_named m (head.Talk s r) e =
     let p = both (nat_lt s.0 (length m.names.roles)) (nat_lt r.0 (length m.names.roles)) e in (test_below s.0 (length m.names.roles) p.0, test_below r.0 (length m.names.roles) p.1)
 head_named m (head.Act p x) e = test_below p.0 (length m.names.roles) e
 
-pub tree_named : {dia : Dialect} (labels : List (List ℕ)) (m : Numbering) (p : List Place) (t : Body dia) → 0 < length m.names.roles → m.names.labels ≡ grown labels (labels_of dia t) → p ≡ places_in m t [] 0 ++ end_of (has_end dia t) → HaveNames m.names p
+pub tree_named : {dia : Dialect} (labels : List (List ℕ)) (m : Numbering) (p : List Place) (t : Body dia) → 0 < length m.names.roles → m.names.labels ≡ names_with labels (labels_of dia t) → p ≡ places_in m t [] 0 ++ end_of (has_end dia t) → HaveNames m.names p
 tree_named {dia} labels m p t some is e =
     let all : list_all (is_place_numbered m) p ≡ true = ap (λ z. list_all (is_place_numbered m) z) e
     ∙ joined_places m (places_in m t [] 0) (end_of (has_end dia t)) (places_numbered t m [] 0 some (numbered_in (labels_of dia t) labels m is)) (end_numbered (has_end dia t) m) in

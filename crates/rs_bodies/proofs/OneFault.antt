@@ -22,10 +22,10 @@ use Rattle.rs_bodies.specs.Data.{Reader_data}
 use Rattle.rs_bodies.specs.Trees.{ends_a_name}
 use Rattle.rs_bodies.specs.Cuts.{Cut, at_body, behind_end, behind_name, behind_rec, behind_rec_name, in_binds, in_arm, in_acts, in_offers, behind_brace, BranchCut, in_head, in_branch, later, PartCut, in_body, wanted_at, wanted_in, IsBehind, in_opening, in_turn}
 use Rattle.rs_bodies.specs.Cuts.{at_role, behind_role, at_roles, at_first, behind_first, at_further, behind_further, at_machine, OpeningCut}
-use Rattle.rs_text.specs.Names.{is_among, bound_to, grown}
+use Rattle.rs_text.specs.Names.{is_among, nearest_binding, names_with}
 use Rattle.rs_bodies.specs.Scenes.{Scene}
-use Rattle.rs_bodies.specs.Faults.{Begins, IsWithin, EndsByName, IsInReach, IsUnexpected, FaultAt, FirstFault, LeavesNames, names_behind, labels_among}
-use Rattle.rs_bodies.specs.Feeding.{Fed, Answer, begin, feed_at, feed_next, is_read, no_frames, behind_body, answered, ReadsAs, feeding}
+use Rattle.rs_bodies.specs.Faults.{Begins, IsInPart, EndsByName, IsInReach, IsUnexpected, FaultAt, FirstFault, LeavesNames, names_behind, labels_among}
+use Rattle.rs_bodies.specs.Feeding.{Fed, PartAnswer, start_of_part, feed_at, feed_next, is_read, no_frames, behind_body, answer_of_reading, ReadsAs, feeding}
 use Rattle.rs_bodies.proofs.FaultRuns.{Follower, a_broken, a_name, follower, a_turn}
 use Rattle.rs_bodies.proofs.FaultPlaces.{place_wants, wanted_behind, wanted_by, fault_seen, is_named, is_named_of, NamedBy, PlaceAgrees, place_passes, opening_wants}
 use Rattle.rs_bodies.proofs.FaultSteps.{whole_fed, by_name_fault, by_turn_fault}
@@ -111,7 +111,7 @@ part_named dia (in_acts x y l s b) h e = part_named dia b h e
 part_named dia (in_offers x y arms) h e = absurd (no_part_in dia arms h)
 part_named dia (behind_brace x y arms) h e = absurd e
 
-behind_place : (dia : Dialect) (c : PartCut dia) → place_wants dia c ≡ wanted.PartOrEnd → IsWithin dia c → ⊥
+behind_place : (dia : Dialect) (c : PartCut dia) → place_wants dia c ≡ wanted.PartOrEnd → IsInPart dia c → ⊥
 behind_place dia (in_body x body) h w = w (part_behind dia body h)
 behind_place dia (in_opening o) h w = opening_no_part dia o h
 
@@ -127,7 +127,7 @@ read_facts mode.Next (f ∷ fs) h = cc
 read_facts _ [] h = cc
 read_facts _ (f ∷ fs) h = cc
 
-behind_clear : (dia : Dialect) (old : Names_data) (xs : List Sign) (t u : Sign) (r : Reader_data) (k : TextKind) → Reached (feeding dia) (begin dia old) xs t r → is_read r ≡ true → FaultAt dia old xs t u k → ⊥
+behind_clear : (dia : Dialect) (old : Names_data) (xs : List Sign) (t u : Sign) (r : Reader_data) (k : TextKind) → Reached (feeding dia) (start_of_part dia old) xs t r → is_read r ≡ true → FaultAt dia old xs t u k → ⊥
 behind_clear dia old xs t u r k reach h f =
     let m = read_facts r.mode r.frames h in
     let wants : wanted_by dia r.mode r.frames ≡ wanted.PartOrEnd = ap (λ z. wanted_by dia z r.frames) m.0 ∙ ap (λ z. wanted_behind z) m.1 in
@@ -147,12 +147,12 @@ landing_next [] t r Q e h = h
 landing_next (f ∷ fs) t r Q e h = cc
 
 -- no place stands further on
-behind_none : (dia : Dialect) (old : Names_data) (xs : List Sign) (t : Sign) (ys : List Sign) (r : Reader_data) → Reached (feeding dia) (begin dia old) xs t r → is_read r ≡ true → IsWhole t → There dia (xs ++ (t ∷ ys)) → ⊥
+behind_none : (dia : Dialect) (old : Names_data) (xs : List Sign) (t : Sign) (ys : List Sign) (r : Reader_data) → Reached (feeding dia) (start_of_part dia old) xs t r → is_read r ≡ true → IsWhole t → There dia (xs ++ (t ∷ ys)) → ⊥
 behind_none dia old xs t ys r reach h whole there =
     let m = read_facts r.mode r.frames h in
     let Q : Reader_data → Type 0 = λ d. PlaceAgrees dia old there.0 finish d in
-    let l : Leads (feeding dia) (xs ++ (t ∷ ys)) finish Q (begin dia old) = subst (λ (z : List Sign). Leads (feeding dia) z finish Q (begin dia old)) there.1 (place_passes dia old there.0 finish) in
-    let k : Leads (feeding dia) (t ∷ ys) finish Q r = reach NotExpected (λ d. Leads (feeding dia) (t ∷ ys) finish Q d) (leads_split (feeding dia) NotExpected xs (t ∷ ys) finish Q (begin dia old) l) in
+    let l : Leads (feeding dia) (xs ++ (t ∷ ys)) finish Q (start_of_part dia old) = subst (λ (z : List Sign). Leads (feeding dia) z finish Q (start_of_part dia old)) there.1 (place_passes dia old there.0 finish) in
+    let k : Leads (feeding dia) (t ∷ ys) finish Q r = reach NotExpected (λ d. Leads (feeding dia) (t ∷ ys) finish Q d) (leads_split (feeding dia) NotExpected xs (t ∷ ys) finish Q (start_of_part dia old) l) in
     let n : Lexeme = lexeme (sign_behind ys finish) 0 0 in
     let o : Lands (feed_at dia r.mode t 0 n r) (λ d. Leads (feeding dia) ys finish Q d) = subst (λ (x : Fed). Lands x (λ d. Leads (feeding dia) ys finish Q d)) (whole_fed dia t 0 n r whole) (k 0 0 0) in
     let p : Lands (feed_at dia mode.Next t 0 n r) (λ d. Leads (feeding dia) ys finish Q d) = subst (λ (z : Mode). Lands (feed_at dia z t 0 n r) (λ d. Leads (feeding dia) ys finish Q d)) m.0 o in
@@ -175,9 +175,9 @@ Tracks Acts old xs r = Follows old xs r
 -- the reader has the labels of these tokens
 abbrev pub HasLabels : (dia : Dialect) → Names_data → List Sign → Reader_data → Type 0
 HasLabels Talks old xs r = Unit {0}
-HasLabels Acts old xs r = r.labels ≡ grown old.labels (labels_among false xs)
+HasLabels Acts old xs r = r.labels ≡ names_with old.labels (labels_among false xs)
 
-tracks_first : (dia : Dialect) (old : Names_data) → Tracks dia old [] (begin dia old)
+tracks_first : (dia : Dialect) (old : Names_data) → Tracks dia old [] (start_of_part dia old)
 tracks_first Talks old = tt
 tracks_first Acts old = follows_first old
 
@@ -199,7 +199,7 @@ place_first Acts = (in_opening at_machine, refl)
 
 -- the reader r stands behind the tokens xs and before t
 abbrev pub At : (dia : Dialect) → Names_data → List Sign → Sign → Reader_data → Type 1
-At dia old xs t r = Reached (feeding dia) (begin dia old) xs t r × There dia xs × Tracks dia old xs r
+At dia old xs t r = Reached (feeding dia) (start_of_part dia old) xs t r × There dia xs × Tracks dia old xs r
 
 ahead_of : (dia : Dialect) (old : Names_data) (r : Reader_data) (xs : List Sign) (t : Sign) (n : Lexeme) (e : TextFault) → Tracks dia old xs r → Next dia old r xs t n e → Ahead (FaultAt dia old) (HasLabels dia old) r xs t n e
 ahead_of dia old r xs t n e k h = record { kind = h.kind; broken_is = h.broken_is; clear = h.clear; later = λ u. next_here dia old r xs t n u e h; left = tracks_word dia old xs t r k h.wants }
@@ -219,7 +219,7 @@ pub judges : (dia : Dialect) (old : Names_data) → Judges (feeding dia) (FaultA
 judges dia old = record {
   ends = at_end dia;
   taken = λ xs t at n r d stands name unread e. (
-    reach_on (feeding dia) (begin dia old) xs t n.sign at n.from n.until r d stands.0 e,
+    reach_on (feeding dia) (start_of_part dia old) xs t n.sign at n.from n.until r d stands.0 e,
     goes_on dia old (feed_sign (feeding dia) t at n r) xs t at n r d (verdict dia old xs t at n r stands.0 stands.1 (proper_sign t name) unread) e,
     tracks_on dia old xs t at n r d stands.2 e,
   );
@@ -229,26 +229,26 @@ judges dia old = record {
   beyond = λ xs t ys s u r k stands h whole f. behind_none dia old xs t ys r stands.0 h whole (there_of dia old (xs ++ (t ∷ ys)) s u k f);
 }
 
-pub begins : (dia : Dialect) (old : Names_data) (t : Sign) → At dia old [] t (begin dia old)
+pub begins : (dia : Dialect) (old : Names_data) (t : Sign) → At dia old [] t (start_of_part dia old)
 begins dia old t = (λ E Q k. k, place_first dia, tracks_first dia old)
 
 -- ---- the first fault is told, and no other one
 
-pub told : (dia : Dialect) (old : Names_data) (bytes : List ℕ) (at : ℕ) (ls : List Lexeme) (e : TextFault) → Lexed bytes at ls → read_all (feeding dia) (Ok (begin dia old)) ls ≡ Err e → FirstFault dia old bytes at e.kind e.at
-told dia old bytes at ls e h f = first_of (FaultAt dia old) (HasLabels dia old) bytes at ls e (last_of (feeding dia) (begin dia old) (Ok (begin dia old)) ls) h (found (judges dia old) (begin dia old) bytes at ls e (begins dia old) h f)
+pub told : (dia : Dialect) (old : Names_data) (bytes : List ℕ) (at : ℕ) (ls : List Lexeme) (e : TextFault) → Lexed bytes at ls → read_all (feeding dia) (Ok (start_of_part dia old)) ls ≡ Err e → FirstFault dia old bytes at e.kind e.at
+told dia old bytes at ls e h f = first_of (FaultAt dia old) (HasLabels dia old) bytes at ls e (last_of (feeding dia) (start_of_part dia old) (Ok (start_of_part dia old)) ls) h (found (judges dia old) (start_of_part dia old) bytes at ls e (begins dia old) h f)
 
 abbrev names : List (List ℕ) → List (List ℕ) → Names_data
 names roles labels = record { roles = roles; labels = labels }
 
 -- the names that a machine leaves
-pub leaves : (old new : Names_data) (bytes : List ℕ) (at : ℕ) (ls : List Lexeme) (e : TextFault) → Lexed bytes at ls → read_all (feeding Acts) (Ok (begin Acts old)) ls ≡ Err e → new.roles ≡ old.roles → (last_of (feeding Acts) (begin Acts old) (Ok (begin Acts old)) ls).labels ≡ new.labels → LeavesNames old new bytes at e.kind e.at
+pub leaves : (old new : Names_data) (bytes : List ℕ) (at : ℕ) (ls : List Lexeme) (e : TextFault) → Lexed bytes at ls → read_all (feeding Acts) (Ok (start_of_part Acts old)) ls ≡ Err e → new.roles ≡ old.roles → (last_of (feeding Acts) (start_of_part Acts old) (Ok (start_of_part Acts old)) ls).labels ≡ new.labels → LeavesNames old new bytes at e.kind e.at
 leaves old new bytes at ls e h f roles labels =
-    let x = found (judges Acts old) (begin Acts old) bytes at ls e (begins Acts old) h f in (
-      first_of (FaultAt Acts old) (HasLabels Acts old) bytes at ls e (last_of (feeding Acts) (begin Acts old) (Ok (begin Acts old)) ls) h x,
+    let x = found (judges Acts old) (start_of_part Acts old) bytes at ls e (begins Acts old) h f in (
+      first_of (FaultAt Acts old) (HasLabels Acts old) bytes at ls e (last_of (feeding Acts) (start_of_part Acts old) (Ok (start_of_part Acts old)) ls) h x,
       ap (λ z. names z new.labels) roles ∙ ap (λ z. names old.roles z) (sym labels ∙ x.left),
     )
 
-answered_err : (x : Result (Reading Reader_data) TextFault) (e : TextFault) → answered x ≡ Err e → x ≡ Err e
+answered_err : (x : Result (Reading Reader_data) TextFault) (e : TextFault) → answer_of_reading x ≡ Err e → x ≡ Err e
 answered_err (Ok x) e h = cc
 answered_err (Err g) e h = cc
 
@@ -256,26 +256,26 @@ answered_err (Err g) e h = cc
 pub first_fault : (dia : Dialect) (old : Names_data) (bytes : List ℕ) (at : ℕ) (e : TextFault) → at ≤ length bytes → ReadsAs dia old bytes at (Err e) → FirstFault dia old bytes at e.kind e.at
 first_fault dia old bytes at e within h =
     let t = tokens bytes at within in
-    told dia old bytes at t.0 e t.1 (answered_err (read_all (feeding dia) (Ok (begin dia old)) t.0) e (h t.0 t.1))
+    told dia old bytes at t.0 e t.1 (answered_err (read_all (feeding dia) (Ok (start_of_part dia old)) t.0) e (h t.0 t.1))
 
-answered_ok : (x : Result (Reading Reader_data) TextFault) (a : Answer) → answered x ≡ Ok a → (y : Reading Reader_data) × (x ≡ Ok y)
+answered_ok : (x : Result (Reading Reader_data) TextFault) (a : PartAnswer) → answer_of_reading x ≡ Ok a → (y : Reading Reader_data) × (x ≡ Ok y)
 answered_ok (Ok y) a h = (y, refl)
 answered_ok (Err e) a h = cc
 
 -- what is read has no first fault
-pub no_fault : (dia : Dialect) (old : Names_data) (bytes : List ℕ) (at : ℕ) (a : Answer) (k : TextKind) (offset : ℕ) → ReadsAs dia old bytes at (Ok a) → FirstFault dia old bytes at k offset → ⊥
+pub no_fault : (dia : Dialect) (old : Names_data) (bytes : List ℕ) (at : ℕ) (a : PartAnswer) (k : TextKind) (offset : ℕ) → ReadsAs dia old bytes at (Ok a) → FirstFault dia old bytes at k offset → ⊥
 no_fault dia old bytes at a k offset h f =
     let ls : List Lexeme = f.before ++ f.token ∷ f.others in
-    let x = answered_ok (read_all (feeding dia) (Ok (begin dia old)) ls) a (h ls f.lexed) in
-    judging.no_fault (judges dia old) (begin dia old) bytes at x.0 k offset f (begins dia old) x.1
+    let x = answered_ok (read_all (feeding dia) (Ok (start_of_part dia old)) ls) a (h ls f.lexed) in
+    judging.no_fault (judges dia old) (start_of_part dia old) bytes at x.0 k offset f (begins dia old) x.1
 
 -- the first fault of a text is told
 pub tells : (dia : Dialect) (old : Names_data) (bytes : List ℕ) (at : ℕ) (k : TextKind) (offset : ℕ) → FirstFault dia old bytes at k offset → ReadsAs dia old bytes at (Err (record { kind = k; at = offset }))
-tells dia old bytes at k offset f = λ ls h. ap answered (judging.tells (judges dia old) (begin dia old) bytes at k offset (begins dia old) f ls h)
+tells dia old bytes at k offset f = λ ls h. ap answer_of_reading (judging.tells (judges dia old) (start_of_part dia old) bytes at k offset (begins dia old) f ls h)
 
 -- a text has one first fault at most
 pub one_fault : (dia : Dialect) (old : Names_data) (bytes : List ℕ) (at : ℕ) (j k : TextKind) (n i : ℕ) → FirstFault dia old bytes at j n → FirstFault dia old bytes at k i → (j ≡ k) × (n ≡ i)
-one_fault dia old bytes at j k n i f g = judging.one_fault (judges dia old) (begin dia old) bytes at j k n i (begins dia old) f g
+one_fault dia old bytes at j k n i f g = judging.one_fault (judges dia old) (start_of_part dia old) bytes at j k n i (begins dia old) f g
 
 -- the tokens before the first fault begin a part
 pub begins_before : (dia : Dialect) (old : Names_data) (bytes : List ℕ) (at : ℕ) (k : TextKind) (offset : ℕ) (f : FirstFault dia old bytes at k offset) → Begins dia (signs_of f.before)
@@ -293,7 +293,7 @@ calm_first dia word s j e = calm_not (is_among word s.roles) kind.UnknownRole j 
 calm_word : (dia : Dialect) (v : Sign) (f : Follower dia v) (word : List ℕ) (s : Scene) (j : TextKind) → fault_of_word dia word v s ≡ Some j → NotExpected j
 calm_word dia _ (a_turn v h) word s j e = calm_first dia word s j (sym (by_turn_fault dia v word s h) ∙ e)
 calm_word dia _ (a_broken k) word s j e = absurd (cc e)
-calm_word dia _ (a_name v h) word s j e = calm_name (bound_to word s.bound) s.acts j (sym (by_name_fault dia v word s h) ∙ e)
+calm_word dia _ (a_name v h) word s j e = calm_name (nearest_binding word s.bound) s.acts j (sym (by_name_fault dia v word s h) ∙ e)
 
 calm_label : (l : List ℕ) (s : Scene) (j : TextKind) → fault_of_label l s ≡ Some j → NotExpected j
 calm_label l s j e = calm_none (is_among l s.labels) (λ f. calm_if (nat_le 256 (length s.labels)) kind.TooManyLabels j None tt (λ g. absurd (cc g)) f) e

@@ -9,7 +9,7 @@ use Rattle.rs_text.specs.declared.faults.TextKind.TheVariants as kind
 use Rattle.rs_text.specs.declared.faults.Wanted.{Wanted}
 use Rattle.rs_text.specs.declared.faults.Wanted.TheVariants as wanted
 use Rattle.rs_text.specs.Lexemes.{Lexeme}
-use Rattle.rs_text.specs.Names.{place_of, bound_to, is_among}
+use Rattle.rs_text.specs.Names.{place_of, nearest_binding, is_among}
 use Rattle.rs_text.specs.Signs.{Sign, rec_word, end_word, plain, arrow, bang, question, colon, dot, comma, open_brace, close_brace, open_paren, close_paren, broken}
 use Rattle.rs_text.specs.Seen.{sort_named, plain_text, word_text, is_text}
 use Rattle.rs_text.specs.Readings.{feed_sign}
@@ -23,7 +23,7 @@ use Rattle.rs_bodies.specs.declared.reading.Mode.{Mode}
 use Rattle.rs_bodies.specs.declared.reading.Mode.TheVariants as mode
 use Rattle.rs_bodies.specs.Data.{Reader_data}
 use Rattle.rs_bodies.specs.Dialects.{most, turns}
-use Rattle.rs_bodies.specs.Feeding.{Fed, in_mode, linked, placed, opened, headed, met_by, role_by, new_role, feed_role, feed_line, feed_at, feed_turn, feed_word, feed_body, received_by, feed_receiver, named, feed_next, feed_arms, feed_single, feed_label, labelled_by, sorted_by, feeding}
+use Rattle.rs_bodies.specs.Feeding.{Fed, in_mode, reader_behind_link, reader_at_head, reader_in_braces, feed_new_head, feed_head_role, role_by, new_role, feed_role, feed_line, feed_at, feed_turn, feed_word, feed_body, feed_receiver_role, feed_receiver, feed_bound_name, feed_next, feed_arms, feed_single, feed_label, feed_label_number, feed_sort_word, feeding}
 use Rattle.rs_text.proofs.Keeping.{Below, StaysBelow}
 
 below_if : (n : ℕ) (c : Bool) (e : TextFault) (x : Fed) → e.at ≤ n → IfErr x (Below n) → IfErr (cond c (Err e) x) (Below n)
@@ -57,7 +57,7 @@ at_own : (n : ℕ) (o : Option (List ℕ)) (at : ℕ) (r : Reader_data) → at �
 at_own n None at r h = h
 at_own n (Some w) at r h = at_role_by n (place_of w r.roles) at r h
 
-at_labelled : (n : ℕ) (o : Option ℕ) (act : ℕ) (w : List ℕ) (at : ℕ) (r : Reader_data) → at ≤ n → IfErr (labelled_by o act w at r) (Below n)
+at_labelled : (n : ℕ) (o : Option ℕ) (act : ℕ) (w : List ℕ) (at : ℕ) (r : Reader_data) → at ≤ n → IfErr (feed_label_number o act w at r) (Below n)
 at_labelled n (Some k) act w at r h = tt
 at_labelled n None act w at r h = below_if n (nat_le 256 (length r.labels)) (record { kind = kind.TooManyLabels; at = at }) _ h tt
 
@@ -71,20 +71,20 @@ at_single Talks n act _ at r h = h
 at_single Acts n act t at r h = at_label n act wanted.LabelOrBrace (word_text t) at r h
 
 at_arms : (dia : Dialect) (n : ℕ) (act : ℕ) (t : Sign) (at : ℕ) (r : Reader_data) → at ≤ n → IfErr (feed_arms dia act t at r) (Below n)
-at_arms dia n act open_brace at r h = below_if n (nat_le 200 r.depth) (record { kind = kind.TooDeep; at = at }) (Ok (opened act r)) h tt
+at_arms dia n act open_brace at r h = below_if n (nat_le 200 r.depth) (record { kind = kind.TooDeep; at = at }) (Ok (reader_in_braces act r)) h tt
 at_arms dia n act t at r h = at_single dia n act t at r h
 
-at_met : (dia : Dialect) (n : ℕ) (o : Option ℕ) (from : Link) (at : ℕ) (r : Reader_data) → at ≤ n → IfErr (met_by dia o from at r) (Below n)
+at_met : (dia : Dialect) (n : ℕ) (o : Option ℕ) (from : Link) (at : ℕ) (r : Reader_data) → at ≤ n → IfErr (feed_head_role dia o from at r) (Below n)
 at_met dia n None from at r h = h
 at_met dia n (Some k) from at r h = below_if n (nat_le (most dia) (length r.drafts)) _ _ h tt
 
-at_named : (n : ℕ) (o : Option ℕ) (from : Link) (at : ℕ) (r : Reader_data) → at ≤ n → IfErr (named o from at r) (Below n)
+at_named : (n : ℕ) (o : Option ℕ) (from : Link) (at : ℕ) (r : Reader_data) → at ≤ n → IfErr (feed_bound_name o from at r) (Below n)
 at_named n None from at r h = h
-at_named n (Some k) from at r h = below_unless n (nat_lt k (length r.drafts)) (record { kind = kind.Unguarded; at = at }) (in_mode mode.Next (linked from (Some k) r)) h tt
+at_named n (Some k) from at r h = below_unless n (nat_lt k (length r.drafts)) (record { kind = kind.Unguarded; at = at }) (in_mode mode.Next (reader_behind_link from (Some k) r)) h tt
 
 at_word : (dia : Dialect) (n : ℕ) (from : Link) (w : List ℕ) (s : Sign) (at next : ℕ) (r : Reader_data) → at ≤ n → next ≤ n → IfErr (feed_word dia from w s at next r) (Below n)
 at_word dia n from w (broken j) at next r h k = k
-at_word dia n from w s at next r h k = either n (turns dia s) (met_by dia (place_of w r.roles) from at r) (named (bound_to w r.bound) from at r) (at_met dia n (place_of w r.roles) from at r h) (at_named n (bound_to w r.bound) from at r h)
+at_word dia n from w s at next r h k = either n (turns dia s) (feed_head_role dia (place_of w r.roles) from at r) (feed_bound_name (nearest_binding w r.bound) from at r) (at_met dia n (place_of w r.roles) from at r h) (at_named n (nearest_binding w r.bound) from at r h)
 
 at_body : (dia : Dialect) (n : ℕ) (from : Link) (t : Sign) (at : ℕ) (next : Lexeme) (r : Reader_data) → at ≤ n → next.from ≤ n → IfErr (feed_body dia from t at next r) (Below n)
 at_body dia n from rec_word at next r h k = below_if n (nat_le 200 r.depth) _ _ h tt
@@ -92,8 +92,8 @@ at_body dia n from end_word at next r h k = tt
 at_body dia n from (plain w) at next r h k = at_word dia n from w next.sign at next.from r h k
 at_body dia n from _ at next r h k = h
 
-at_headed : (dia : Dialect) (n : ℕ) (from : Link) (p : Head) (at : ℕ) (r : Reader_data) → at ≤ n → IfErr (headed dia from p at r) (Below n)
-at_headed dia n from p at r h = below_if n (nat_le (most dia) (length r.drafts)) (record { kind = kind.TooManyNodes; at = at }) (Ok (placed from p r)) h tt
+at_headed : (dia : Dialect) (n : ℕ) (from : Link) (p : Head) (at : ℕ) (r : Reader_data) → at ≤ n → IfErr (feed_new_head dia from p at r) (Below n)
+at_headed dia n from p at r h = below_if n (nat_le (most dia) (length r.drafts)) (record { kind = kind.TooManyNodes; at = at }) (Ok (reader_at_head from p r)) h tt
 
 at_turn : (dia : Dialect) (n : ℕ) (from : Link) (p : Role) (t : Sign) (at : ℕ) (r : Reader_data) → at ≤ n → IfErr (feed_turn dia from p t at r) (Below n)
 at_turn Talks n from p arrow at r h = tt
@@ -102,7 +102,7 @@ at_turn Acts n from p bang at r h = at_headed Acts n from _ at r h
 at_turn Acts n from p question at r h = at_headed Acts n from _ at r h
 at_turn Acts n from p _ at r h = h
 
-at_received : (dia : Dialect) (n : ℕ) (o : Option ℕ) (from : Link) (p : Role) (at : ℕ) (r : Reader_data) → at ≤ n → IfErr (received_by dia o from p at r) (Below n)
+at_received : (dia : Dialect) (n : ℕ) (o : Option ℕ) (from : Link) (p : Role) (at : ℕ) (r : Reader_data) → at ≤ n → IfErr (feed_receiver_role dia o from p at r) (Below n)
 at_received dia n None from p at r h = h
 at_received dia n (Some q) from p at r h = at_headed dia n from _ at r h
 
@@ -116,7 +116,7 @@ at_next n (f ∷ fs) comma at r h = tt
 at_next n (f ∷ fs) close_brace at r h = tt
 at_next n (f ∷ fs) _ at r h = h
 
-at_sorted : (n : ℕ) (o : Option Sort) (act : ℕ) (l : Label) (at : ℕ) (r : Reader_data) → at ≤ n → IfErr (sorted_by o act l at r) (Below n)
+at_sorted : (n : ℕ) (o : Option Sort) (act : ℕ) (l : Label) (at : ℕ) (r : Reader_data) → at ≤ n → IfErr (feed_sort_word o act l at r) (Below n)
 at_sorted n None act l at r h = h
 at_sorted n (Some s) act l at r h = tt
 

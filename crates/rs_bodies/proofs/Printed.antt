@@ -19,7 +19,7 @@ use Rattle.rs_bodies.specs.declared.printing.Target.{Target}
 use Rattle.rs_bodies.specs.Canonical.{IsHeadOf, IsPointOf, IsArmOf, Draws, DrawsHead, DrawsArms}
 use Rattle.rs_bodies.specs.Dialects.{Turn, sends_to, with_mark}
 use Rattle.rs_bodies.specs.Places.{choice, name_of_place, IsGoneBackTo}
-use Rattle.rs_bodies.specs.Printing.{AreBack, head_text, label_text, lone_text_of, rec_text, Step, step, opened, target, Brace_data, arms_step, whole_step, place_step, brace_step, Printer_data, turned, turned_by, is_left, begins_with}
+use Rattle.rs_bodies.specs.Printing.{AreBack, head_text, label_text, lone_text_of, rec_text, PrintStep, step, braces_with, target, Brace_data, arms_step, whole_step, place_step, brace_step, Printer_data, next_printer, printer_from, is_left, begins_with}
 use Rattle.rs_bodies.specs.Texts.{turn_text, lone_text, body_text, branches_text, mark_text}
 use Rattle.rs_bodies.specs.Trees.{Body, ends, again, binds, acts, offers, Branches, one, more}
 use Rattle.rs_bodies.proofs.EndsLast.{EndIsLast}
@@ -46,7 +46,7 @@ NextLeft dia names p None braces text = BracesLeft dia names p braces text
 NextLeft dia names p (Some t) braces text = (body : Body dia) × (rest : List ℕ) × NoEndBelow p t.from × Draws dia names p t.from t.number body × (text ≡ body_text dia body ++ rest) × BracesLeft dia names p braces rest
 
 -- a step writes a front of it, and the rest is still to be written
-abbrev Onward : (dia : Dialect) → Names_data → List Place → Step → List Brace_data → List ℕ → Type 0
+abbrev Onward : (dia : Dialect) → Names_data → List Place → PrintStep → List Brace_data → List ℕ → Type 0
 Onward dia names p s braces text = (rest : List ℕ) × NextLeft dia names p s.next (s.opened ++ braces) rest × (text ≡ s.written ++ rest)
 
 -- ---- arms
@@ -71,21 +71,21 @@ one_onward dia names p from a label sort body lead rest braces none is draws lef
 
 -- an arm before others
 more_onward : (dia : Dialect) (names : Names_data) (p : List Place) (from : ℕ) (a b : Arm) (others : List Arm) (label : List ℕ) (sort : Option Sort) (body : Body dia) (arms : Branches dia) (lead rest : List ℕ) (braces : List Brace_data) → NoEndBelow p from → IsArmOf names label sort a → Draws dia names p from a.next body → DrawsArms dia names p from (b ∷ others) arms → BracesLeft dia names p braces rest
-    → Onward dia names p (step (lead ++ label_text names a) (opened from (b ∷ others)) (target from a.next)) braces ((lead ++ (branches_text dia (more label sort body arms) ++ codes "}")) ++ rest)
+    → Onward dia names p (step (lead ++ label_text names a) (braces_with from (b ∷ others)) (target from a.next)) braces ((lead ++ (branches_text dia (more label sort body arms) ++ codes "}")) ++ rest)
 more_onward dia names p from a b others label sort body arms lead rest braces none is draws drawn left =
     let own = codes ", " ++ (branches_text dia arms ++ codes "}") in
     (body_text dia body ++ (own ++ rest), (body, own ++ rest, none, draws, refl, (own, rest, none, (arms, drawn, refl), refl, left)), (rw (label_is names a label sort is) (more_shape lead (arm_text label sort) (body_text dia body) (branches_text dia arms) rest)))
 
 -- the last of several
 last_onward : (dia : Dialect) (names : Names_data) (p : List Place) (from : ℕ) (a : Arm) (label : List ℕ) (sort : Option Sort) (body : Body dia) (lead rest : List ℕ) (braces : List Brace_data) → NoEndBelow p from → IsArmOf names label sort a → Draws dia names p from a.next body → BracesLeft dia names p braces rest
-    → Onward dia names p (step (lead ++ label_text names a) (opened from []) (target from a.next)) braces ((lead ++ (branches_text dia (one label sort body) ++ codes "}")) ++ rest)
+    → Onward dia names p (step (lead ++ label_text names a) (braces_with from []) (target from a.next)) braces ((lead ++ (branches_text dia (one label sort body) ++ codes "}")) ++ rest)
 last_onward dia names p from a label sort body lead rest braces none is draws left =
     (body_text dia body ++ (codes "}" ++ rest), (body, codes "}" ++ rest, none, draws, refl, (codes "}", rest, none, refl, refl, left)), (rw (label_is names a label sort is) (last_shape lead (arm_text label sort) (body_text dia body) rest)))
 
 -- ---- open braces
 
 further_onward : (dia : Dialect) (arms : List Arm) (branches : Branches dia) (names : Names_data) (p : List Place) (from : ℕ) (a : Arm) (rest : List ℕ) (braces : List Brace_data) → NoEndBelow p from → DrawsArms dia names p from (a ∷ arms) branches → BracesLeft dia names p braces rest
-    → Onward dia names p (step (codes ", " ++ label_text names a) (opened from arms) (target from a.next)) braces ((codes ", " ++ (branches_text dia branches ++ codes "}")) ++ rest)
+    → Onward dia names p (step (codes ", " ++ label_text names a) (braces_with from arms) (target from a.next)) braces ((codes ", " ++ (branches_text dia branches ++ codes "}")) ++ rest)
 further_onward dia [] (one label sort body) names p from a rest braces none draws left = last_onward dia names p from a label sort body (codes ", ") rest braces none draws.0 draws.1 left
 further_onward dia [] (more label sort body (one _ _ _)) names p from a rest braces none draws left = absurd draws.2
 further_onward dia [] (more label sort body (more _ _ _ _)) names p from a rest braces none draws left = absurd draws.2
@@ -213,12 +213,12 @@ goes_first dia names p root flags start back = record {
   whole = λ body draws. (body_text dia body ++ [], (body, [], (λ n e. omega arith), draws, refl, refl), ap (λ z. start ++ z) (append-nil (body_text dia body)));
 }
 
-moved : (dia : Dialect) (names : Names_data) (p : List Place) (s : Step) (text whole left : List ℕ) (braces : List Brace_data) → text ++ left ≡ whole → Onward dia names p s braces left
+moved : (dia : Dialect) (names : Names_data) (p : List Place) (s : PrintStep) (text whole left : List ℕ) (braces : List Brace_data) → text ++ left ≡ whole → Onward dia names p s braces left
     → (rest : List ℕ) × NextLeft dia names p s.next (s.opened ++ braces) rest × ((text ++ s.written) ++ rest ≡ whole)
 moved dia names p s text whole left braces e h = (h.0, h.1, append_assoc text s.written h.0 ∙ ap (λ z. text ++ z) (sym h.2) ∙ e)
 
 turn_whole : (dia : Dialect) (next : Option Target) (braces : List Brace_data) (p : List Place) (d : Printer_data) (whole left : List ℕ) → EndIsLast p → AreBack p d.flags → NextLeft dia d.names p next braces left → d.text ++ left ≡ whole → d.braces ≡ braces → d.next ≡ next
-    → Whole dia d.names p (turned_by p next braces d) whole
+    → Whole dia d.names p (printer_from p next braces d) whole
 turn_whole dia (Some t) braces p d whole left last back h e b n =
     let s = place_step d.names p d.flags t in
     rw b (moved dia d.names p s d.text whole left braces e (rw h.4 (place_onward dia h.0 d.names p d.flags t h.1 braces last back h.2 h.3 h.5)))
@@ -229,13 +229,13 @@ turn_whole dia None [] p d whole left last back h e b n = (left, rw (b, n) h, e)
 abbrev Kept : Printer_data → Printer_data → Type 0
 Kept d e = (e.names ≡ d.names) × (e.flags ≡ d.flags)
 
-turn_keeps : (p : List Place) (next : Option Target) (braces : List Brace_data) (d : Printer_data) → Kept d (turned_by p next braces d)
+turn_keeps : (p : List Place) (next : Option Target) (braces : List Brace_data) (d : Printer_data) → Kept d (printer_from p next braces d)
 turn_keeps p (Some t) braces d = (refl, refl)
 turn_keeps p None (brace ∷ outer) d = (refl, refl)
 turn_keeps p None [] d = (refl, refl)
 
 -- each step keeps it
-pub goes_on : (dia : Dialect) (names : Names_data) (p : List Place) (root : ℕ) (start : List ℕ) (d : Printer_data) → EndIsLast p → Goes dia names p root start d → Goes dia names p root start (turned p d)
+pub goes_on : (dia : Dialect) (names : Names_data) (p : List Place) (root : ℕ) (start : List ℕ) (d : Printer_data) → EndIsLast p → Goes dia names p root start d → Goes dia names p root start (next_printer p d)
 goes_on dia names p root start d last g =
     let k = turn_keeps p d.next d.braces d in
     record {
@@ -243,7 +243,7 @@ goes_on dia names p root start d last g =
       back = subst (λ flags. AreBack p flags) (sym k.1) g.back;
       whole = λ body draws.
           let w = g.whole body draws in
-          subst (λ (n : Names_data). Whole dia n p (turned p d) (start ++ body_text dia body)) g.names_are
+          subst (λ (n : Names_data). Whole dia n p (next_printer p d) (start ++ body_text dia body)) g.names_are
           (turn_whole dia d.next d.braces p d (start ++ body_text dia body) w.0 last g.back (subst (λ (n : Names_data). NextLeft dia n p d.next d.braces w.0) (sym g.names_are) w.1) w.2 refl refl);
     }
 
@@ -297,10 +297,10 @@ further_writes : (arms : List Arm) (names : Names_data) (from : ℕ) → 0 < len
 further_writes [] names from = omega arith
 further_writes (a ∷ arms) names from = omega arith
 
-turn_writes : (p : List Place) (next : Option Target) (braces : List Brace_data) (d : Printer_data) → (is_some next || nat_lt 0 (length braces)) ≡ true → length d.text < length (turned_by p next braces d).text
+turn_writes : (p : List Place) (next : Option Target) (braces : List Brace_data) (d : Printer_data) → (is_some next || nat_lt 0 (length braces)) ≡ true → length d.text < length (printer_from p next braces d).text
 turn_writes p (Some t) braces d h = longer d.text (place_step d.names p d.flags t).written (place_writes d.names p d.flags t)
 turn_writes p None (brace ∷ outer) d h = longer d.text (brace_step d.names brace).written (further_writes brace.arms d.names brace.from)
 turn_writes p None [] d h = absurd (cc h)
 
-pub turned_longer : (p : List Place) (d : Printer_data) → is_left d ≡ true → length d.text < length (turned p d).text
+pub turned_longer : (p : List Place) (d : Printer_data) → is_left d ≡ true → length d.text < length (next_printer p d).text
 turned_longer p d h = turn_writes p d.next d.braces d h

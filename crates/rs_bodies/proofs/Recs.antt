@@ -3,7 +3,7 @@ use Rattle.std.proofs.Common.{◌≡◌, ℕ, zero, suc, ◌+◌, ◌<◌, ◌�
 use Rattle.std.specs.Str.{bytes_eq}
 use Rattle.std.proofs.lemmas.Bool.{eqb-true}
 use Rattle.rs_model.specs.declared.graph.Arm.{Arm}
-use Rattle.rs_text.specs.Names.{Bound, bound_to}
+use Rattle.rs_text.specs.Names.{Bound, nearest_binding}
 use Rattle.rs_text.proofs.Basics.{some_is, any_stands, drop_get}
 use Rattle.rs_bodies.specs.declared.dialects.Dialect.{Dialect}
 use Rattle.rs_bodies.specs.declared.places.Place.{Place}
@@ -53,12 +53,12 @@ more_good good n a arms f g (suc index) arm e le = g index arm e le
 
 mutual
   backs : (dia : Dialect) (m : Numbering) (good : ℕ → Bool) (t : Body dia) (bound : Bound) (here : Bool) (k : ℕ) → k + acts_in dia t ≤ m.last → Named dia t bound k → Low bound k → ((v : ℕ) → k ≤ v → v < k + acts_in dia t → rec_at dia t here k v ≡ true → good v ≡ true)
-      → ((x : List ℕ) (v : ℕ) → bound_to x bound ≡ Some v → v < k → good v ≡ true) → ((x : List ℕ) (v : ℕ) → bound_to x bound ≡ Some v → v ≡ k → here ≡ true) → Backs good k (places_in m t bound k)
+      → ((x : List ℕ) (v : ℕ) → nearest_binding x bound ≡ Some v → v < k → good v ≡ true) → ((x : List ℕ) (v : ℕ) → nearest_binding x bound ≡ Some v → v ≡ k → here ≡ true) → Backs good k (places_in m t bound k)
   backs dia m good ends bound here k end named low f before at = tt
   backs dia m good (again x) bound here k end named low f before at = tt
   backs dia m good (binds x b) bound here k end named low f before at =
       backs dia m good b ((x, k) ∷ bound) true k end named (low_rec bound k x low) f
-      (λ y v e lt. same_name (bytes_eq x y) k v (bound_to y bound) e (λ same. absurd (omega arith)) (λ g. before y v g lt)) (λ y v e same. refl)
+      (λ y v e lt. same_name (bytes_eq x y) k v (nearest_binding y bound) e (λ same. absurd (omega arith)) (λ g. before y v g lt)) (λ y v e same. refl)
   backs dia m good (acts s r l sort b) bound here k end named low f before at =
       let names : NamesGood good bound k = good_behind good bound here k before at (λ h. f k (omega arith) (omega arith) (at_self k here (rec_at dia b false (suc k) k) ∙ h)) in (
         one_good good k (arm_of m l sort (first_of dia b bound (suc k) m.last)) (lead_good dia good b bound k (suc k) m.last named names (omega arith) (omega arith)),

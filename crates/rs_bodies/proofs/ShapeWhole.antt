@@ -10,7 +10,7 @@ use Rattle.rs_text.proofs.Gaps.{true_or_false}
 use Rattle.rs_text.proofs.Naming.{decides_sound}
 use Rattle.rs_text.proofs.PlainNames.{plain_names, plain_count, plain_differ, plain_all, plain_role, plain_label}
 use Rattle.rs_text.proofs.Basics.{some_is, both, seam}
-use Rattle.rs_text.specs.Names.{grown}
+use Rattle.rs_text.specs.Names.{names_with}
 use Rattle.rs_text.specs.Sound.{IsSound}
 use Rattle.rs_text.specs.Words.{is_word, is_role_word}
 use Rattle.rs_bodies.specs.declared.dialects.Dialect.{Dialect}
@@ -18,7 +18,7 @@ use Rattle.rs_bodies.specs.declared.dialects.Dialect.TheVariants.{Talks, Acts}
 use Rattle.rs_bodies.specs.declared.places.Place.{Place}
 use Rattle.rs_bodies.specs.declared.places.Place.TheVariants as place
 use Rattle.rs_bodies.specs.declared.shapes.Walk.{Walk}
-use Rattle.rs_bodies.specs.Bodied.{numbered, SpellsPlaces, HasBody}
+use Rattle.rs_bodies.specs.Bodied.{numbering_behind, SpellsPlaces, HasBody}
 use Rattle.rs_bodies.specs.Data.{Point_data}
 use Rattle.rs_bodies.specs.Dialects.{most}
 use Rattle.rs_bodies.specs.Fits.{body_fits}
@@ -26,7 +26,7 @@ use Rattle.rs_bodies.specs.Graph.{labels_of, acts_in, has_end, Numbering, first_
 use Rattle.rs_bodies.specs.Places.{end_of}
 use Rattle.rs_bodies.specs.Points.{points_of}
 use Rattle.rs_bodies.specs.Scenes.{first_scene}
-use Rattle.rs_bodies.specs.Shapes.{place_leads, leads_from, is_end_at, ends_last, last_of, met, Outline, visited, same_bool, is_whole, begin, walk_from, is_walked}
+use Rattle.rs_bodies.specs.Shapes.{place_leads, leads_from, is_end_at, ends_last, number_of_end, walk_behind_next, Outline, walk_behind_head, same_bool, is_whole, start_of_walk, walk_from, is_walked}
 use Rattle.rs_bodies.specs.Trees.{Body}
 use Rattle.rs_bodies.proofs.Fitting.{fits_named, Recs, fits_heads, Named}
 use Rattle.rs_bodies.proofs.PlacesIn.{places_in, places_are, places_length}
@@ -61,7 +61,7 @@ without_end : (c : Bool) → c ≡ false → length (end_of c) ≡ 0
 without_end true e = absurd (cc e)
 without_end false e = refl
 
-last_as : (points : List Point_data) (c : Bool) → last_of (map place.Point points ++ end_of c) ≡ length (map place.Point points)
+last_as : (points : List Point_data) (c : Bool) → number_of_end (map place.Point points ++ end_of c) ≡ length (map place.Point points)
 last_as points c =
     let xs : List Place = map place.Point points in
     let all : length (xs ++ end_of c) ≡ length xs + length (end_of c) = length-append xs (end_of c) in
@@ -81,11 +81,11 @@ true_same true b e = sym e
 true_same false true e = absurd (cc e)
 true_same false false e = refl
 
-whole_by : (places : List Place) (count labels : ℕ) (ended : Bool) → count ≡ last_of places → ended ≡ ends_last places → is_whole places (Some (record { count = count; labels = labels; ended = ended })) ≡ true
-whole_by places count labels ended e f = rw (eq-eqb count (last_of places) e) (same_true ended (ends_last places) f)
+whole_by : (places : List Place) (count labels : ℕ) (ended : Bool) → count ≡ number_of_end places → ended ≡ ends_last places → is_whole places (Some (record { count = count; labels = labels; ended = ended })) ≡ true
+whole_by places count labels ended e f = rw (eq-eqb count (number_of_end places) e) (same_true ended (ends_last places) f)
 
-walked_by : (dia : Dialect) (p : Outline) (start labels : ℕ) (o : Option Walk) → last_of p.places ≤ most dia → walk_from dia p start labels ≡ o → is_whole p.places o ≡ true → is_walked dia p start labels ≡ true
-walked_by dia p start labels o few e w = rw (le-leb (last_of p.places) (most dia) few) (ap (is_whole p.places) e ∙ w)
+walked_by : (dia : Dialect) (p : Outline) (start labels : ℕ) (o : Option Walk) → number_of_end p.places ≤ most dia → walk_from dia p start labels ≡ o → is_whole p.places o ≡ true → is_walked dia p start labels ≡ true
+walked_by dia p start labels o few e w = rw (le-leb (number_of_end p.places) (most dia) few) (ap (is_whole p.places) e ∙ w)
 
 end_leads : (c : Bool) (v : ℕ) → list_any (place_leads v) (end_of c) ≡ false
 end_leads true v = refl
@@ -95,27 +95,27 @@ abbrev outlined : ℕ → List Place → Outline
 outlined roles places = record { roles = roles; places = places }
 
 body_walked : (dia : Dialect) (old : Names_data) (b : Body dia) (roles labels : ℕ) (places : List Place) → body_fits dia b (first_scene old.roles old.labels) ≡ true → length old.roles ≤ roles → length old.labels ≤ labels → length old.labels ≤ MOST_LABELS
-    → places ≡ map place.Point (points_of dia (numbered dia old b) b [] 0) ++ end_of (has_end dia b) → is_walked dia (outlined roles places) (first_of dia b [] 0 (acts_in dia b)) labels ≡ true
+    → places ≡ map place.Point (points_of dia (numbering_behind dia old b) b [] 0) ++ end_of (has_end dia b) → is_walked dia (outlined roles places) (first_of dia b [] 0 (acts_in dia b)) labels ≡ true
 body_walked dia old b roles labels places fits few_roles few_labels room e =
-    let m : Numbering = numbered dia old b in
+    let m : Numbering = numbering_behind dia old b in
     let p : Outline = outlined roles places in
     let c : Bool = has_end dia b in
     let points : List Point_data = points_of dia m b [] 0 in
     let same : map place.Point points ≡ places_in m b [] 0 = places_are m b [] 0 in
     let all : places ≡ places_in m b [] 0 ++ end_of c = e ∙ ap (λ z. z ++ end_of c) same in
     let size : length (map place.Point points) ≡ acts_in dia b = ap length same ∙ places_length m b [] 0 in
-    let last : last_of places ≡ acts_in dia b = ap last_of e ∙ last_as points c ∙ size in
+    let last : number_of_end places ≡ acts_in dia b = ap number_of_end e ∙ last_as points c ∙ size in
     let few : 0 + acts_in dia b ≤ most dia = fits_heads dia b (first_scene old.roles old.labels) fits (omega arith) in
     let named : Named dia b [] 0 = fits_named dia b (first_scene old.roles old.labels) fits in
     let recs : Recs dia (λ v. leads_from places v v) b false 0 = body_recs dia m places b c all refl named in
     let start : ℕ = first_of dia b [] 0 (acts_in dia b) in
-    let run : met (visited (suc (last_of places)) dia p 0) (acts_in dia b) 0 start (record { count = 0; labels = top labels (length old.labels); ended = false }) ≡ Some (record { count = 0 + acts_in dia b; labels = top labels (length (grown old.labels (labels_of dia b))); ended = false || c }) =
-    goes dia m p (record { roles = few_roles; last = last }) labels b (suc (last_of places)) [] false 0 0 0 0 false old.labels [] [] (end_of c) all refl (omega arith) (omega arith) (omega arith) (omega arith) (omega arith) (λ h. absurd (cc h)) fits room recs
+    let run : walk_behind_next (walk_behind_head (suc (number_of_end places)) dia p 0) (acts_in dia b) 0 start (record { count = 0; labels = top labels (length old.labels); ended = false }) ≡ Some (record { count = 0 + acts_in dia b; labels = top labels (length (names_with old.labels (labels_of dia b))); ended = false || c }) =
+    goes dia m p (record { roles = few_roles; last = last }) labels b (suc (number_of_end places)) [] false 0 0 0 0 false old.labels [] [] (end_of c) all refl (omega arith) (omega arith) (omega arith) (omega arith) (omega arith) (λ h. absurd (cc h)) fits room recs
     named (λ x n h. absurd (cc h)) (λ x n h lt. lt) refl (λ v lo hi. end_leads c v) in
-    walked_by dia p start labels (Some (record { count = 0 + acts_in dia b; labels = top labels (length (grown old.labels (labels_of dia b))); ended = false || c })) (omega arith)
-    (ap (λ z. met (visited (suc (last_of places)) dia p 0) z 0 start (begin labels)) last
-    ∙ ap (λ z. met (visited (suc (last_of places)) dia p 0) (acts_in dia b) 0 start (begin z)) (sym (top_base labels (length old.labels) few_labels)) ∙ run)
-    (whole_by places (0 + acts_in dia b) (top labels (length (grown old.labels (labels_of dia b)))) (false || c) (omega arith) (sym (ap ends_last e ∙ ends_as points c)))
+    walked_by dia p start labels (Some (record { count = 0 + acts_in dia b; labels = top labels (length (names_with old.labels (labels_of dia b))); ended = false || c })) (omega arith)
+    (ap (λ z. walk_behind_next (walk_behind_head (suc (number_of_end places)) dia p 0) z 0 start (start_of_walk labels)) last
+    ∙ ap (λ z. walk_behind_next (walk_behind_head (suc (number_of_end places)) dia p 0) (acts_in dia b) 0 start (start_of_walk z)) (sym (top_base labels (length old.labels) few_labels)) ∙ run)
+    (whole_by places (0 + acts_in dia b) (top labels (length (names_with old.labels (labels_of dia b)))) (false || c) (omega arith) (sym (ap ends_last e ∙ ends_as points c)))
 
 -- ---- what is walked to its end has a body
 
@@ -131,30 +131,30 @@ drop_end (x ∷ y ∷ places) e =
     let one : length (x ∷ y ∷ places) - 1 ≡ suc (length (y ∷ places) - 1) = omega arith in
     ap (λ z. drop z (x ∷ y ∷ places)) one ∙ drop_end (y ∷ places) (ap (λ z. slice_get (x ∷ y ∷ places) z) (sym one) ∙ e)
 
-drop_last : (places : List Place) → drop (last_of places) places ≡ end_of (ends_last places)
+drop_last : (places : List Place) → drop (number_of_end places) places ≡ end_of (ends_last places)
 drop_last places = elim (true_or_false (ends_last places)) [
   | inl e ↦ ap (λ z. drop (if z then length places - 1 else length places) places) e ∙ drop_end places (ends_at (slice_get places (length places - 1)) e) ∙ ap end_of (sym e)
   | inr e ↦ ap (λ z. drop (if z then length places - 1 else length places) places) e ∙ drop_all (length places) places (omega arith) ∙ ap end_of (sym e)
 ]
 
 record Walked (dia : Dialect) (p : Outline) (start labels : ℕ) : Type 0 where
-  small : last_of p.places ≤ most dia
+  small : number_of_end p.places ≤ most dia
   end : Walk
   run : walk_from dia p start labels ≡ Some end
-  count : end.count ≡ last_of p.places
+  count : end.count ≡ number_of_end p.places
   ended : end.ended ≡ ends_last p.places
 
-some_end : (places : List Place) (o : Option Walk) → is_whole places o ≡ true → (u : Walk) × (o ≡ Some u) × (u.count ≡ last_of places) × (u.ended ≡ ends_last places)
+some_end : (places : List Place) (o : Option Walk) → is_whole places o ≡ true → (u : Walk) × (o ≡ Some u) × (u.count ≡ number_of_end places) × (u.ended ≡ ends_last places)
 some_end places None h = absurd (cc h)
 some_end places (Some u) h =
-    let q = both (u.count == last_of places) (same_bool u.ended (ends_last places)) h in
-    (u, refl, eqb-true u.count (last_of places) q.0, true_same u.ended (ends_last places) q.1)
+    let q = both (u.count == number_of_end places) (same_bool u.ended (ends_last places)) h in
+    (u, refl, eqb-true u.count (number_of_end places) q.0, true_same u.ended (ends_last places) q.1)
 
 walk_ends : (dia : Dialect) (p : Outline) (start labels : ℕ) → is_walked dia p start labels ≡ true → Walked dia p start labels
 walk_ends dia p start labels h =
-    let q = both (nat_le (last_of p.places) (most dia)) (is_whole p.places (walk_from dia p start labels)) h in
+    let q = both (nat_le (number_of_end p.places) (most dia)) (is_whole p.places (walk_from dia p start labels)) h in
     let e = some_end p.places (walk_from dia p start labels) q.1 in
-    record { small = leb-true (last_of p.places) (most dia) q.0; end = e.0; run = e.1; count = e.2; ended = e.3 }
+    record { small = leb-true (number_of_end p.places) (most dia) q.0; end = e.0; run = e.1; count = e.2; ended = e.3 }
 
 most_few : (dia : Dialect) → most dia ≤ MOST_TALKS
 most_few Talks = omega arith
@@ -173,14 +173,14 @@ names_sound roles labels few room =
 walked_body : (dia : Dialect) (p : Outline) (start labels : ℕ) → p.roles ≤ MOST_ROLES → labels ≤ MOST_LABELS → Walked dia p start labels → HasBody dia p.roles labels p.places start
 walked_body dia p start labels few room w =
     let low : most dia ≤ MOST_TALKS = most_few dia in
-    let under : last_of p.places ≤ most dia = w.small in
+    let under : number_of_end p.places ≤ most dia = w.small in
     let small : Small dia p = record { roles = few; last = under; few = omega arith } in
-    let g : Grown dia p [] 0 (begin labels) w.end start = met_grown dia p [] 0 (visited (suc (last_of p.places)) dia p 0) 0 start (begin labels) w.end small (visited_grown dia (suc (last_of p.places)) p [] 0 small) (omega arith) (omega arith) room (λ v lt e. absurd (omega arith)) (λ lt. absurd (omega arith)) w.run in
+    let g : Grown dia p [] 0 (start_of_walk labels) w.end start = met_grown dia p [] 0 (walk_behind_head (suc (number_of_end p.places)) dia p 0) 0 start (start_of_walk labels) w.end small (visited_grown dia (suc (number_of_end p.places)) p [] 0 small) (omega arith) (omega arith) room (λ v lt e. absurd (omega arith)) (λ lt. absurd (omega arith)) w.run in
     let old : Names_data = names_by p.roles labels in
-    let count : w.end.count ≡ last_of p.places = w.count in
+    let count : w.end.count ≡ number_of_end p.places = w.count in
     let counts : 0 + acts_in dia g.body ≡ w.end.count = g.counts in
-    let heads_are : acts_in dia g.body ≡ last_of p.places = omega arith in
-    let same : numbered dia old g.body ≡ numbers p w.end.labels = ap (λ z. numbering_by old.roles z (acts_in dia g.body)) g.labels ∙ ap (λ z. numbering_by old.roles (plain_names 108 w.end.labels) z) heads_are in
+    let heads_are : acts_in dia g.body ≡ number_of_end p.places = omega arith in
+    let same : numbering_behind dia old g.body ≡ numbers p w.end.labels = ap (λ z. numbering_by old.roles z (acts_in dia g.body)) g.labels ∙ ap (λ z. numbering_by old.roles (plain_names 108 w.end.labels) z) heads_are in
     let end : has_end dia g.body ≡ ends_last p.places = sym g.ended ∙ w.ended in
     record {
       old = old;
@@ -194,7 +194,7 @@ walked_body dia p start labels few room w =
         places_are = g.parts w.end.labels (omega arith) g.room
             ∙ ap (λ z. places_in (numbers p w.end.labels) g.body [] 0 ++ z) (ap (λ z. drop z p.places) count ∙ drop_last p.places ∙ ap end_of (sym end))
             ∙ ap (λ z. places_in z g.body [] 0 ++ end_of (has_end dia g.body)) (sym same)
-            ∙ ap (λ z. z ++ end_of (has_end dia g.body)) (sym (places_are (numbered dia old g.body) g.body [] 0));
+            ∙ ap (λ z. z ++ end_of (has_end dia g.body)) (sym (places_are (numbering_behind dia old g.body) g.body [] 0));
         start_is = sym g.first ∙ ap (λ z. first_of dia g.body [] 0 z) (sym heads_are);
       };
     }

@@ -9,7 +9,7 @@ use Rattle.rs_text.specs.declared.faults.TextKind.TheVariants as kind
 use Rattle.rs_text.specs.declared.faults.Wanted.{Wanted}
 use Rattle.rs_text.specs.declared.faults.Wanted.TheVariants as wanted
 use Rattle.rs_text.specs.Lexemes.{Lexeme}
-use Rattle.rs_text.specs.Names.{place_of, bound_to, is_among, differ}
+use Rattle.rs_text.specs.Names.{place_of, nearest_binding, is_among, differ}
 use Rattle.rs_text.specs.Signs.{Sign, rec_word, end_word, plain, arrow, bang, question, colon, dot, comma, open_brace, close_brace, open_paren, close_paren, broken}
 use Rattle.rs_text.specs.Seen.{sort_named, plain_text, word_text, is_text}
 use Rattle.rs_text.specs.Readings.{feed_sign}
@@ -22,7 +22,7 @@ use Rattle.rs_bodies.specs.declared.reading.Mode.{Mode}
 use Rattle.rs_bodies.specs.declared.reading.Mode.TheVariants as mode
 use Rattle.rs_bodies.specs.Data.{Reader_data, Draft_data}
 use Rattle.rs_bodies.specs.Dialects.{most, turns}
-use Rattle.rs_bodies.specs.Feeding.{Fed, in_mode, linked, placed, headed, met_by, role_by, new_role, feed_role, feed_line, feed_at, feed_turn, feed_word, feed_body, received_by, feed_receiver, named, feed_next, feed_arms, feed_single, feed_label, labelled_by, sorted_by, feeding}
+use Rattle.rs_bodies.specs.Feeding.{Fed, in_mode, reader_behind_link, reader_at_head, feed_new_head, feed_head_role, role_by, new_role, feed_role, feed_line, feed_at, feed_turn, feed_word, feed_body, feed_receiver_role, feed_receiver, feed_bound_name, feed_next, feed_arms, feed_single, feed_label, feed_label_number, feed_sort_word, feeding}
 use Rattle.rs_bodies.specs.declared.reading.Link.TheVariants as link
 use Rattle.std.specs.List.{list_all}
 use Rattle.std.proofs.lemmas.Bool.{leb-false}
@@ -40,7 +40,7 @@ use Rattle.std.proofs.Common.{◌<◌}
 use Rattle.rs_text.specs.FirstFaults.{IsWhole}
 use Rattle.rs_bodies.proofs.FaultSteps.{whole_fed}
 use Rattle.rs_bodies.proofs.Labels.{Takes, take_sign, is_of_talks}
-use Rattle.rs_bodies.specs.Feeding.{feed_of, begin, first_roles, Answer, answered, ReadsAs}
+use Rattle.rs_bodies.specs.Feeding.{feed_of, start_of_part, first_roles, PartAnswer, answer_of_reading, ReadsAs}
 use Rattle.std.proofs.Common.{Result}
 use Rattle.rs_text.specs.Readings.{Reading, read_all}
 use Rattle.rs_text.proofs.Keeping.{tokens, kept, KeptIn}
@@ -138,7 +138,7 @@ label_pushed false dia old w at r m e k h = (
   h.1,
 )
 
-keep_labelled : (dia : Dialect) (old : Names_data) (o : Option ℕ) (act : ℕ) (w : List ℕ) (at : ℕ) (r : Reader_data) → place_of w r.labels ≡ o → is_word w ≡ true → Good dia old r → IfOk (labelled_by o act w at r) (Good dia old)
+keep_labelled : (dia : Dialect) (old : Names_data) (o : Option ℕ) (act : ℕ) (w : List ℕ) (at : ℕ) (r : Reader_data) → place_of w r.labels ≡ o → is_word w ≡ true → Good dia old r → IfOk (feed_label_number o act w at r) (Good dia old)
 keep_labelled dia old (Some k) act w at r e f h = h
 keep_labelled dia old None act w at r e f h = label_pushed (nat_le 256 (length r.labels)) dia old w at r _ (not_among r.labels w 0 e) f h
 
@@ -157,21 +157,21 @@ keep_arms dia old act t at r n h = keep_single dia old act t at r n h
 
 -- ---- heads
 
-linked_few : (m : ℕ) (from : Link) (target : Option ℕ) (r : Reader_data) → length r.drafts ≤ m → length (linked from target r).drafts ≤ m
+linked_few : (m : ℕ) (from : Link) (target : Option ℕ) (r : Reader_data) → length r.drafts ≤ m → length (reader_behind_link from target r).drafts ≤ m
 linked_few m from target r h = subst (λ (z : ℕ). z ≤ m) (sym (linked_length from target r.drafts)) h
 
 headed_few : (c : Bool) (dia : Dialect) (old : Names_data) (from : Link) (p : Head) (at : ℕ) (r : Reader_data) → nat_le (most dia) (length r.drafts) ≡ c → Good dia old r
-    → IfOk {E = TextFault} (cond c (Err (record { kind = kind.TooManyNodes; at = at })) (Ok (placed from p r))) (Good dia old)
+    → IfOk {E = TextFault} (cond c (Err (record { kind = kind.TooManyNodes; at = at })) (Ok (reader_at_head from p r))) (Good dia old)
 headed_few true dia old from p at r e h = tt
 headed_few false dia old from p at r e h =
-    let n : length (placed from p r).drafts ≡ suc (length r.drafts) = placed_length from p r in
+    let n : length (reader_at_head from p r).drafts ≡ suc (length r.drafts) = placed_length from p r in
     let room : length r.drafts < most dia = leb-false (most dia) (length r.drafts) e in
     (h.0, omega arith)
 
-keep_headed : (dia : Dialect) (old : Names_data) (from : Link) (p : Head) (at : ℕ) (r : Reader_data) → Good dia old r → IfOk (headed dia from p at r) (Good dia old)
+keep_headed : (dia : Dialect) (old : Names_data) (from : Link) (p : Head) (at : ℕ) (r : Reader_data) → Good dia old r → IfOk (feed_new_head dia from p at r) (Good dia old)
 keep_headed dia old from p at r h = headed_few (nat_le (most dia) (length r.drafts)) dia old from p at r refl h
 
-keep_met : (dia : Dialect) (old : Names_data) (o : Option ℕ) (from : Link) (at : ℕ) (r : Reader_data) → Good dia old r → IfOk (met_by dia o from at r) (Good dia old)
+keep_met : (dia : Dialect) (old : Names_data) (o : Option ℕ) (from : Link) (at : ℕ) (r : Reader_data) → Good dia old r → IfOk (feed_head_role dia o from at r) (Good dia old)
 keep_met dia old None from at r h = tt
 keep_met dia old (Some k) from at r h = keep_if (nat_le (most dia) (length r.drafts)) dia old _ _ h
 
@@ -182,7 +182,7 @@ keep_turn Acts old from p bang at r h = keep_headed Acts old from _ at r h
 keep_turn Acts old from p question at r h = keep_headed Acts old from _ at r h
 keep_turn Acts old from p _ at r h = tt
 
-keep_received : (dia : Dialect) (old : Names_data) (o : Option ℕ) (from : Link) (p : Role) (at : ℕ) (r : Reader_data) → Good dia old r → IfOk (received_by dia o from p at r) (Good dia old)
+keep_received : (dia : Dialect) (old : Names_data) (o : Option ℕ) (from : Link) (p : Role) (at : ℕ) (r : Reader_data) → Good dia old r → IfOk (feed_receiver_role dia o from p at r) (Good dia old)
 keep_received dia old None from p at r h = tt
 keep_received dia old (Some q) from p at r h = keep_headed dia old from _ at r h
 
@@ -192,13 +192,13 @@ keep_receiver dia old from p (Some w) at r h = keep_received dia old (place_of w
 
 -- ---- bodies
 
-keep_named : (dia : Dialect) (old : Names_data) (o : Option ℕ) (from : Link) (at : ℕ) (r : Reader_data) → Good dia old r → IfOk (named o from at r) (Good dia old)
+keep_named : (dia : Dialect) (old : Names_data) (o : Option ℕ) (from : Link) (at : ℕ) (r : Reader_data) → Good dia old r → IfOk (feed_bound_name o from at r) (Good dia old)
 keep_named dia old None from at r h = tt
-keep_named dia old (Some k) from at r h = keep_unless (nat_lt k (length r.drafts)) dia old (record { kind = kind.Unguarded; at = at }) (in_mode mode.Next (linked from (Some k) r)) (h.0, linked_few (most dia) from (Some k) r h.1)
+keep_named dia old (Some k) from at r h = keep_unless (nat_lt k (length r.drafts)) dia old (record { kind = kind.Unguarded; at = at }) (in_mode mode.Next (reader_behind_link from (Some k) r)) (h.0, linked_few (most dia) from (Some k) r h.1)
 
 keep_word : (dia : Dialect) (old : Names_data) (from : Link) (w : List ℕ) (s : Sign) (at next : ℕ) (r : Reader_data) → Good dia old r → IfOk (feed_word dia from w s at next r) (Good dia old)
 keep_word dia old from w (broken k) at next r h = tt
-keep_word dia old from w s at next r h = either (turns dia s) dia old (met_by dia (place_of w r.roles) from at r) (named (bound_to w r.bound) from at r) (keep_met dia old (place_of w r.roles) from at r h) (keep_named dia old (bound_to w r.bound) from at r h)
+keep_word dia old from w s at next r h = either (turns dia s) dia old (feed_head_role dia (place_of w r.roles) from at r) (feed_bound_name (nearest_binding w r.bound) from at r) (keep_met dia old (place_of w r.roles) from at r h) (keep_named dia old (nearest_binding w r.bound) from at r h)
 
 keep_body : (dia : Dialect) (old : Names_data) (from : Link) (t : Sign) (at : ℕ) (next : Lexeme) (r : Reader_data) → Good dia old r → IfOk (feed_body dia from t at next r) (Good dia old)
 keep_body dia old from rec_word at next r h = keep_if (nat_le 200 r.depth) dia old _ _ h
@@ -212,7 +212,7 @@ keep_next dia old (f ∷ fs) comma at r h = h
 keep_next dia old (f ∷ fs) close_brace at r h = h
 keep_next dia old (f ∷ fs) _ at r h = tt
 
-keep_sorted : (dia : Dialect) (old : Names_data) (o : Option Sort) (act : ℕ) (l : Label) (at : ℕ) (r : Reader_data) → Good dia old r → IfOk (sorted_by o act l at r) (Good dia old)
+keep_sorted : (dia : Dialect) (old : Names_data) (o : Option Sort) (act : ℕ) (l : Label) (at : ℕ) (r : Reader_data) → Good dia old r → IfOk (feed_sort_word o act l at r) (Good dia old)
 keep_sorted dia old None act l at r h = tt
 keep_sorted dia old (Some s) act l at r h = h
 
@@ -275,12 +275,12 @@ kept_on : (dia : Dialect) (old : Names_data) (t : Sign) (at : ℕ) (next : Lexem
 kept_on dia old (broken k) at next r d name f h = absurd (cc f)
 kept_on dia old t at next r d name f h = (if_ok (feed_of dia t at next r) d (Good dia old) f (keep_at dia old r.mode t at next r name h.0), own_on dia old t at next r d tt f h.1)
 
-own_first : (dia : Dialect) (r : Reader_data) → r ≡ begin dia (names_read r) → Own dia (names_read r) r
+own_first : (dia : Dialect) (r : Reader_data) → r ≡ start_of_part dia (names_read r) → Own dia (names_read r) r
 own_first Talks r e = tt
 own_first Acts r e = (refl, ap (λ z. is_of_talks z.mode) e)
 
 -- names that were sound are good at first
-pub kept_first : (dia : Dialect) (r : Reader_data) → r ≡ begin dia (names_read r) → IsSound (names_read r) → Kept dia (names_read r) r
+pub kept_first : (dia : Dialect) (r : Reader_data) → r ≡ start_of_part dia (names_read r) → IsSound (names_read r) → Kept dia (names_read r) r
 kept_first dia r begun s =
     let t = and_split (differ r.roles && list_all is_role_word r.roles) (differ r.labels && list_all is_word r.labels) ((decides_sound (names_read r)).1 s) in
     let u = and_split (differ r.labels) (list_all is_word r.labels) t.1 in
@@ -312,7 +312,7 @@ keep_sign : (dia : Dialect) (old : Names_data) (t : Sign) (at : ℕ) (next : Lex
 keep_sign dia old (broken k) at next r n h = tt
 keep_sign dia old t at next r n h = keep_at dia old r.mode t at next r n h
 
-good_begun : (dia : Dialect) (old : Names_data) → old.roles ≡ first_roles dia old → IsSound old → Good dia old (begin dia old)
+good_begun : (dia : Dialect) (old : Names_data) → old.roles ≡ first_roles dia old → IsSound old → Good dia old (start_of_part dia old)
 good_begun dia old first s =
     let t = and_split (differ old.roles && list_all is_role_word old.roles) (differ old.labels && list_all is_word old.labels) ((decides_sound old).1 s) in
     let u = and_split (differ old.labels) (list_all is_word old.labels) t.1 in
@@ -320,16 +320,16 @@ good_begun dia old first s =
     let good : GoodNames old old.roles old.labels = record { roles_differ = v.0; roles_are_words = v.1; later = []; labels_are = sym (append-nil old.labels); labels_differ = u.0; words = u.1 } in
     (subst (λ (z : List (List ℕ)). GoodNames old z old.labels) first good, omega arith)
 
-abbrev SoundAnswer : Answer → Type 0
+abbrev SoundAnswer : PartAnswer → Type 0
 SoundAnswer a = IsSound a.names
 
-on_answer : (dia : Dialect) (old : Names_data) (x : Result (Reading Reader_data) TextFault) → IfOk x (KeptIn (Good dia old)) → IfOk (answered x) SoundAnswer
+on_answer : (dia : Dialect) (old : Names_data) (x : Result (Reading Reader_data) TextFault) → IfOk x (KeptIn (Good dia old)) → IfOk (answer_of_reading x) SoundAnswer
 on_answer dia old (Ok x) h = (decides_sound (names_read x.reader)).0 (rw (h.0.roles_differ, h.0.roles_are_words, h.0.labels_differ, h.0.words) refl)
 on_answer dia old (Err e) h = tt
 
 -- what is read has names that texts can have
-pub is_sound : (dia : Dialect) (old : Names_data) (bytes : List ℕ) (at : ℕ) (a : Answer) → old.roles ≡ first_roles dia old → IsSound old → at ≤ length bytes → ReadsAs dia old bytes at (Ok a) → IsSound a.names
+pub is_sound : (dia : Dialect) (old : Names_data) (bytes : List ℕ) (at : ℕ) (a : PartAnswer) → old.roles ≡ first_roles dia old → IsSound old → at ≤ length bytes → ReadsAs dia old bytes at (Ok a) → IsSound a.names
 is_sound dia old bytes at a first s h p =
     let t = tokens bytes at h in
-    subst (λ (z : Result Answer TextFault). IfOk z SoundAnswer) (p t.0 t.1)
-    (on_answer dia old (read_all (feeding dia) (Ok (begin dia old)) t.0) (kept (feeding dia) (Good dia old) (λ t at n r name k. keep_sign dia old t at n r name k) (begin dia old) (good_begun dia old first s) bytes at t.0 t.1))
+    subst (λ (z : Result PartAnswer TextFault). IfOk z SoundAnswer) (p t.0 t.1)
+    (on_answer dia old (read_all (feeding dia) (Ok (start_of_part dia old)) t.0) (kept (feeding dia) (Good dia old) (λ t at n r name k. keep_sign dia old t at n r name k) (start_of_part dia old) (good_begun dia old first s) bytes at t.0 t.1))

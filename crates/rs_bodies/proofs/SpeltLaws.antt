@@ -6,19 +6,19 @@ use Rattle.rs_text.specs.declared.faults.TextKind.{TextKind}
 use Rattle.rs_bodies.specs.declared.dialects.Dialect.{Dialect}
 use Rattle.rs_bodies.specs.Data.{Spelling_data}
 use Rattle.rs_bodies.specs.Faults.{FirstFault}
-use Rattle.rs_bodies.specs.Feeding.{Answer, ReadsAs}
+use Rattle.rs_bodies.specs.Feeding.{PartAnswer, ReadsAs}
 use Rattle.rs_bodies.specs.Spells.{Spells}
 use Rattle.rs_bodies.proofs.Answers.{an_answer}
 use Rattle.rs_bodies.proofs.OneFault.{no_fault, first_fault}
 use Rattle.rs_bodies.proofs.SpeltRuns.{sound, complete}
 
-abbrev answer : Names_data → Spelling_data → ℕ → Answer
+abbrev answer : Names_data → Spelling_data → ℕ → PartAnswer
 answer names spelling until = record { names = names; spelling = spelling; until = until }
 
-abbrev good : Answer → Result Answer TextFault
+abbrev good : PartAnswer → Result PartAnswer TextFault
 good a = Ok a
 
-good_is : (x y : Answer) → good x ≡ good y → x ≡ y
+good_is : (x y : PartAnswer) → good x ≡ good y → x ≡ y
 good_is x y h = cc
 
 abbrev names : List (List ℕ) → List (List ℕ) → Names_data
@@ -34,7 +34,7 @@ one_spelling dia old bytes at names others spelling other until stop s k =
 abbrev SpeltOrFaulty : (dia : Dialect) (old : Names_data) → List ℕ → ℕ → Type 0
 SpeltOrFaulty dia old bytes at = ((names : Names_data) × (spelling : Spelling_data) × (until : ℕ) × Spells dia bytes at old names spelling until) ⊎ ((kind : TextKind) × (offset : ℕ) × FirstFault dia old bytes at kind offset)
 
-by_answer : (dia : Dialect) (old : Names_data) (bytes : List ℕ) (at : ℕ) (x : Result Answer TextFault) → at ≤ length bytes → ReadsAs dia old bytes at x → SpeltOrFaulty dia old bytes at
+by_answer : (dia : Dialect) (old : Names_data) (bytes : List ℕ) (at : ℕ) (x : Result PartAnswer TextFault) → at ≤ length bytes → ReadsAs dia old bytes at x → SpeltOrFaulty dia old bytes at
 by_answer dia old bytes at (Ok a) within h = inl (a.names, a.spelling, a.until, sound dia old bytes at a within h)
 by_answer dia old bytes at (Err e) within h = inr (e.kind, e.at, first_fault dia old bytes at e within h)
 
@@ -43,7 +43,7 @@ pub spelt_or_faulty : (dia : Dialect) (old : Names_data) (bytes : List ℕ) (at 
 spelt_or_faulty dia old bytes at within = let a = an_answer dia old bytes at within in by_answer dia old bytes at a.0 within a.1
 
 -- a text that a tree spells is read ..
-pub spelt_is_read : (dia : Dialect) (old : Names_data) (bytes : List ℕ) (at : ℕ) (names : Names_data) (spelling : Spelling_data) (until : ℕ) → Spells dia bytes at old names spelling until → (answer : Answer) × ReadsAs dia old bytes at (Ok answer)
+pub spelt_is_read : (dia : Dialect) (old : Names_data) (bytes : List ℕ) (at : ℕ) (names : Names_data) (spelling : Spelling_data) (until : ℕ) → Spells dia bytes at old names spelling until → (answer : PartAnswer) × ReadsAs dia old bytes at (Ok answer)
 spelt_is_read dia old bytes at names spelling until s = (answer names spelling until, complete dia old bytes at names spelling until s)
 
 -- .. and has no first fault

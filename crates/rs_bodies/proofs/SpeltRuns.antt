@@ -16,7 +16,7 @@ use Rattle.rs_bodies.specs.Drafts.{spelling_read, names_read}
 use Rattle.rs_bodies.specs.Spells.{Tree, tree_signs, Spells, Fits}
 use Rattle.rs_bodies.specs.Trees.{ends_by_name, ends_a_name}
 use Rattle.rs_bodies.specs.Cuts.{PartCut}
-use Rattle.rs_bodies.specs.Feeding.{Fed, Answer, begin, feed_at, feed_next, is_read, answered, ReadsAs, feeding}
+use Rattle.rs_bodies.specs.Feeding.{Fed, PartAnswer, start_of_part, feed_at, feed_next, is_read, answer_of_reading, ReadsAs, feeding}
 use Rattle.rs_bodies.proofs.FaultPlaces.{wanted_by, is_named_of, NamedBy, PlaceAgrees}
 use Rattle.rs_bodies.proofs.FirstFaults.{agree}
 use Rattle.rs_bodies.proofs.SpeltTrees.{IsRead, tree_exact}
@@ -26,10 +26,10 @@ use Rattle.rs_bodies.proofs.OneFault.{read_facts, At, judges, begins}
 use Rattle.rs_text.specs.Readings.{Reading, expected, feed_sign, read_all}
 use Rattle.rs_text.proofs.Leading.{Tells, Exact}
 
-abbrev ok_answer : Answer → Result Answer TextFault
+abbrev ok_answer : PartAnswer → Result PartAnswer TextFault
 ok_answer x = Ok x
 
-answer_is : (x y : Answer) → ok_answer x ≡ ok_answer y → x ≡ y
+answer_is : (x y : PartAnswer) → ok_answer x ≡ ok_answer y → x ≡ y
 answer_is x y h = cc
 
 -- ---- behind a part
@@ -49,7 +49,7 @@ stops dia t at n r N Q h x = let b = behind_of r h in subst (λ (z : Fed). Tells
 
 -- ---- a text that is spelt is read
 
-abbrev answer_of : Names_data → Spelling_data → ℕ → Answer
+abbrev answer_of : Names_data → Spelling_data → ℕ → PartAnswer
 answer_of names spelling until = record { names = names; spelling = spelling; until = until }
 
 -- a text that spells a part is read as it
@@ -57,11 +57,11 @@ pub complete : (dia : Dialect) (old : Names_data) (bytes : List ℕ) (at : ℕ) 
 complete dia old bytes at names spelling until s = λ ls lexed.
     let t : Tree dia = s.tree in
     let N : Type 0 = Fits dia old t → ⊥ in
-    let h : Exact (feeding dia) (signs_of s.lexemes) s.behind.sign N (IsRead dia old t) (begin dia old) = subst (λ (z : List Sign). Exact (feeding dia) z s.behind.sign N (IsRead dia old t) (begin dia old)) (sym s.spelt) (tree_exact dia old t s.behind.sign s.settled) in
-    let g : Runs (feeding dia) (Ok (begin dia old)) (s.lexemes ++ s.behind ∷ s.others) s.behind (IsRead dia old t) = runs (feeding dia) (stops dia) s.lexemes s.behind s.others (begin dia old) N (IsRead dia old t) (λ k. k s.fits) (λ d k. k.read) h in
+    let h : Exact (feeding dia) (signs_of s.lexemes) s.behind.sign N (IsRead dia old t) (start_of_part dia old) = subst (λ (z : List Sign). Exact (feeding dia) z s.behind.sign N (IsRead dia old t) (start_of_part dia old)) (sym s.spelt) (tree_exact dia old t s.behind.sign s.settled) in
+    let g : Runs (feeding dia) (Ok (start_of_part dia old)) (s.lexemes ++ s.behind ∷ s.others) s.behind (IsRead dia old t) = runs (feeding dia) (stops dia) s.lexemes s.behind s.others (start_of_part dia old) N (IsRead dia old t) (λ k. k s.fits) (λ d k. k.read) h in
     let d : Reader_data = g.0 in
     let read : IsRead dia old t d = g.1.0 in
-    ap (λ z. answered (read_all (feeding dia) (Ok (begin dia old)) z)) (one_list bytes ls (s.lexemes ++ s.behind ∷ s.others) at lexed s.lexed) ∙ ap answered g.1.1
+    ap (λ z. answer_of_reading (read_all (feeding dia) (Ok (start_of_part dia old)) z)) (one_list bytes ls (s.lexemes ++ s.behind ∷ s.others) at lexed s.lexed) ∙ ap answer_of_reading g.1.1
     ∙ ap (λ z. Ok (answer_of z (spelling_read d) s.behind.from)) (read.names ∙ sym s.names_are) ∙ ap (λ z. Ok (answer_of names z s.behind.from)) (read.spelling ∙ sym s.spelling_is) ∙ ap (λ z. Ok (answer_of names spelling z)) (sym s.goes_on)
 
 -- ---- a text that is read is spelt
@@ -81,7 +81,7 @@ read_spells dia old bytes at ls x lexed s =
     let t : Tree dia = w.0 in
     let signs : tree_signs dia t ≡ signs_of s.xs = w.1 ∙ s.stands.1.1 in
     let settled : ends_by_name dia t.body ≡ true → ends_a_name dia s.l.sign ≡ true = λ e. named_at dia d.mode s.l.sign (is_named_of dia c) d (behind_of d s.read).0 a.named (sym w.2 ∙ e) in
-    let read : IsRead dia old t d = s.stands.0 (λ k. Fits dia old t → ⊥) (IsRead dia old t) (subst (λ (z : List Sign). Exact (feeding dia) z s.l.sign (Fits dia old t → ⊥) (IsRead dia old t) (begin dia old)) signs (tree_exact dia old t s.l.sign settled)) in
+    let read : IsRead dia old t d = s.stands.0 (λ k. Fits dia old t → ⊥) (IsRead dia old t) (subst (λ (z : List Sign). Exact (feeding dia) z s.l.sign (Fits dia old t → ⊥) (IsRead dia old t) (start_of_part dia old)) signs (tree_exact dia old t s.l.sign settled)) in
     record {
       tree = t;
       lexemes = s.xs;
@@ -96,18 +96,18 @@ read_spells dia old bytes at ls x lexed s =
       goes_on = s.until;
     }
 
-answered_ok : (y : Result (Reading Reader_data) TextFault) (a : Answer) → answered y ≡ Ok a → (x : Reading Reader_data) × (y ≡ Ok x) × (record { names = names_read x.reader; spelling = spelling_read x.reader; until = x.until } ≡ a)
+answered_ok : (y : Result (Reading Reader_data) TextFault) (a : PartAnswer) → answer_of_reading y ≡ Ok a → (x : Reading Reader_data) × (y ≡ Ok x) × (record { names = names_read x.reader; spelling = spelling_read x.reader; until = x.until } ≡ a)
 answered_ok (Ok x) a h = (x, refl, answer_is (record { names = names_read x.reader; spelling = spelling_read x.reader; until = x.until }) a h)
 answered_ok (Err e) a h = cc
 
-read_all_spells : (dia : Dialect) (old : Names_data) (bytes : List ℕ) (at : ℕ) (ls : List Lexeme) (x : Reading Reader_data) → Lexed bytes at ls → read_all (feeding dia) (Ok (begin dia old)) ls ≡ Ok x → Spells dia bytes at old (names_read x.reader) (spelling_read x.reader) x.until
+read_all_spells : (dia : Dialect) (old : Names_data) (bytes : List ℕ) (at : ℕ) (ls : List Lexeme) (x : Reading Reader_data) → Lexed bytes at ls → read_all (feeding dia) (Ok (start_of_part dia old)) ls ≡ Ok x → Spells dia bytes at old (names_read x.reader) (spelling_read x.reader) x.until
 read_all_spells dia old bytes at [] x lexed h = absurd lexed
-read_all_spells dia old bytes at (l ∷ ls) x lexed h = read_spells dia old bytes at (l ∷ ls) x lexed (halt (judges dia old) (begin dia old) bytes at (l ∷ ls) x (begins dia old) lexed h)
+read_all_spells dia old bytes at (l ∷ ls) x lexed h = read_spells dia old bytes at (l ∷ ls) x lexed (halt (judges dia old) (start_of_part dia old) bytes at (l ∷ ls) x (begins dia old) lexed h)
 
 -- a text that is read as a part spells it
-pub sound : (dia : Dialect) (old : Names_data) (bytes : List ℕ) (at : ℕ) (a : Answer) → at ≤ length bytes → ReadsAs dia old bytes at (Ok a) → Spells dia bytes at old a.names a.spelling a.until
+pub sound : (dia : Dialect) (old : Names_data) (bytes : List ℕ) (at : ℕ) (a : PartAnswer) → at ≤ length bytes → ReadsAs dia old bytes at (Ok a) → Spells dia bytes at old a.names a.spelling a.until
 sound dia old bytes at a within h =
     let e = exists bytes at within in
     let lexed : Lexed bytes at e.0 = are_lexed bytes e.0 at e.1 in
-    let y = answered_ok (read_all (feeding dia) (Ok (begin dia old)) e.0) a (h e.0 lexed) in
-    subst (λ (z : Answer). Spells dia bytes at old z.names z.spelling z.until) y.2 (read_all_spells dia old bytes at e.0 y.0 lexed y.1)
+    let y = answered_ok (read_all (feeding dia) (Ok (start_of_part dia old)) e.0) a (h e.0 lexed) in
+    subst (λ (z : PartAnswer). Spells dia bytes at old z.names z.spelling z.until) y.2 (read_all_spells dia old bytes at e.0 y.0 lexed y.1)

@@ -14,7 +14,7 @@ use Rattle.rs_bodies.specs.declared.reading.Link.{Link}
 use Rattle.rs_bodies.specs.declared.reading.Link.TheVariants as link
 use Rattle.rs_bodies.specs.declared.reading.Mode.TheVariants as mode
 use Rattle.rs_bodies.specs.declared.drafts.DraftArm.{DraftArm}
-use Rattle.rs_text.specs.Names.{place_of, grown, Bound, bound_to, number_or}
+use Rattle.rs_text.specs.Names.{place_of, names_with, Bound, nearest_binding, number_or}
 use Rattle.rs_text.specs.Signs.{Sign, word_sign, dot, open_paren, close_paren}
 use Rattle.rs_text.proofs.Naming.{among, not_among, grown_stays, place_of_new, grown_new, grown_old}
 use Rattle.rs_text.specs.Arms.{sort_signs, arm_signs, sort_or_unit}
@@ -25,7 +25,7 @@ use Rattle.rs_bodies.specs.Trees.{Body, ends, again, binds, acts, offers, Branch
 use Rattle.rs_bodies.specs.Graph.{acts_in, Numbering, label_of}
 use Rattle.rs_bodies.specs.Points.{head_of}
 use Rattle.rs_bodies.specs.Fits.{has_room_for}
-use Rattle.rs_bodies.specs.Feeding.{Fed, linked_drafts, label_of_number, labelled_by, feeding}
+use Rattle.rs_bodies.specs.Feeding.{Fed, drafts_behind_link, label_of_number, feed_label_number, feeding}
 use Rattle.rs_text.proofs.Leading.{sign_behind, lexeme, tells_if, Tells, Hangs, fits_in, full, Exact}
 use Rattle.rs_bodies.proofs.FaultRuns.{label_fed, label_moves}
 use Rattle.rs_bodies.proofs.FaultPlaces.{scene_of}
@@ -34,7 +34,7 @@ use Rattle.rs_bodies.proofs.FaultPlaces.{scene_of}
 
 abbrev pub target : (dia : Dialect) → Body dia → Bound → ℕ → Option ℕ
 target dia ends bound count = None
-target dia (again x) bound count = Some (number_or (bound_to x bound))
+target dia (again x) bound count = Some (number_or (nearest_binding x bound))
 target dia (binds x body) bound count = target dia body ((x, count) ∷ bound) count
 target dia (acts x y l s body) bound count = Some count
 target dia (offers x y arms) bound count = Some count
@@ -77,7 +77,7 @@ with_arm_length : (arm : DraftArm) (found : Option Draft_data) (drafts : List Dr
 with_arm_length arm None drafts k = refl
 with_arm_length arm (Some d) drafts k = length-set drafts k _
 
-pub linked_length : (from : Link) (to : Option ℕ) (drafts : List Draft_data) → length (linked_drafts from to drafts) ≡ length drafts
+pub linked_length : (from : Link) (to : Option ℕ) (drafts : List Draft_data) → length (drafts_behind_link from to drafts) ≡ length drafts
 linked_length link.Start to drafts = refl
 linked_length (link.OfArm act label sort) to drafts = with_arm_length _ (slice_get drafts act) drafts act
 
@@ -87,7 +87,7 @@ linked_length (link.OfArm act label sort) to drafts = with_arm_length _ (slice_g
 abbrev pub Stays : List (List ℕ) → List (List ℕ) → Type 0
 Stays names all = (name : List ℕ) (k : ℕ) → place_of name names ≡ Some k → place_of name all ≡ Some k
 
-pub stays_before : (names more all : List (List ℕ)) → Stays (grown names more) all → Stays names all
+pub stays_before : (names more all : List (List ℕ)) → Stays (names_with names more) all → Stays names all
 stays_before names later all h = λ name k e. h name k (grown_stays later names name k e)
 
 abbrev pub numbered : List (List ℕ) → List (List ℕ) → ℕ → Numbering
@@ -97,7 +97,7 @@ label_is : (roles all : List (List ℕ)) (last : ℕ) (l : List ℕ) (k : ℕ) �
 label_is roles all last l k e = ap (λ z. label_of_number (number_or z)) e
 
 abbrev pub at_arm : Reader_data → List ℕ → Numbering → ℕ → Option Sort → Reader_data
-at_arm r l n act s = record r { labels = grown r.labels (l ∷ []); mode = mode.Body (link.OfArm act (label_of n l) (sort_or_unit s)) }
+at_arm r l n act s = record r { labels = names_with r.labels (l ∷ []); mode = mode.Body (link.OfArm act (label_of n l) (sort_or_unit s)) }
 
 sort_exact : (dia : Dialect) (s : Option Sort) (act : ℕ) (label : Label) (r : Reader_data) (ts : List Sign) (u : Sign) (N : Type 0) (Q : Reader_data → Type 0) → Exact (feeding dia) ts u N Q (record r { mode = mode.Body (link.OfArm act label (sort_or_unit s)) })
     → Exact (feeding dia) (open_paren ∷ ((sort_signs s ++ close_paren ∷ dot ∷ []) ++ ts)) u N Q (record r { mode = mode.Paren act label })
@@ -109,21 +109,21 @@ sort_exact dia (Some sort.Whole) act label r ts u N Q h = λ a f n. λ a f n. λ
 sort_exact dia (Some sort.Octets) act label r ts u N Q h = λ a f n. λ a f n. λ a f n. λ a f n. h
 sort_exact dia (Some sort.Numbers) act label r ts u N Q h = λ a f n. λ a f n. λ a f n. λ a f n. h
 
-labelled_exact : (found : Option ℕ) (l : List ℕ) (act : ℕ) (at : ℕ) (r : Reader_data) (N : Type 0) (Q : Reader_data → Type 0) → place_of l r.labels ≡ found → Hangs (has_room_for l (scene_of r)) N ((k : ℕ) → place_of l (grown r.labels (l ∷ [])) ≡ Some k → Q (record r { labels = grown r.labels (l ∷ []); mode = mode.Paren act (label_of_number k) }))
-    → Tells (labelled_by found act l at (record r { mode = mode.AtLabel act })) N Q
+labelled_exact : (found : Option ℕ) (l : List ℕ) (act : ℕ) (at : ℕ) (r : Reader_data) (N : Type 0) (Q : Reader_data → Type 0) → place_of l r.labels ≡ found → Hangs (has_room_for l (scene_of r)) N ((k : ℕ) → place_of l (names_with r.labels (l ∷ [])) ≡ Some k → Q (record r { labels = names_with r.labels (l ∷ []); mode = mode.Paren act (label_of_number k) }))
+    → Tells (feed_label_number found act l at (record r { mode = mode.AtLabel act })) N Q
 labelled_exact (Some k) l act at r N Q e h =
-    let same : grown r.labels (l ∷ []) ≡ r.labels = grown_old r.labels l k e in
+    let same : names_with r.labels (l ∷ []) ≡ r.labels = grown_old r.labels l k e in
     let room : has_room_for l (scene_of r) ≡ true = ap (λ z. z || nat_lt (length r.labels) 256) (among r.labels l 0 k e) in
     subst (λ (z : List (List ℕ)). Q (record r { labels = z; mode = mode.Paren act (label_of_number k) })) same (h.1 room k (ap (λ z. place_of l z) same ∙ e))
 labelled_exact None l act at r N Q e h =
-    let same : grown r.labels (l ∷ []) ≡ r.labels ++ l ∷ [] = grown_new r.labels l e in
+    let same : names_with r.labels (l ∷ []) ≡ r.labels ++ l ∷ [] = grown_new r.labels l e in
     let room : has_room_for l (scene_of r) ≡ nat_lt (length r.labels) 256 = ap (λ z. z || nat_lt (length r.labels) 256) (not_among r.labels l 0 e) in
     tells_if (nat_le 256 (length r.labels)) kind.TooManyLabels at (Ok (record r { labels = r.labels ++ l ∷ []; mode = mode.Paren act (label_of_number (length r.labels)) })) N Q
     (λ f. h.0 (room ∙ full 256 (length r.labels) f))
     (λ f. subst (λ (z : List (List ℕ)). Q (record r { labels = z; mode = mode.Paren act (label_of_number (length r.labels)) })) same
     (h.1 (room ∙ fits_in 256 (length r.labels) f) (length r.labels) (ap (λ z. place_of l z) same ∙ place_of_new r.labels l e)))
 
-pub arm_exact : (dia : Dialect) (l : List ℕ) (s : Option Sort) (act : ℕ) (r : Reader_data) (roles all : List (List ℕ)) (last : ℕ) (ts : List Sign) (u : Sign) (N : Type 0) (Q : Reader_data → Type 0) → Stays (grown r.labels (l ∷ [])) all
+pub arm_exact : (dia : Dialect) (l : List ℕ) (s : Option Sort) (act : ℕ) (r : Reader_data) (roles all : List (List ℕ)) (last : ℕ) (ts : List Sign) (u : Sign) (N : Type 0) (Q : Reader_data → Type 0) → Stays (names_with r.labels (l ∷ [])) all
     → Hangs (has_room_for l (scene_of r)) N (Exact (feeding dia) ts u N Q (at_arm r l (numbered roles all last) act s)) → Exact (feeding dia) (arm_signs l s ++ ts) u N Q (record r { mode = mode.AtLabel act })
 arm_exact dia l s act r roles all last ts u N Q stays h = λ a f n.
     let P : Reader_data → Type 0 = λ d. Exact (feeding dia) (open_paren ∷ ((sort_signs s ++ close_paren ∷ dot ∷ []) ++ ts)) u N Q d in
@@ -131,8 +131,8 @@ arm_exact dia l s act r roles all last ts u N Q stays h = λ a f n.
     (labelled_exact (place_of l r.labels) l act a r N P refl (
       h.0,
       λ room k e.
-          sort_exact dia s act (label_of_number k) (record r { labels = grown r.labels (l ∷ []) }) ts u N Q
-          (subst (λ (z : Label). Exact (feeding dia) ts u N Q (record r { labels = grown r.labels (l ∷ []); mode = mode.Body (link.OfArm act z (sort_or_unit s)) })) (label_is roles all last l k (stays l k e)) (h.1 room)),
+          sort_exact dia s act (label_of_number k) (record r { labels = names_with r.labels (l ∷ []) }) ts u N Q
+          (subst (λ (z : Label). Exact (feeding dia) ts u N Q (record r { labels = names_with r.labels (l ∷ []); mode = mode.Body (link.OfArm act z (sort_or_unit s)) })) (label_is roles all last l k (stays l k e)) (h.1 room)),
     ))
 
 -- a single arm behind a head

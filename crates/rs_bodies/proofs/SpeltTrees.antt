@@ -13,18 +13,18 @@ use Rattle.rs_bodies.specs.declared.dialects.Dialect.TheVariants.{Talks, Acts}
 use Rattle.rs_bodies.specs.declared.reading.Link.TheVariants as link
 use Rattle.rs_bodies.specs.declared.reading.Mode.{Mode}
 use Rattle.rs_bodies.specs.declared.reading.Mode.TheVariants as mode
-use Rattle.rs_text.specs.Names.{place_of, is_among, grown, number_or, Bound, differ}
+use Rattle.rs_text.specs.Names.{place_of, is_among, names_with, number_or, Bound, differ}
 use Rattle.rs_text.specs.Signs.{Sign, plain, colon, comma}
 use Rattle.rs_text.proofs.Gaps.{true_or_false}
 use Rattle.rs_text.proofs.Naming.{among, not_among, grown_differ}
 use Rattle.rs_bodies.specs.Data.{Reader_data, Draft_data}
-use Rattle.rs_bodies.specs.Drafts.{settled, settled_arm, settled_target, spelling_read, names_read}
+use Rattle.rs_bodies.specs.Drafts.{point_of_draft, settled_arm, settled_target, spelling_read, names_read}
 use Rattle.rs_bodies.specs.Openings.{Opening, of_roles, of_role, further_signs, line_signs, opening_signs, roles_in}
 use Rattle.rs_bodies.specs.Trees.{Body, ends, again, binds, acts, offers, Branches, one, more, body_signs, ends_by_name, ends_a_name}
 use Rattle.rs_bodies.specs.Graph.{labels_of, acts_in, has_end, Numbering, first_of, arm_of, arms_of}
 use Rattle.rs_bodies.specs.Points.{point_of, points_of, points_of_arms}
 use Rattle.rs_bodies.specs.Spells.{Tree, tree_signs, own_role, OpeningFits, Fits, names_of, numbering, spelling_of}
-use Rattle.rs_bodies.specs.Feeding.{begin, new_role, role_by, is_read, feeding}
+use Rattle.rs_bodies.specs.Feeding.{start_of_part, new_role, role_by, is_read, feeding}
 use Rattle.rs_text.specs.Readings.{fault}
 use Rattle.rs_text.proofs.Leading.{Tells, Exact, tells_if}
 use Rattle.rs_bodies.proofs.SpeltSteps.{target, arms_to, drafts_of, drafts_in}
@@ -45,29 +45,29 @@ arms_are dia m (more l s body arms) bound count = ap (λ z. arm_of m l s z ∷ m
     ∙ ap (λ z. arm_of m l s (first_of dia body bound count m.last) ∷ z) (arms_are dia m arms bound (count + acts_in dia body))
 
 mutual
-  points_are : (dia : Dialect) (m : Numbering) (b : Body dia) (bound : Bound) (count : ℕ) → map (settled m.last) (drafts_of dia m b bound count) ≡ points_of dia m b bound count
+  points_are : (dia : Dialect) (m : Numbering) (b : Body dia) (bound : Bound) (count : ℕ) → map (point_of_draft m.last) (drafts_of dia m b bound count) ≡ points_of dia m b bound count
   points_are dia m ends bound count = refl
   points_are dia m (again x) bound count = refl
   points_are dia m (binds x body) bound count = points_are dia m body ((x, count) ∷ bound) count
-  points_are dia m (acts x y l s body) bound count = ap (λ z. point_of dia m x y (arm_of m l s z ∷ []) ∷ map (settled m.last) (drafts_of dia m body bound (suc count))) (target_is dia body bound (suc count) m.last)
+  points_are dia m (acts x y l s body) bound count = ap (λ z. point_of dia m x y (arm_of m l s z ∷ []) ∷ map (point_of_draft m.last) (drafts_of dia m body bound (suc count))) (target_is dia body bound (suc count) m.last)
       ∙ ap (λ z. point_of dia m x y (arm_of m l s (first_of dia body bound (suc count) m.last) ∷ []) ∷ z) (points_are dia m body bound (suc count))
-  points_are dia m (offers x y arms) bound count = ap (λ z. point_of dia m x y z ∷ map (settled m.last) (drafts_in dia m arms bound (suc count))) (arms_are dia m arms bound (suc count))
+  points_are dia m (offers x y arms) bound count = ap (λ z. point_of dia m x y z ∷ map (point_of_draft m.last) (drafts_in dia m arms bound (suc count))) (arms_are dia m arms bound (suc count))
       ∙ ap (λ z. point_of dia m x y (arms_of dia m arms bound (suc count)) ∷ z) (arm_points_are dia m arms bound (suc count))
 
-  arm_points_are : (dia : Dialect) (m : Numbering) (arms : Branches dia) (bound : Bound) (count : ℕ) → map (settled m.last) (drafts_in dia m arms bound count) ≡ points_of_arms dia m arms bound count
+  arm_points_are : (dia : Dialect) (m : Numbering) (arms : Branches dia) (bound : Bound) (count : ℕ) → map (point_of_draft m.last) (drafts_in dia m arms bound count) ≡ points_of_arms dia m arms bound count
   arm_points_are dia m (one l s body) bound count = points_are dia m body bound count
-  arm_points_are dia m (more l s body arms) bound count = map-append (settled m.last) (drafts_of dia m body bound count) (drafts_in dia m arms bound (count + acts_in dia body))
-      ∙ ap (λ z. z ++ map (settled m.last) (drafts_in dia m arms bound (count + acts_in dia body))) (points_are dia m body bound count) ∙ ap (λ z. points_of dia m body bound count ++ z) (arm_points_are dia m arms bound (count + acts_in dia body))
+  arm_points_are dia m (more l s body arms) bound count = map-append (point_of_draft m.last) (drafts_of dia m body bound count) (drafts_in dia m arms bound (count + acts_in dia body))
+      ∙ ap (λ z. z ++ map (point_of_draft m.last) (drafts_in dia m arms bound (count + acts_in dia body))) (points_are dia m body bound count) ∙ ap (λ z. points_of dia m body bound count ++ z) (arm_points_are dia m arms bound (count + acts_in dia body))
 
 spelling_is : (dia : Dialect) (old : Names_data) (t : Tree dia) (role : Role) (drafts : List Draft_data) (start : Option ℕ) (ended : Bool) → role ≡ own_role dia (numbering dia old t) t.opening → drafts ≡ drafts_of dia (numbering dia old t) t.body [] 0 → start ≡ target dia t.body [] 0 → ended ≡ has_end dia t.body
-    → record { role = role; points = map (settled (length drafts)) drafts; ended = ended; start = settled_target (length drafts) start } ≡ spelling_of dia old t
+    → record { role = role; points = map (point_of_draft (length drafts)) drafts; ended = ended; start = settled_target (length drafts) start } ≡ spelling_of dia old t
 spelling_is dia old t role drafts start ended k d o e =
     let own : Role = own_role dia (numbering dia old t) t.opening in
     let last : ℕ = acts_in dia t.body in
     let size : length drafts ≡ last = ap length d ∙ drafts_count dia (numbering dia old t) t.body [] 0 in
-    let points : map (settled (length drafts)) drafts ≡ points_of dia (numbering dia old t) t.body [] 0 = ap (λ z. map (settled z) drafts) size ∙ ap (λ z. map (settled last) z) d ∙ points_are dia (numbering dia old t) t.body [] 0 in
+    let points : map (point_of_draft (length drafts)) drafts ≡ points_of dia (numbering dia old t) t.body [] 0 = ap (λ z. map (point_of_draft z) drafts) size ∙ ap (λ z. map (point_of_draft last) z) d ∙ points_are dia (numbering dia old t) t.body [] 0 in
     let first : settled_target (length drafts) start ≡ first_of dia t.body [] 0 last = ap (λ z. settled_target z start) size ∙ ap (λ z. settled_target last z) o ∙ target_is dia t.body [] 0 last in
-    ap (λ z. record { role = z; points = map (settled (length drafts)) drafts; ended = ended; start = settled_target (length drafts) start }) k ∙ ap (λ z. record { role = own; points = z; ended = ended; start = settled_target (length drafts) start }) points ∙ ap (λ z. record { role = own; points = points_of dia (numbering dia old t) t.body [] 0; ended = z; start = settled_target (length drafts) start }) e
+    ap (λ z. record { role = z; points = map (point_of_draft (length drafts)) drafts; ended = ended; start = settled_target (length drafts) start }) k ∙ ap (λ z. record { role = own; points = z; ended = ended; start = settled_target (length drafts) start }) points ∙ ap (λ z. record { role = own; points = points_of dia (numbering dia old t) t.body [] 0; ended = z; start = settled_target (length drafts) start }) e
     ∙ ap (λ z. record { role = own; points = points_of dia (numbering dia old t) t.body [] 0; ended = has_end dia t.body; start = z }) first
 
 if_false : (b z : Bool) → z ≡ false → (if b then false else z) ≡ false
@@ -123,14 +123,14 @@ role_known (Some k) x at r N Q e n h = h (among r.roles x 0 k e)
 
 -- an opening leads to its body where it fits
 opening_exact : (dia : Dialect) (old : Names_data) (m : Numbering) (o : Opening dia) (ts : List Sign) (u : Sign) (N : Type 0) (Q : Reader_data → Type 0) → m.names.roles ≡ roles_in dia old o → ((OpeningFits dia old o → ⊥) → N)
-    → (OpeningFits dia old o → (k : Role) → k ≡ own_role dia m o → Exact (feeding dia) ts u N Q (record (begin dia old) { roles = roles_in dia old o; role = k; mode = mode.Body link.Start })) → Exact (feeding dia) (opening_signs dia o ++ ts) u N Q (begin dia old)
-opening_exact Talks old m (of_roles x y xs) ts u N Q same n h = subst (λ (z : List Sign). Exact (feeding Talks) z u N Q (begin Talks old)) (sym (append_assoc (line_signs x (y ∷ xs)) (plain (codes "protocol") ∷ []) ts))
-    (λ a f b. λ a f b. role_exact mode.FirstComma x a (record (begin Talks old) { mode = mode.FirstRole }) N (λ d. Exact (feeding Talks) (comma ∷ plain y ∷ (flat_map further_signs xs ++ plain (codes "protocol") ∷ ts)) u N Q d)
+    → (OpeningFits dia old o → (k : Role) → k ≡ own_role dia m o → Exact (feeding dia) ts u N Q (record (start_of_part dia old) { roles = roles_in dia old o; role = k; mode = mode.Body link.Start })) → Exact (feeding dia) (opening_signs dia o ++ ts) u N Q (start_of_part dia old)
+opening_exact Talks old m (of_roles x y xs) ts u N Q same n h = subst (λ (z : List Sign). Exact (feeding Talks) z u N Q (start_of_part Talks old)) (sym (append_assoc (line_signs x (y ∷ xs)) (plain (codes "protocol") ∷ []) ts))
+    (λ a f b. λ a f b. role_exact mode.FirstComma x a (record (start_of_part Talks old) { mode = mode.FirstRole }) N (λ d. Exact (feeding Talks) (comma ∷ plain y ∷ (flat_map further_signs xs ++ plain (codes "protocol") ∷ ts)) u N Q d)
     (λ e. absurd (cc e)) (λ e. absurd (cc e))
-    (λ _ _. line_exact (y ∷ xs) (record (begin Talks old) { roles = x ∷ [] }) (plain (codes "protocol") ∷ ts) u N Q
+    (λ _ _. line_exact (y ∷ xs) (record (start_of_part Talks old) { roles = x ∷ [] }) (plain (codes "protocol") ∷ ts) u N Q
     (λ e. n (λ f. absurd (cc (sym e ∙ f.0)))) (λ e. n (λ f. let k : length (x ∷ y ∷ xs) ≤ 16 = f.1 in let j : 16 < length (x ∷ y ∷ xs) = e in absurd (omega arith))) refl (omega arith)
     (λ d few. λ a f b. h (d, few) (record { 0 = 0 }) refl)))
-opening_exact Acts old m (of_role x) ts u N Q same n h = λ a f b. λ a f b. role_known (place_of x old.roles) x a (record (begin Acts old) { mode = mode.AtRole }) N (λ d. Exact (feeding Acts) (colon ∷ ts) u N Q d) refl
+opening_exact Acts old m (of_role x) ts u N Q same n h = λ a f b. λ a f b. role_known (place_of x old.roles) x a (record (start_of_part Acts old) { mode = mode.AtRole }) N (λ d. Exact (feeding Acts) (colon ∷ ts) u N Q d) refl
     (λ e. n (λ k. absurd (cc (sym e ∙ k)))) (λ known. λ a f b. h known (record { 0 = number_or (place_of x old.roles) }) (ap (λ z. record { 0 = number_or (place_of x z) }) (sym same)))
 
 -- the reader has read this tree
@@ -140,14 +140,14 @@ pub record IsRead (dia : Dialect) (old : Names_data) (t : Tree dia) (d : Reader_
   pub names : names_read d ≡ names_of dia old t
   pub spelling : spelling_read d ≡ spelling_of dia old t
 
-pub tree_exact : (dia : Dialect) (old : Names_data) (t : Tree dia) (u : Sign) → (ends_by_name dia t.body ≡ true → ends_a_name dia u ≡ true) → Exact (feeding dia) (tree_signs dia t) u (Fits dia old t → ⊥) (IsRead dia old t) (begin dia old)
-tree_exact dia old t u settled =
+pub tree_exact : (dia : Dialect) (old : Names_data) (t : Tree dia) (u : Sign) → (ends_by_name dia t.body ≡ true → ends_a_name dia u ≡ true) → Exact (feeding dia) (tree_signs dia t) u (Fits dia old t → ⊥) (IsRead dia old t) (start_of_part dia old)
+tree_exact dia old t u point_of_draft =
     let N : Type 0 = Fits dia old t → ⊥ in
     let roles : List (List ℕ) = roles_in dia old t.opening in
-    let all : List (List ℕ) = grown old.labels (labels_of dia t.body) in
+    let all : List (List ℕ) = names_with old.labels (labels_of dia t.body) in
     opening_exact dia old (numbering dia old t) t.opening (body_signs dia t.body) u N (IsRead dia old t) refl (λ n f. n f.opening)
-    (λ fit k own. subst (λ (z : List Sign). Exact (feeding dia) z u N (IsRead dia old t) (record (begin dia old) { roles = roles; role = k; mode = mode.Body link.Start })) (append-nil (body_signs dia t.body))
-    (body_exact dia t.body link.Start (record (begin dia old) { roles = roles; role = k }) all (acts_in dia t.body) [] u N (IsRead dia old t) settled (λ name k e. e) (
+    (λ fit k own. subst (λ (z : List Sign). Exact (feeding dia) z u N (IsRead dia old t) (record (start_of_part dia old) { roles = roles; role = k; mode = mode.Body link.Start })) (append-nil (body_signs dia t.body))
+    (body_exact dia t.body link.Start (record (start_of_part dia old) { roles = roles; role = k }) all (acts_in dia t.body) [] u N (IsRead dia old t) point_of_draft (λ name k e. e) (
       (λ e f. absurd (cc (sym e ∙ f.body))),
       (λ good labels drafts start ended bound inner depth g w v x b.
           record { fits = record { opening = fit; body = good }; read = refl; names = ap (λ z. record { roles = roles; labels = z }) g; spelling = spelling_is dia old t k drafts start ended own w v x }),

@@ -9,7 +9,7 @@ use Rattle.rs_text.proofs.Keeping.{tokens}
 use Rattle.rs_text.proofs.Standing.{more_if}
 use Rattle.rs_bodies.specs.Data.{Reader_data}
 use Rattle.rs_bodies.specs.Drafts.{names_read}
-use Rattle.rs_bodies.specs.Feeding.{HasLabels, begin, feeding}
+use Rattle.rs_bodies.specs.Feeding.{HasLabels, start_of_part, feeding}
 use Rattle.rs_bodies.specs.declared.dialects.Dialect.{Dialect}
 use Rattle.rs_bodies.specs.declared.dialects.Dialect.TheVariants.{Talks, Acts}
 use Rattle.rs_bodies.proofs.FirstFaults.{at_end}
@@ -26,10 +26,10 @@ abbrev pub Took : Dialect → Reader_data → List ℕ → ℕ → Reader_data �
 Took Talks o bytes at r now = Unit {0}
 Took Acts o bytes at r now = HasTaken o bytes at r now
 
-first_taken : (o : Reader_data) (bytes : List ℕ) (at : ℕ) → o ≡ begin Acts (names_read o) → HasTaken o bytes at o at
+first_taken : (o : Reader_data) (bytes : List ℕ) (at : ℕ) → o ≡ start_of_part Acts (names_read o) → HasTaken o bytes at o at
 first_taken o bytes at e = record { before = []; lexed = λ ls h. h; follows = subst (λ (z : Reader_data). Follows (names_read o) [] z) (sym e) (follows_first (names_read o)) }
 
-pub took_first : (d : Dialect) (o : Reader_data) (bytes : List ℕ) (at : ℕ) → o ≡ begin d (names_read o) → Took d o bytes at o at
+pub took_first : (d : Dialect) (o : Reader_data) (bytes : List ℕ) (at : ℕ) → o ≡ start_of_part d (names_read o) → Took d o bytes at o at
 took_first Talks o bytes at b = tt
 took_first Acts o bytes at b = first_taken o bytes at b
 

@@ -1,7 +1,7 @@
 -- Believed: the graphs that bodies spell.
 use Rattle.std.specs.Prelude.{◌≡◌, ℕ, List, [], ◌++◌, length, map, true}
 use Rattle.rs_model.specs.Data.{Names_data}
-use Rattle.rs_text.specs.Names.{grown}
+use Rattle.rs_text.specs.Names.{names_with}
 use Rattle.rs_text.specs.Sound.{IsSound}
 use Rattle.rs_bodies.specs.declared.dialects.Dialect.{Dialect}
 use Rattle.rs_bodies.specs.declared.places.Place.{Place}
@@ -15,13 +15,13 @@ use Rattle.rs_bodies.specs.Trees.{Body}
 use Rattle.rs_bodies.specs.Writable.{AreWordsIn}
 
 -- the names that are there behind a body, and the number of its end
-abbrev pub numbered : (d : Dialect) → Names_data → Body d → Numbering
-numbered d old b = record { names = record { roles = old.roles; labels = grown old.labels (labels_of d b) }; last = acts_in d b }
+abbrev pub numbering_behind : (d : Dialect) → Names_data → Body d → Numbering
+numbering_behind d old b = record { names = record { roles = old.roles; labels = names_with old.labels (labels_of d b) }; last = acts_in d b }
 
 -- with these names before it, the body fits, its places are these, and it begins at that number
 pub record SpellsPlaces (d : Dialect) (old : Names_data) (b : Body d) (places : List Place) (start : ℕ) : Type 0 where
   pub fits : body_fits d b (first_scene old.roles old.labels) ≡ true
-  pub places_are : places ≡ map place.Point (points_of d (numbered d old b) b [] 0) ++ end_of (has_end d b)
+  pub places_are : places ≡ map place.Point (points_of d (numbering_behind d old b) b [] 0) ++ end_of (has_end d b)
   pub start_is : start ≡ first_of d b [] 0 (acts_in d b)
 
 -- a body of words spells the places, with so many roles and so many labels before it

@@ -15,8 +15,8 @@ abbrev pub settled_arm : ℕ → DraftArm → Arm
 settled_arm last a = record { label = a.label; sort = a.sort; next = settled_target last a.next }
 
 -- an act that was read, as a state
-abbrev pub settled : ℕ → Draft_data → Point_data
-settled last d = record { head = d.head; arms = map (settled_arm last) d.arms }
+abbrev pub point_of_draft : ℕ → Draft_data → Point_data
+point_of_draft last d = record { head = d.head; arms = map (settled_arm last) d.arms }
 
 -- an act with one more arm
 abbrev pub with_arm : DraftArm → Option Draft_data → List Draft_data → ℕ → List Draft_data
@@ -25,7 +25,7 @@ with_arm arm (Some d) drafts k = slice_set drafts k (record { head = d.head; arm
 
 -- what was read
 abbrev pub spelling_read : Reader_data → Spelling_data
-spelling_read r = record { role = r.role; points = map (settled (length r.drafts)) r.drafts; ended = r.ended; start = settled_target (length r.drafts) r.start }
+spelling_read r = record { role = r.role; points = map (point_of_draft (length r.drafts)) r.drafts; ended = r.ended; start = settled_target (length r.drafts) r.start }
 
 -- the names that were read
 abbrev pub names_read : Reader_data → Names_data

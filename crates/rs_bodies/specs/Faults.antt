@@ -8,7 +8,7 @@ use Rattle.rs_text.specs.declared.faults.TextKind.TheVariants as kind
 use Rattle.rs_text.specs.Faults.{kind_of}
 use Rattle.rs_text.specs.Lexemes.{Lexeme, signs_of}
 use Rattle.rs_text.specs.Lexing.{Lexed}
-use Rattle.rs_text.specs.Names.{grown}
+use Rattle.rs_text.specs.Names.{names_with}
 use Rattle.rs_text.specs.Signs.{Sign, rec_word, end_word, plain, bang, question, comma, open_brace, broken}
 use Rattle.rs_bodies.specs.declared.dialects.Dialect.{Dialect}
 use Rattle.rs_bodies.specs.Spells.{Tree, tree_signs}
@@ -22,9 +22,9 @@ abbrev pub Begins : Dialect → List Sign → Type 0
 Begins d signs = (tree : Tree d) × (rest : List Sign) × (tree_signs d tree ≡ signs ++ rest)
 
 -- the place is within the part, not behind it
-abbrev pub IsWithin : (d : Dialect) → PartCut d → Type 0
-IsWithin d (in_body x body) = IsBehind d body → ⊥
-IsWithin d _ = Unit {0}
+abbrev pub IsInPart : (d : Dialect) → PartCut d → Type 0
+IsInPart d (in_body x body) = IsBehind d body → ⊥
+IsInPart d _ = Unit {0}
 
 -- the place is within the part, or behind a word at its end, which may still be a peer
 abbrev pub EndsByName : (d : Dialect) → Cut d → Type 0
@@ -45,7 +45,7 @@ pub record IsUnexpected (d : Dialect) (before : List Sign) (t : Sign) (wanted : 
   pub whole : IsWhole t
   pub place : PartCut d
   pub stands : part_cut_signs d place ≡ before
-  pub within : IsWithin d place
+  pub within : IsInPart d place
   pub wants : wanted_of d place ≡ wanted
   pub stops : Begins d (before ++ t ∷ []) → ⊥
 
@@ -92,7 +92,7 @@ labels_among here (t ∷ ts) = label_there here t ++ labels_among (opens_arm t) 
 
 -- the names with the labels of these tokens
 abbrev pub names_behind : Names_data → List Sign → Names_data
-names_behind old signs = record { roles = old.roles; labels = grown old.labels (labels_among false signs) }
+names_behind old signs = record { roles = old.roles; labels = names_with old.labels (labels_among false signs) }
 
 -- the first fault leaves the names with the labels of the tokens before it
 abbrev pub LeavesNames : (old new : Names_data) → (bytes : List ℕ) → (at : ℕ) → (kind : TextKind) → (offset : ℕ) → Type 0

@@ -13,7 +13,7 @@ use Rattle.rs_text.specs.Faults.{kind_of}
 use Rattle.rs_model.specs.Data.{Names_data}
 use Rattle.rs_text.specs.Lexemes.{Lexeme, signs_of}
 use Rattle.rs_text.specs.Lexing.{Lexed}
-use Rattle.rs_text.specs.Names.{place_of, is_among, bound_to, grown}
+use Rattle.rs_text.specs.Names.{place_of, is_among, nearest_binding, names_with}
 use Rattle.rs_text.specs.Seen.{plain_text, word_text, is_text, sort_named}
 use Rattle.rs_bodies.specs.declared.dialects.Mark.TheVariants as mark
 use Rattle.rs_text.specs.Signs.{Sign, rec_word, end_word, plain, arrow, bang, question, colon, dot, comma, open_brace, close_brace, open_paren, close_paren, broken}
@@ -49,26 +49,26 @@ first_mode Talks = mode.Roles
 first_mode Acts = mode.Machine
 
 -- nothing was met yet
-abbrev pub begin : Dialect → Names_data → Reader_data
-begin d old = record { roles = first_roles d old; labels = old.labels; role = record { 0 = 0 }; drafts = []; start = None; ended = false; bound = []; depth = 0; frames = []; mode = first_mode d }
+abbrev pub start_of_part : Dialect → Names_data → Reader_data
+start_of_part d old = record { roles = first_roles d old; labels = old.labels; role = record { 0 = 0 }; drafts = []; start = None; ended = false; bound = []; depth = 0; frames = []; mode = first_mode d }
 
 -- the reader goes on in that mode
 abbrev pub in_mode : Mode → Reader_data → Fed
 in_mode m r = Ok (record r { mode = m })
 
 -- what the body that begins here leads to
-abbrev pub linked_start : Link → Option ℕ → Option ℕ → Option ℕ
-linked_start link.Start target start = target
-linked_start (link.OfArm act label sort) target start = start
+abbrev pub start_behind_link : Link → Option ℕ → Option ℕ → Option ℕ
+start_behind_link link.Start target start = target
+start_behind_link (link.OfArm act label sort) target start = start
 
 -- .. where it is the body of an arm
-abbrev pub linked_drafts : Link → Option ℕ → List Draft_data → List Draft_data
-linked_drafts link.Start target drafts = drafts
-linked_drafts (link.OfArm act label sort) target drafts = with_arm (record { label = label; sort = sort; next = target }) (slice_get drafts act) drafts act
+abbrev pub drafts_behind_link : Link → Option ℕ → List Draft_data → List Draft_data
+drafts_behind_link link.Start target drafts = drafts
+drafts_behind_link (link.OfArm act label sort) target drafts = with_arm (record { label = label; sort = sort; next = target }) (slice_get drafts act) drafts act
 
 -- .. be it that of an arm or of the whole part
-abbrev pub linked : Link → Option ℕ → Reader_data → Reader_data
-linked from target r = record r { start = linked_start from target r.start; drafts = linked_drafts from target r.drafts }
+abbrev pub reader_behind_link : Link → Option ℕ → Reader_data → Reader_data
+reader_behind_link from target r = record r { start = start_behind_link from target r.start; drafts = drafts_behind_link from target r.drafts }
 
 -- the roles line
 abbrev pub feed_roles : Sign → ℕ → Reader_data → Fed
@@ -112,19 +112,19 @@ feed_colon colon at r = in_mode (mode.Body link.Start) r
 feed_colon _ at r = expected wanted.Colon at
 
 -- a body
-abbrev pub met_by : Dialect → Option ℕ → Link → ℕ → Reader_data → Fed
-met_by d None from at r = fault kind.UnknownRole at
-met_by d (Some k) from at r = if nat_le (most d) (length r.drafts) then fault kind.TooManyNodes at else in_mode (mode.AtTurn from (record { 0 = k })) r
+abbrev pub feed_head_role : Dialect → Option ℕ → Link → ℕ → Reader_data → Fed
+feed_head_role d None from at r = fault kind.UnknownRole at
+feed_head_role d (Some k) from at r = if nat_le (most d) (length r.drafts) then fault kind.TooManyNodes at else in_mode (mode.AtTurn from (record { 0 = k })) r
 
 -- a recursion name that is bound to act k, or to none
-abbrev pub named : Option ℕ → Link → ℕ → Reader_data → Fed
-named None from at r = fault kind.UnboundName at
-named (Some k) from at r = if nat_lt k (length r.drafts) then in_mode mode.Next (linked from (Some k) r) else fault kind.Unguarded at
+abbrev pub feed_bound_name : Option ℕ → Link → ℕ → Reader_data → Fed
+feed_bound_name None from at r = fault kind.UnboundName at
+feed_bound_name (Some k) from at r = if nat_lt k (length r.drafts) then in_mode mode.Next (reader_behind_link from (Some k) r) else fault kind.Unguarded at
 
 -- a word is a role or a name by the token behind it
 abbrev pub feed_word : Dialect → Link → List ℕ → Sign → (at next : ℕ) → Reader_data → Fed
 feed_word d from word (broken k) at next r = fault (kind_of k) next
-feed_word d from word t at next r = if turns d t then met_by d (place_of word r.roles) from at r else named (bound_to word r.bound) from at r
+feed_word d from word t at next r = if turns d t then feed_head_role d (place_of word r.roles) from at r else feed_bound_name (nearest_binding word r.bound) from at r
 
 -- the word rec
 abbrev pub feed_rec : Link → ℕ → Reader_data → Fed
@@ -133,7 +133,7 @@ feed_rec from at r = if nat_le MOST_NESTING r.depth then fault kind.TooDeep at e
 -- the first token of a body
 abbrev pub feed_body : Dialect → Link → Sign → ℕ → Lexeme → Reader_data → Fed
 feed_body d from rec_word at next r = feed_rec from at r
-feed_body d from end_word at next r = Ok (record (linked from None r) { ended = true; mode = mode.Next })
+feed_body d from end_word at next r = Ok (record (reader_behind_link from None r) { ended = true; mode = mode.Next })
 feed_body d from (plain word) at next r = feed_word d from word next.sign at next.from r
 feed_body d from _ at next r = expected wanted.Body at
 
@@ -148,54 +148,54 @@ feed_rec_dot from dot at r = in_mode (mode.Body from) r
 feed_rec_dot from _ at r = expected wanted.Dot at
 
 -- the new head
-abbrev pub placed : Link → Head → Reader_data → Reader_data
-placed from h r =
-    let l : Reader_data = linked from (Some (length r.drafts)) r in
+abbrev pub reader_at_head : Link → Head → Reader_data → Reader_data
+reader_at_head from h r =
+    let l : Reader_data = reader_behind_link from (Some (length r.drafts)) r in
     record l { drafts = l.drafts ++ record { head = h; arms = [] } ∷ []; mode = mode.AtArms (length r.drafts) }
 
 -- .. where there is room for one more
-abbrev pub headed : Dialect → Link → Head → ℕ → Reader_data → Fed
-headed d from h at r = if nat_le (most d) (length r.drafts) then fault kind.TooManyNodes at else Ok (placed from h r)
+abbrev pub feed_new_head : Dialect → Link → Head → ℕ → Reader_data → Fed
+feed_new_head d from h at r = if nat_le (most d) (length r.drafts) then fault kind.TooManyNodes at else Ok (reader_at_head from h r)
 
 -- at an arrow or a mark that was seen
 abbrev pub feed_turn : Dialect → Link → Role → Sign → ℕ → Reader_data → Fed
 feed_turn Talks from p arrow at r = in_mode (mode.Receiver from p) r
 feed_turn Talks from p _ at r = expected wanted.Role at
-feed_turn Acts from p bang at r = headed Acts from (head.Act p mark.Puts) at r
-feed_turn Acts from p question at r = headed Acts from (head.Act p mark.Takes) at r
+feed_turn Acts from p bang at r = feed_new_head Acts from (head.Act p mark.Puts) at r
+feed_turn Acts from p question at r = feed_new_head Acts from (head.Act p mark.Takes) at r
 feed_turn Acts from p _ at r = expected wanted.Mark at
 
 -- a talk with the receiver of that number
-abbrev pub received_by : Dialect → Option ℕ → Link → Role → ℕ → Reader_data → Fed
-received_by d None from p at r = fault kind.UnknownRole at
-received_by d (Some q) from p at r = headed d from (head.Talk p (record { 0 = q })) at r
+abbrev pub feed_receiver_role : Dialect → Option ℕ → Link → Role → ℕ → Reader_data → Fed
+feed_receiver_role d None from p at r = fault kind.UnknownRole at
+feed_receiver_role d (Some q) from p at r = feed_new_head d from (head.Talk p (record { 0 = q })) at r
 
 -- the receiver's name
 abbrev pub feed_receiver : Dialect → Link → Role → Option (List ℕ) → ℕ → Reader_data → Fed
 feed_receiver d from p None at r = expected wanted.Role at
-feed_receiver d from p (Some word) at r = received_by d (place_of word r.roles) from p at r
+feed_receiver d from p (Some word) at r = feed_receiver_role d (place_of word r.roles) from p at r
 
 -- behind the open brace of an act
-abbrev pub opened : ℕ → Reader_data → Reader_data
-opened act r = record r { depth = suc r.depth; frames = record { act = act; bound = length r.bound; depth = suc r.depth } ∷ r.frames; mode = mode.AtLabel act }
+abbrev pub reader_in_braces : ℕ → Reader_data → Reader_data
+reader_in_braces act r = record r { depth = suc r.depth; frames = record { act = act; bound = length r.bound; depth = suc r.depth } ∷ r.frames; mode = mode.AtLabel act }
 
 -- an open brace
 abbrev pub feed_brace : ℕ → ℕ → Reader_data → Fed
-feed_brace act at r = if nat_le MOST_NESTING r.depth then fault kind.TooDeep at else Ok (opened act r)
+feed_brace act at r = if nat_le MOST_NESTING r.depth then fault kind.TooDeep at else Ok (reader_in_braces act r)
 
 -- the label with that number
 abbrev pub label_of_number : ℕ → Label
 label_of_number k = record { 0 = k }
 
 -- an arm
-abbrev pub labelled_by : Option ℕ → ℕ → List ℕ → ℕ → Reader_data → Fed
-labelled_by (Some k) act word at r = in_mode (mode.Paren act (label_of_number k)) r
-labelled_by None act word at r = if nat_le MOST_LABELS (length r.labels) then fault kind.TooManyLabels at else Ok (record r { labels = r.labels ++ word ∷ []; mode = mode.Paren act (label_of_number (length r.labels)) })
+abbrev pub feed_label_number : Option ℕ → ℕ → List ℕ → ℕ → Reader_data → Fed
+feed_label_number (Some k) act word at r = in_mode (mode.Paren act (label_of_number k)) r
+feed_label_number None act word at r = if nat_le MOST_LABELS (length r.labels) then fault kind.TooManyLabels at else Ok (record r { labels = r.labels ++ word ∷ []; mode = mode.Paren act (label_of_number (length r.labels)) })
 
 -- the label of an arm
 abbrev pub feed_label : ℕ → Wanted → Option (List ℕ) → ℕ → Reader_data → Fed
 feed_label act w None at r = expected w at
-feed_label act w (Some word) at r = labelled_by (place_of word r.labels) act word at r
+feed_label act w (Some word) at r = feed_label_number (place_of word r.labels) act word at r
 
 -- behind a receiver a colon or a brace, behind a mark a label or a brace
 abbrev pub feed_single : Dialect → ℕ → Sign → ℕ → Reader_data → Fed
@@ -214,14 +214,14 @@ feed_paren act label open_paren at r = in_mode (mode.AtSort act label) r
 feed_paren act label _ at r = expected wanted.OpenParen at
 
 -- the sort that a word names, where it names one
-abbrev pub sorted_by : Option Sort → ℕ → Label → ℕ → Reader_data → Fed
-sorted_by None act label at r = expected wanted.SortOrCloseParen at
-sorted_by (Some s) act label at r = in_mode (mode.CloseParen act label s) r
+abbrev pub feed_sort_word : Option Sort → ℕ → Label → ℕ → Reader_data → Fed
+feed_sort_word None act label at r = expected wanted.SortOrCloseParen at
+feed_sort_word (Some s) act label at r = in_mode (mode.CloseParen act label s) r
 
 -- a word where a sort may stand
 abbrev pub sort_word : ℕ → Label → Option (List ℕ) → ℕ → Reader_data → Fed
 sort_word act label None at r = expected wanted.SortOrCloseParen at
-sort_word act label (Some word) at r = sorted_by (sort_named word) act label at r
+sort_word act label (Some word) at r = feed_sort_word (sort_named word) act label at r
 
 -- the sort of an arm, or the close parenthesis where there is none
 abbrev pub feed_sort : ℕ → Label → Sign → ℕ → Reader_data → Fed
@@ -239,14 +239,14 @@ feed_arm_dot act label s dot at r = in_mode (mode.Body (link.OfArm act label s))
 feed_arm_dot act label s _ at r = expected wanted.Dot at
 
 -- behind a body: names and nesting are again as the brace began
-abbrev pub restored : Frame → Reader_data → Reader_data
-restored f r = record r { bound = drop (length r.bound - f.bound) r.bound; depth = f.depth }
+abbrev pub reader_behind_frame : Frame → Reader_data → Reader_data
+reader_behind_frame f r = record r { bound = drop (length r.bound - f.bound) r.bound; depth = f.depth }
 
 -- a token behind a body, where these braces are open
 abbrev pub feed_next : List Frame → Sign → ℕ → Reader_data → Fed
 feed_next [] t at r = expected wanted.PartOrEnd at
-feed_next (f ∷ fs) comma at r = Ok (record (restored f r) { mode = mode.AtLabel f.act })
-feed_next (f ∷ fs) close_brace at r = Ok (record (restored f r) { mode = mode.Next; frames = fs })
+feed_next (f ∷ fs) comma at r = Ok (record (reader_behind_frame f r) { mode = mode.AtLabel f.act })
+feed_next (f ∷ fs) close_brace at r = Ok (record (reader_behind_frame f r) { mode = mode.Next; frames = fs })
 feed_next (f ∷ fs) _ at r = expected wanted.CommaOrCloseBrace at
 
 -- .. where those of the reader are open
@@ -299,19 +299,19 @@ abbrev pub feeding : Dialect → Automaton Reader_data
 feeding d = record { feed = λ t at next r. feed_of d t at next r; is_read = λ r. is_read r }
 
 -- names, what is spelt, and the offset behind them
-pub record Answer : Type 0 where
+pub record PartAnswer : Type 0 where
   pub names : Names_data
   pub spelling : Spelling_data
   pub until : ℕ
 
 -- the answer of a reading, or its fault
-abbrev pub answered : Result (Reading Reader_data) TextFault → Result Answer TextFault
-answered (Err e) = Err e
-answered (Ok x) = Ok (record { names = names_read x.reader; spelling = spelling_read x.reader; until = x.until })
+abbrev pub answer_of_reading : Result (Reading Reader_data) TextFault → Result PartAnswer TextFault
+answer_of_reading (Err e) = Err e
+answer_of_reading (Ok x) = Ok (record { names = names_read x.reader; spelling = spelling_read x.reader; until = x.until })
 
 -- what the tokens of the bytes from `at` on are read as, with the old names
-abbrev pub ReadsAs : Dialect → Names_data → List ℕ → ℕ → Result Answer TextFault → Type 0
-ReadsAs d old bytes at answer = (lexemes : List Lexeme) → Lexed bytes at lexemes → answered (read_all (feeding d) (Ok (begin d old)) lexemes) ≡ answer
+abbrev pub ReadsAs : Dialect → Names_data → List ℕ → ℕ → Result PartAnswer TextFault → Type 0
+ReadsAs d old bytes at answer = (lexemes : List Lexeme) → Lexed bytes at lexemes → answer_of_reading (read_all (feeding d) (Ok (start_of_part d old)) lexemes) ≡ answer
 
 -- what the tokens lead a reader to
 abbrev pub Reads : Dialect → Reader_data → List ℕ → ℕ → Result (Reading Reader_data) TextFault → Type 0
@@ -320,7 +320,7 @@ Reads d r bytes at reading = ReadsBy (feeding d) r bytes at reading
 -- the reader, which began with these labels, has those of some first tokens too
 abbrev pub HasLabels : Dialect → (old labels : List (List ℕ)) → List ℕ → ℕ → Type 0
 HasLabels Talks old labels bytes at = Unit {0}
-HasLabels Acts old labels bytes at = (before : List Lexeme) × (others : List Lexeme) × Lexed bytes at (before ++ others) × (labels ≡ grown old (labels_among false (signs_of before)))
+HasLabels Acts old labels bytes at = (before : List Lexeme) × (others : List Lexeme) × Lexed bytes at (before ++ others) × (labels ≡ names_with old (labels_among false (signs_of before)))
 
 -- the labels that the reader has at the fault, or where memory was refused
 abbrev pub Leaves : Dialect → Stop → Reader_data → List ℕ → ℕ → List (List ℕ) → Type 0

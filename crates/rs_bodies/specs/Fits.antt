@@ -1,7 +1,7 @@
 -- Believed: the names and limits of a body.
 use Rattle.std.specs.Prelude.{ℕ, List, length, true, false, Bool, ◌&&◌, ◌||◌, nat_lt, Option, Some, None}
 use Rattle.rs_model.specs.declared.limits.TheConstants.{MOST_ACTS, MOST_LABELS, MOST_NESTING, MOST_TALKS}
-use Rattle.rs_text.specs.Names.{bound_to, is_among}
+use Rattle.rs_text.specs.Names.{nearest_binding, is_among}
 use Rattle.rs_bodies.specs.declared.dialects.Dialect.{Dialect}
 use Rattle.rs_bodies.specs.declared.dialects.Dialect.TheVariants.{Talks, Acts}
 use Rattle.rs_bodies.specs.Dialects.{Turn, sends_to, with_mark}
@@ -26,7 +26,7 @@ head_fits Acts p (with_mark m) s = is_among p s.roles && nat_lt s.acts MOST_ACTS
 abbrev mutual
   pub body_fits : (d : Dialect) → Body d → Scene → Bool
   body_fits d ends s = true
-  body_fits d (again name) s = is_guarded (bound_to name s.bound) s.acts
+  body_fits d (again name) s = is_guarded (nearest_binding name s.bound) s.acts
   body_fits d (binds name body) s = nat_lt s.depth MOST_NESTING && body_fits d body (in_rec name s)
   body_fits d (acts p t l sort body) s = head_fits d p t s && has_room_for l s && body_fits d body (with_label l (in_act s))
   body_fits d (offers p t arms) s = head_fits d p t s && nat_lt s.depth MOST_NESTING && arms_fit d arms (in_braces s)

@@ -6,7 +6,7 @@ use Rattle.rs_model.specs.declared.graph.Role.{Role}
 use Rattle.rs_model.specs.declared.graph.Label.{Label}
 use Rattle.rs_model.specs.declared.values.Sort.{Sort}
 use Rattle.rs_text.specs.Arms.{sort_or_unit}
-use Rattle.rs_text.specs.Names.{number_or, place_of, Bound, bound_to}
+use Rattle.rs_text.specs.Names.{number_or, place_of, Bound, nearest_binding}
 use Rattle.rs_bodies.specs.declared.dialects.Dialect.{Dialect}
 use Rattle.rs_bodies.specs.Dialects.{Turn}
 use Rattle.rs_bodies.specs.Trees.{Body, ends, again, binds, acts, offers, Branches, one, more}
@@ -54,7 +54,7 @@ abbrev mutual
 -- the first head of its body, and `last` the number of the end, which stands behind all heads
 abbrev pub first_of : (d : Dialect) → Body d → Bound → (count last : ℕ) → ℕ
 first_of d ends bound count last = last
-first_of d (again name) bound count last = number_or (bound_to name bound)
+first_of d (again name) bound count last = number_or (nearest_binding name bound)
 first_of d (binds name body) bound count last = first_of d body ((name, count) ∷ bound) count last
 first_of d (acts p t l sort body) bound count last = count
 first_of d (offers p t arms) bound count last = count

@@ -7,7 +7,7 @@ use Rattle.rs_text.specs.declared.faults.TextKind.TheVariants as kind
 use Rattle.rs_text.specs.declared.faults.Wanted.{Wanted}
 use Rattle.rs_text.specs.declared.faults.Wanted.TheVariants as wanted
 use Rattle.rs_text.specs.Signs.{Sign, rec_word, end_word, plain, open_brace, broken}
-use Rattle.rs_text.specs.Names.{bound_to, is_among}
+use Rattle.rs_text.specs.Names.{nearest_binding, is_among}
 use Rattle.rs_bodies.specs.declared.dialects.Dialect.{Dialect}
 use Rattle.rs_bodies.specs.declared.dialects.Dialect.TheVariants.{Talks, Acts}
 use Rattle.rs_bodies.specs.Dialects.{turns, most}
@@ -42,7 +42,7 @@ fault_of_first d word s = if is_among word s.roles then (if nat_le (most d) s.ac
 -- a word at the start of a body, by the token behind it
 abbrev pub fault_of_word : Dialect → List ℕ → Sign → Scene → Option TextKind
 fault_of_word d word (broken k) s = None
-fault_of_word d word t s = if turns d t then fault_of_first d word s else fault_of_name (bound_to word s.bound) s.acts
+fault_of_word d word t s = if turns d t then fault_of_first d word s else fault_of_name (nearest_binding word s.bound) s.acts
 
 -- the rec or the brace that makes the nesting 201
 abbrev pub fault_of_depth : Scene → Option TextKind

@@ -16,28 +16,28 @@ use Rattle.rs_bodies.specs.Texts.{mark_text, lone_text}
 -- ---- which places are gone back to
 
 -- with a flag at each place that an arm of this place leads to, where it isn't behind the place
-abbrev pub marked : ℕ → List Arm → List Bool → List Bool
-marked n [] flags = flags
-marked n (a ∷ more) flags = marked n more (if nat_le a.next n && nat_lt a.next (length flags) then slice_set flags a.next true else flags)
+abbrev pub flags_behind_arms : ℕ → List Arm → List Bool → List Bool
+flags_behind_arms n [] flags = flags
+flags_behind_arms n (a ∷ more) flags = flags_behind_arms n more (if nat_le a.next n && nat_lt a.next (length flags) then slice_set flags a.next true else flags)
 
 -- .. of what stands at the number n
 abbrev pub marked_place : ℕ → Place → List Bool → List Bool
 marked_place n place.End flags = flags
-marked_place n (place.Point p) flags = marked n p.arms flags
+marked_place n (place.Point p) flags = flags_behind_arms n p.arms flags
 
 -- .. where anything does
-abbrev pub marked_at : ℕ → Option Place → List Bool → List Bool
-marked_at n None flags = flags
-marked_at n (Some p) flags = marked_place n p flags
+abbrev pub flags_behind_place : ℕ → Option Place → List Bool → List Bool
+flags_behind_place n None flags = flags
+flags_behind_place n (Some p) flags = marked_place n p flags
 
 -- the same of all places, of which the first has the number n
-abbrev pub marked_all : ℕ → List Place → List Bool → List Bool
-marked_all n [] flags = flags
-marked_all n (p ∷ places) flags = marked_all (n + 1) places (marked_place n p flags)
+abbrev pub flags_behind_places : ℕ → List Place → List Bool → List Bool
+flags_behind_places n [] flags = flags
+flags_behind_places n (p ∷ places) flags = flags_behind_places (n + 1) places (marked_place n p flags)
 
 -- for each place whether an arm of it or of a later one leads to it
 abbrev pub back_flags : List Place → List Bool
-back_flags places = marked_all 0 places (replicate (length places) false)
+back_flags places = flags_behind_places 0 places (replicate (length places) false)
 
 -- the flags tell which places are gone back to
 abbrev pub AreBack : List Place → List Bool → Type 0
@@ -72,50 +72,50 @@ pub record Brace_data : Type 0 where
   pub arms : List Arm
 
 -- what is written, which braces are opened by it, and which place is to be written next
-pub record Step : Type 0 where
+pub record PrintStep : Type 0 where
   pub written : List ℕ
   pub opened : List Brace_data
   pub next : Option Target
 
 -- the step that writes this, opens these braces and goes on there
-abbrev pub step : List ℕ → List Brace_data → Option Target → Step
+abbrev pub step : List ℕ → List Brace_data → Option Target → PrintStep
 step written opened next = record { written = written; opened = opened; next = next }
 
 -- braces in which these arms are still to be written
-abbrev pub opened : ℕ → List Arm → List Brace_data
-opened from arms = record { from = from; arms = arms } ∷ []
+abbrev pub braces_with : ℕ → List Arm → List Brace_data
+braces_with from arms = record { from = from; arms = arms } ∷ []
 
 -- that place is to be written next
 abbrev pub target : ℕ → ℕ → Option Target
 target from number = Some (record { from = from; number = number })
 
 -- the arms behind a head, where a single one stands behind `lone`: the first one of several opens braces
-abbrev pub arms_step : Names_data → (lone : List ℕ) → ℕ → List Arm → Step
+abbrev pub arms_step : Names_data → (lone : List ℕ) → ℕ → List Arm → PrintStep
 arms_step names lone from [] = step (codes "{}") [] None
 arms_step names lone from (only ∷ []) = step (lone ++ label_text names only) [] (target from only.next)
-arms_step names lone from (a ∷ b ∷ more) = step (codes "{" ++ label_text names a) (opened from (b ∷ more)) (target from a.next)
+arms_step names lone from (a ∷ b ∷ more) = step (codes "{" ++ label_text names a) (braces_with from (b ∷ more)) (target from a.next)
 
 -- a head with its arms
-abbrev pub point_step : Names_data → Bool → ℕ → Head → List Arm → Step
+abbrev pub point_step : Names_data → Bool → ℕ → Head → List Arm → PrintStep
 point_step names back n h arms = let s = arms_step names (lone_text_of h) (n + 1) arms in step ((rec_text back n ++ head_text names h) ++ s.written) s.opened s.next
 
 -- a place that is written whole
-abbrev pub whole_step : Names_data → Bool → ℕ → Option Place → Step
+abbrev pub whole_step : Names_data → Bool → ℕ → Option Place → PrintStep
 whole_step names back n None = step (codes "end") [] None
 whole_step names back n (Some place.End) = step (codes "end") [] None
 whole_step names back n (Some (place.Point p)) = point_step names back n p.head p.arms
 
 -- a place: below `from` by its name
-abbrev pub place_step : Names_data → List Place → List Bool → Target → Step
+abbrev pub place_step : Names_data → List Place → List Bool → Target → PrintStep
 place_step names places flags t = if nat_lt t.number t.from then step (name_of_place t.number) [] None else whole_step names (get_or flags t.number false) t.number (slice_get places t.number)
 
 -- what comes next in open braces: a further arm, or their end
-abbrev further_step : Names_data → ℕ → List Arm → Step
+abbrev further_step : Names_data → ℕ → List Arm → PrintStep
 further_step names from [] = step (codes "}") [] None
-further_step names from (a ∷ more) = step (codes ", " ++ label_text names a) (opened from more) (target from a.next)
+further_step names from (a ∷ more) = step (codes ", " ++ label_text names a) (braces_with from more) (target from a.next)
 
 -- .. in these braces
-abbrev pub brace_step : Names_data → Brace_data → Step
+abbrev pub brace_step : Names_data → Brace_data → PrintStep
 brace_step names brace = further_step names brace.from brace.arms
 
 -- how far the writing has come: the text, the place to be written next, and the open braces, of which the inner ones
@@ -128,18 +128,18 @@ pub record Printer_data : Type 0 where
   pub braces : List Brace_data
 
 -- the printer behind that step
-abbrev pub printed : Step → Printer_data → Printer_data
-printed s p = record p { text = p.text ++ s.written; next = s.next; braces = s.opened ++ p.braces }
+abbrev pub printer_behind : PrintStep → Printer_data → Printer_data
+printer_behind s p = record p { text = p.text ++ s.written; next = s.next; braces = s.opened ++ p.braces }
 
 -- one step on: the next place, or what comes next in the innermost braces
-abbrev pub turned_by : List Place → Option Target → List Brace_data → Printer_data → Printer_data
-turned_by places (Some t) braces p = printed (place_step p.names places p.flags t) p
-turned_by places None (brace ∷ outer) p = printed (brace_step p.names brace) (record p { braces = outer })
-turned_by places None [] p = p
+abbrev pub printer_from : List Place → Option Target → List Brace_data → Printer_data → Printer_data
+printer_from places (Some t) braces p = printer_behind (place_step p.names places p.flags t) p
+printer_from places None (brace ∷ outer) p = printer_behind (brace_step p.names brace) (record p { braces = outer })
+printer_from places None [] p = p
 
 -- .. from where the printer stands
-abbrev pub turned : List Place → Printer_data → Printer_data
-turned places p = turned_by places p.next p.braces p
+abbrev pub next_printer : List Place → Printer_data → Printer_data
+next_printer places p = printer_from places p.next p.braces p
 
 -- whether anything is left to be written
 abbrev pub is_left : Printer_data → Bool

@@ -1,6 +1,6 @@
 -- Believed: what the faults of names and limits hang on.
 use Rattle.std.specs.Prelude.{ℕ, suc, ◌+◌, List, [], ◌∷◌}
-use Rattle.rs_text.specs.Names.{Bound, grown}
+use Rattle.rs_text.specs.Names.{Bound, names_with}
 use Rattle.rs_bodies.specs.declared.dialects.Dialect.{Dialect}
 use Rattle.rs_bodies.specs.Trees.{Body}
 use Rattle.rs_bodies.specs.Graph.{labels_of, acts_in}
@@ -15,7 +15,7 @@ pub record Scene : Type 0 where
 
 -- behind a label
 abbrev pub with_label : List ℕ → Scene → Scene
-with_label l s = record s { labels = grown s.labels (l ∷ []) }
+with_label l s = record s { labels = names_with s.labels (l ∷ []) }
 
 -- within an act
 abbrev pub in_act : Scene → Scene
@@ -31,7 +31,7 @@ in_rec name s = record s { bound = (name, s.acts) ∷ s.bound; depth = suc s.dep
 
 -- behind a body
 abbrev pub behind : (d : Dialect) → Body d → Scene → Scene
-behind d b s = record s { acts = s.acts + acts_in d b; labels = grown s.labels (labels_of d b) }
+behind d b s = record s { acts = s.acts + acts_in d b; labels = names_with s.labels (labels_of d b) }
 
 -- where a body begins
 abbrev pub first_scene : List (List ℕ) → List (List ℕ) → Scene

@@ -42,20 +42,20 @@ abbrev pub ends_last : List Place → Bool
 ends_last places = is_end_at (slice_get places (length places - 1))
 
 -- the number of the end, which is the count of heads
-abbrev pub last_of : List Place → ℕ
-last_of places = if ends_last places then length places - 1 else length places
+abbrev pub number_of_end : List Place → ℕ
+number_of_end places = if ends_last places then length places - 1 else length places
 
 -- a label that is known, or the next new one
-abbrev pub labelled : ℕ → Walk → Option Walk
-labelled l w = if nat_lt l w.labels then Some w else if l == w.labels && nat_lt l MOST_LABELS then Some (record w { labels = suc w.labels }) else None
+abbrev pub walk_behind_label : ℕ → Walk → Option Walk
+walk_behind_label l w = if nat_lt l w.labels then Some w else if l == w.labels && nat_lt l MOST_LABELS then Some (record w { labels = suc w.labels }) else None
 
 -- an arm leads to the end
 abbrev pub to_end : ℕ → ℕ → Walk → Option Walk
 to_end last next w = if next == last then Some (record w { ended = true }) else None
 
 -- an arm leads back to a head before `from`, to the next new head, or to the end
-abbrev pub met : (visit : ℕ → Walk → Option Walk) → (last from next : ℕ) → Walk → Option Walk
-met visit last from next w = if nat_lt next from then Some w else if next == w.count && nat_lt next last then visit next w else to_end last next w
+abbrev pub walk_behind_next : (visit : ℕ → Walk → Option Walk) → (last from next : ℕ) → Walk → Option Walk
+walk_behind_next visit last from next w = if nat_lt next from then Some w else if next == w.count && nat_lt next last then visit next w else to_end last next w
 
 -- the walk goes on where it hasn't failed
 abbrev pub or_none : (Walk → Option Walk) → Option Walk → Option Walk
@@ -63,9 +63,9 @@ or_none f None = None
 or_none f (Some w) = f w
 
 -- the arms of a head, one after the other
-abbrev pub arms_met : (visit : ℕ → Walk → Option Walk) → (last from : ℕ) → List Arm → Walk → Option Walk
-arms_met visit last from [] w = Some w
-arms_met visit last from (a ∷ arms) w = or_none (λ v. or_none (arms_met visit last from arms) (met visit last from a.next v)) (labelled a.label.0 w)
+abbrev pub walk_behind_arms : (visit : ℕ → Walk → Option Walk) → (last from : ℕ) → List Arm → Walk → Option Walk
+walk_behind_arms visit last from [] w = Some w
+walk_behind_arms visit last from (a ∷ arms) w = or_none (λ v. or_none (walk_behind_arms visit last from arms) (walk_behind_next visit last from a.next v)) (walk_behind_label a.label.0 w)
 
 -- no later arm leads back to the head
 abbrev pub closed : List Place → ℕ → Walk → Option Walk
@@ -88,8 +88,8 @@ is_none [] = true
 is_none (a ∷ arms) = false
 
 -- the nesting within a head: a rec where it is gone back to, and braces round more than one arm
-abbrev pub nested : List Place → (depth n : ℕ) → List Arm → ℕ
-nested places depth n arms = deeper (are_more arms) (deeper (leads_from places n n) depth)
+abbrev pub nesting_within : List Place → (depth n : ℕ) → List Arm → ℕ
+nesting_within places depth n arms = deeper (are_more arms) (deeper (leads_from places n n) depth)
 
 -- a head of the dialect, whose roles are below the count
 abbrev pub is_known : Dialect → (roles : ℕ) → Head → Bool
@@ -112,16 +112,16 @@ pub record Outline : Type 0 where
   pub places : List Place
 
 -- a head that a text can have, and what stands behind its arms
-abbrev pub place_met : (visit : ℕ → ℕ → Walk → Option Walk) → Dialect → Outline → (depth n : ℕ) → Walk → Option Place → Option Walk
-place_met visit dia o depth n w None = None
-place_met visit dia o depth n w (Some place.End) = None
-place_met visit dia o depth n w (Some (place.Point p)) =
-    if is_fit dia o.roles (nested o.places depth n p.arms) p then or_none (closed o.places n) (arms_met (visit (nested o.places depth n p.arms)) (last_of o.places) (suc n) p.arms (one_more w)) else None
+abbrev pub walk_behind_place : (visit : ℕ → ℕ → Walk → Option Walk) → Dialect → Outline → (depth n : ℕ) → Walk → Option Place → Option Walk
+walk_behind_place visit dia o depth n w None = None
+walk_behind_place visit dia o depth n w (Some place.End) = None
+walk_behind_place visit dia o depth n w (Some (place.Point p)) =
+    if is_fit dia o.roles (nesting_within o.places depth n p.arms) p then or_none (closed o.places n) (walk_behind_arms (visit (nesting_within o.places depth n p.arms)) (number_of_end o.places) (suc n) p.arms (one_more w)) else None
 
 -- head n and what stands behind its arms
-abbrev pub visited : (fuel : ℕ) → Dialect → Outline → (depth n : ℕ) → Walk → Option Walk
-visited zero dia o depth n w = None
-visited (suc fuel) dia o depth n w = place_met (λ inner next v. visited fuel dia o inner next v) dia o depth n w (slice_get o.places n)
+abbrev pub walk_behind_head : (fuel : ℕ) → Dialect → Outline → (depth n : ℕ) → Walk → Option Walk
+walk_behind_head zero dia o depth n w = None
+walk_behind_head (suc fuel) dia o depth n w = walk_behind_place (λ inner next v. walk_behind_head fuel dia o inner next v) dia o depth n w (slice_get o.places n)
 
 -- both are true, or neither is
 abbrev pub same_bool : Bool → Bool → Bool
@@ -131,43 +131,43 @@ same_bool false b = not b
 -- all heads were met, and an end where there is one
 abbrev pub is_whole : List Place → Option Walk → Bool
 is_whole places None = false
-is_whole places (Some w) = w.count == last_of places && same_bool w.ended (ends_last places)
+is_whole places (Some w) = w.count == number_of_end places && same_bool w.ended (ends_last places)
 
 -- nothing was met yet, and so many labels are known
-abbrev pub begin : ℕ → Walk
-begin labels = record { count = 0; labels = labels; ended = false }
+abbrev pub start_of_walk : ℕ → Walk
+start_of_walk labels = record { count = 0; labels = labels; ended = false }
 
 -- the walk from the place `start` on
 abbrev pub walk_from : Dialect → Outline → (start labels : ℕ) → Option Walk
-walk_from dia o start labels = met (visited (suc (last_of o.places)) dia o 0) (last_of o.places) 0 start (begin labels)
+walk_from dia o start labels = walk_behind_next (walk_behind_head (suc (number_of_end o.places)) dia o 0) (number_of_end o.places) 0 start (start_of_walk labels)
 
 -- whether there are few heads, and the walk meets them all
 abbrev pub is_walked : Dialect → Outline → (start labels : ℕ) → Bool
-is_walked dia o start labels = nat_le (last_of o.places) (most dia) && is_whole o.places (walk_from dia o start labels)
+is_walked dia o start labels = nat_le (number_of_end o.places) (most dia) && is_whole o.places (walk_from dia o start labels)
 
 -- one more than the number of the last place that leads to place k, or 0 where none does
 abbrev pub reach_of : List ℕ → ℕ → ℕ
 reach_of reaches k = get_or reaches k 0
 
 -- the reaches of places, behind the arms of place n
-abbrev pub arms_reached : (n : ℕ) → List Arm → List ℕ → List ℕ
-arms_reached n [] reaches = reaches
-arms_reached n (a ∷ arms) reaches = arms_reached n arms (set reaches a.next (suc n))
+abbrev pub reaches_behind_arms : (n : ℕ) → List Arm → List ℕ → List ℕ
+reaches_behind_arms n [] reaches = reaches
+reaches_behind_arms n (a ∷ arms) reaches = reaches_behind_arms n arms (set reaches a.next (suc n))
 
 -- .. behind place n
-abbrev pub place_reached : (n : ℕ) → Place → List ℕ → List ℕ
-place_reached n place.End reaches = reaches
-place_reached n (place.Point p) reaches = arms_reached n p.arms reaches
+abbrev pub reaches_behind_place : (n : ℕ) → Place → List ℕ → List ℕ
+reaches_behind_place n place.End reaches = reaches
+reaches_behind_place n (place.Point p) reaches = reaches_behind_arms n p.arms reaches
 
 -- .. where there is one
 abbrev pub there_reached : (n : ℕ) → Option Place → List ℕ → List ℕ
 there_reached n None reaches = reaches
-there_reached n (Some x) reaches = place_reached n x reaches
+there_reached n (Some x) reaches = reaches_behind_place n x reaches
 
 -- .. behind these places, which are numbered from n on
-abbrev pub all_reached : (n : ℕ) → List Place → List ℕ → List ℕ
-all_reached n [] reaches = reaches
-all_reached n (x ∷ places) reaches = all_reached (suc n) places (place_reached n x reaches)
+abbrev pub reaches_behind_places : (n : ℕ) → List Place → List ℕ → List ℕ
+reaches_behind_places n [] reaches = reaches
+reaches_behind_places n (x ∷ places) reaches = reaches_behind_places (suc n) places (reaches_behind_place n x reaches)
 
 -- an arm of place `from` or of a later one leads to place k where its reach is greater
 abbrev pub AreReaches : List Place → List ℕ → Type 0
@@ -176,7 +176,7 @@ AreReaches places reaches = (from k : ℕ) → k < length reaches → leads_from
 -- what a walk goes by fits the places
 pub record IsTrailOf (places : List Place) (trail : Trail) : Type 0 where
   pub few : length places ≤ MOST_TALKS + 1
-  pub last : trail.last ≡ last_of places
+  pub last : trail.last ≡ number_of_end places
   pub room : length trail.reaches ≡ MOST_TALKS + 1
   pub reaches : AreReaches places trail.reaches
 

@@ -4,7 +4,7 @@ use Rattle.rs_model.specs.declared.limits.TheConstants.{MOST_ROLES}
 use Rattle.rs_model.specs.Data.{Names_data}
 use Rattle.rs_text.specs.Lexemes.{Lexeme, signs_of}
 use Rattle.rs_text.specs.Lexing.{Lexed}
-use Rattle.rs_text.specs.Names.{is_among, grown, differ}
+use Rattle.rs_text.specs.Names.{is_among, names_with, differ}
 use Rattle.rs_text.specs.Signs.{Sign}
 use Rattle.rs_bodies.specs.declared.dialects.Dialect.{Dialect}
 use Rattle.rs_bodies.specs.declared.dialects.Dialect.TheVariants.{Talks, Acts}
@@ -38,7 +38,7 @@ pub record Fits (d : Dialect) (old : Names_data) (t : Tree d) : Type 0 where
 
 -- the names that were there, with the labels that are new behind them in order of their first places
 abbrev pub names_of : (d : Dialect) → Names_data → Tree d → Names_data
-names_of d old t = record { roles = roles_in d old t.opening; labels = grown old.labels (labels_of d t.body) }
+names_of d old t = record { roles = roles_in d old t.opening; labels = names_with old.labels (labels_of d t.body) }
 
 -- the names that are there behind a tree, and the number of its end
 abbrev pub numbering : (d : Dialect) → Names_data → Tree d → Numbering

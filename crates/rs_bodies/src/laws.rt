@@ -13,14 +13,14 @@ ghost use Rattle.rs_bodies.specs.declared.places.Place.{Place};
 ghost use Rattle.rs_bodies.specs.Bodied.{HasBody, SpellsPlaces};
 ghost use Rattle.rs_bodies.specs.Data.{Spelling_data};
 ghost use Rattle.rs_bodies.specs.Faults.{Begins, FirstFault, IsUnexpected};
-ghost use Rattle.rs_bodies.specs.Feeding.{Answer, ReadsAs};
+ghost use Rattle.rs_bodies.specs.Feeding.{PartAnswer, ReadsAs};
 ghost use Rattle.rs_bodies.specs.Leads.{LeadsInside};
 ghost use Rattle.rs_bodies.specs.Spells.{Spells};
 ghost use Rattle.rs_bodies.specs.Trees.{Body};
 
 /// Whatever is read from a text, the text spells it ..
 pub fn read_text_is_spelt()
-    ensures { (d : Dialect) (old : Names_data) (bytes : List ℕ) (at : ℕ) (answer : Answer) → at ≤ length bytes → ReadsAs d old bytes at (Ok answer) → Spells d bytes at old answer.names answer.spelling answer.until }
+    ensures { (d : Dialect) (old : Names_data) (bytes : List ℕ) (at : ℕ) (answer : PartAnswer) → at ≤ length bytes → ReadsAs d old bytes at (Ok answer) → Spells d bytes at old answer.names answer.spelling answer.until }
 {}
 
 /// .. and whatever a text spells is read from it.

@@ -6,7 +6,7 @@ ghost use Rattle.rs_text.specs.Sound.{IsSound};
 ghost use Rattle.rs_bodies.specs.Dialects.{most};
 ghost use Rattle.rs_bodies.specs.Drafts.{names_read, spelling_read};
 ghost use Rattle.rs_bodies.specs.Faults.{FirstFault, KeepsBy, LeavesBy};
-ghost use Rattle.rs_bodies.specs.Feeding.{begin, feeding, first_roles, HasLabels, Leaves, Reads};
+ghost use Rattle.rs_bodies.specs.Feeding.{start_of_part, feeding, first_roles, HasLabels, Leaves, Reads};
 ghost use Rattle.rs_bodies.specs.Spells.{Spells};
 
 use crate::dialects::Dialect;
@@ -73,7 +73,7 @@ fn read_with<'a>(
 ) -> Result<(Spelling, usize), Stop>
     requires at { at ≤ length bytes.now }
     requires sound { IsSound (names_read reader.old) }
-    requires begun { reader.old ≡ begin dialect (names_read reader.old) }
+    requires begun { reader.old ≡ start_of_part dialect (names_read reader.old) }
     ensures ok { IfOk result (λ r. Reads dialect reader.old bytes.now at (Ok (record { reader = reader.new; until = r.1 }))) }
     ensures spelling { IfOk result (λ r. r.0 ≡ spelling_read reader.new) }
     ensures few { IfOk result (λ r. length r.0.points ≤ most dialect) }
@@ -110,7 +110,7 @@ fn read<'a>(
 ) -> Result<usize, Stop>
     requires at { at ≤ length bytes.now }
     requires sound { IsSound (names_read reader.old) }
-    requires begun { reader.old ≡ begin dialect (names_read reader.old) }
+    requires begun { reader.old ≡ start_of_part dialect (names_read reader.old) }
     ensures ok { IfOk result (λ until. Reads dialect reader.old bytes.now at (Ok (record { reader = reader.new; until = until }))) }
     ensures few { IfOk result (λ until. length reader.new.drafts ≤ most dialect) }
     ensures labels { HasLabels dialect reader.old.labels reader.new.labels bytes.now at }

@@ -1,5 +1,5 @@
 ghost use Rattle.std.specs.Prelude.{◌≡◌, ◌≤◌, length, map, take, IfOk};
-ghost use Rattle.rs_bodies.specs.Drafts.{settled, settled_arm, settled_target};
+ghost use Rattle.rs_bodies.specs.Drafts.{point_of_draft, settled_arm, settled_target};
 
 use crate::dialects::Head;
 use crate::drafts::{Draft, DraftArm};
@@ -53,7 +53,7 @@ pub(crate) fn settled_number(last: u32, target: Option<u32>) -> u32
 /// The heads that were read, where the end has the number `last`.
 pub(crate) fn points(alloc: Global, drafts: &[Draft], last: u32) -> Result<Vec<Point>, NoMemory>
     ensures count { IfOk result (λ points. length points.items ≡ length drafts.now) }
-    ensures points { IfOk result (λ points. points.items ≡ map (settled last) drafts.now) }
+    ensures points { IfOk result (λ points. points.items ≡ map (point_of_draft last) drafts.now) }
 {
     let mut points = Vec::new(alloc);
     for draft in drafts {

@@ -5,7 +5,7 @@ ghost use Rattle.rs_text.specs.Shown.{shown_sort, shown_text};
 ghost use Rattle.rs_bodies.specs.Canonical.{Draws, IsSpelt};
 ghost use Rattle.rs_bodies.specs.Places.{name_of_place};
 ghost use Rattle.rs_bodies.specs.Printing as spec;
-ghost use Rattle.rs_bodies.specs.Printing.{marked, marked_all, head_text, label_text, lone_text_of, rec_text, place_step, point_step, whole_step, arms_step, brace_step};
+ghost use Rattle.rs_bodies.specs.Printing.{flags_behind_arms, flags_behind_places, head_text, label_text, lone_text_of, rec_text, place_step, point_step, whole_step, arms_step, brace_step};
 ghost use Rattle.rs_bodies.specs.Texts as text;
 ghost use Rattle.rs_bodies.specs.Texts.{body_text};
 ghost use Rattle.rs_bodies.specs.Trees.{Body};
@@ -51,7 +51,7 @@ fn gone_back_to<G: Numbered>(alloc: Global, graph: &G) -> Result<Vec<bool>, NoMe
 
 fn mark_all<G: Numbered>(flags: &mut [bool], graph: &G)
     requires { length (G.places graph.now) ≤ MOST_TALKS + 1 }
-    ensures { flags.new ≡ marked_all 0 (G.places graph.now) flags.old }
+    ensures { flags.new ≡ flags_behind_places 0 (G.places graph.now) flags.old }
 {
     let size = graph.size();
     for number in 0..size {
@@ -60,7 +60,7 @@ fn mark_all<G: Numbered>(flags: &mut [bool], graph: &G)
 }
 
 fn mark_place(flags: &mut [bool], place: Option<Place>, number: usize)
-    ensures { flags.new ≡ spec.marked_at number place.entry flags.old }
+    ensures { flags.new ≡ spec.flags_behind_place number place.entry flags.old }
 {
     match place {
         Some(Place::Point(point)) => mark(flags, point.arms, number),
@@ -70,7 +70,7 @@ fn mark_place(flags: &mut [bool], place: Option<Place>, number: usize)
 }
 
 fn mark(flags: &mut [bool], arms: &[Arm], number: usize)
-    ensures { flags.new ≡ marked number arms.now flags.old }
+    ensures { flags.new ≡ flags_behind_arms number arms.now flags.old }
 {
     for arm in arms {
         let next = arm.next as usize;
@@ -226,7 +226,7 @@ impl<'a> Printer<'a> {
 
     /// The first of these arms, or the only one, which stands behind `lone`.
     fn arms(&mut self, lone: &[u8], from: usize, arms: &'a [Arm]) -> Result<(), NoMemory>
-        ensures { OnOk result (self.new ≡ spec.printed (arms_step self.old.names lone.now from arms.now) self.old) }
+        ensures { OnOk result (self.new ≡ spec.printer_behind (arms_step self.old.names lone.now from arms.now) self.old) }
     {
         match arms.split_first() {
             None => {
@@ -247,7 +247,7 @@ impl<'a> Printer<'a> {
     }
 
     fn point(&mut self, number: u32, head: Head, arms: &'a [Arm]) -> Result<(), NoMemory>
-        ensures { OnOk result (self.new ≡ spec.printed (point_step self.old.names (get_or self.old.flags number false) number head arms.now) self.old) }
+        ensures { OnOk result (self.new ≡ spec.printer_behind (point_step self.old.names (get_or self.old.flags number false) number head arms.now) self.old) }
     {
         let back = is_back(self.flags.as_slice(), number as usize);
         push_rec(&mut self.text, back, number)?;
@@ -256,7 +256,7 @@ impl<'a> Printer<'a> {
     }
 
     fn end(&mut self) -> Result<(), NoMemory>
-        ensures { OnOk result (self.new ≡ spec.printed (whole_step self.old.names false 0 None) self.old) }
+        ensures { OnOk result (self.new ≡ spec.printer_behind (whole_step self.old.names false 0 None) self.old) }
     {
         self.text.push(b"end")?;
         self.next = None;
@@ -265,7 +265,7 @@ impl<'a> Printer<'a> {
 
     /// A place that is written whole.
     fn whole(&mut self, number: u32, place: Option<Place<'a>>) -> Result<(), NoMemory>
-        ensures { OnOk result (self.new ≡ spec.printed (whole_step self.old.names (get_or self.old.flags number false) number place.entry) self.old) }
+        ensures { OnOk result (self.new ≡ spec.printer_behind (whole_step self.old.names (get_or self.old.flags number false) number place.entry) self.old) }
     {
         match place {
             Some(Place::Point(PointRef { head, arms })) => self.point(number, head, arms),
@@ -275,7 +275,7 @@ impl<'a> Printer<'a> {
     }
 
     fn place<G: Numbered>(&mut self, graph: &'a G, target: Target) -> Result<(), NoMemory>
-        ensures { OnOk result (self.new ≡ spec.printed (place_step self.old.names (G.places graph.now) self.old.flags target) self.old) }
+        ensures { OnOk result (self.new ≡ spec.printer_behind (place_step self.old.names (G.places graph.now) self.old.flags target) self.old) }
     {
         if (target.number as usize) < target.from {
             push_place_name(&mut self.text, target.number)?;
@@ -287,7 +287,7 @@ impl<'a> Printer<'a> {
 
     /// A further arm in open braces, or their end.
     fn further(&mut self, brace: Brace<'a>) -> Result<(), NoMemory>
-        ensures { OnOk result (self.new ≡ spec.printed (brace_step self.old.names brace.entry) self.old) }
+        ensures { OnOk result (self.new ≡ spec.printer_behind (brace_step self.old.names brace.entry) self.old) }
     {
         match brace.arms.split_first() {
             None => {
@@ -324,7 +324,7 @@ impl<'a> Printer<'a> {
 
     /// Writes one step on.
     fn turn<G: Numbered>(&mut self, graph: &'a G) -> Result<(), NoMemory>
-        ensures state { OnOk result (self.new ≡ spec.turned (G.places graph.now) self.old) }
+        ensures state { OnOk result (self.new ≡ spec.next_printer (G.places graph.now) self.old) }
         ensures size { length self.old.text < 2 ^ 64 }
     {
         let _size = self.text.as_slice().len();

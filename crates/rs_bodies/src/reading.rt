@@ -1,7 +1,7 @@
 ghost use Rattle.std.specs.Prelude.{◌≡◌, ◌≤◌, ◌<◌, ◌+◌, ◌++◌, ◌∷◌, [], length, OnOk, OnErr, IfOk, IfErr, IfSome, IfNone, Some, None, Option, Ok, Err, true, false, drop, reverse, codes, suc, nat_le, if◌then◌else◌};
 ghost use Rattle.std.specs.Option.{option_map};
 ghost use Rattle.rs_model.specs.declared.limits.TheConstants.{MOST_LABELS, MOST_ROLES, MOST_TALKS};
-ghost use Rattle.rs_text.specs.Names.{bound_to, place_of};
+ghost use Rattle.rs_text.specs.Names.{nearest_binding, place_of};
 ghost use Rattle.rs_text.specs.Readings.{feed_sign};
 ghost use Rattle.rs_text.specs.Seen.{plain_text, word_text};
 ghost use Rattle.rs_text.specs.Seen.{is_text};
@@ -147,7 +147,7 @@ impl<'a> Reader<'a> {
         requires roles { length roles.items ≤ MOST_ROLES }
         requires labels { length labels.items ≤ MOST_LABELS }
         requires none { roles.items ≡ spec.first_roles dialect (record { roles = roles.items; labels = labels.items }) }
-        ensures { result ≡ spec.begin dialect (record { roles = roles.items; labels = labels.items }) }
+        ensures { result ≡ spec.start_of_part dialect (record { roles = roles.items; labels = labels.items }) }
     {
         Reader {
             alloc,
@@ -168,7 +168,7 @@ impl<'a> Reader<'a> {
     }
 
     fn link(&mut self, from: Link, target: Option<u32>) -> Result<(), Stop>
-        ensures ok { OnOk result (self.new ≡ spec.linked from target self.old) }
+        ensures ok { OnOk result (self.new ≡ spec.reader_behind_link from target self.old) }
         ensures err { IfErr result (λ e. e ≡ Stop.Memory) }
         ensures kept { OnErr result (names_read self.new ≡ names_read self.old) }
     {
@@ -316,7 +316,7 @@ impl<'a> Reader<'a> {
         first: Option<Role>,
         at: usize,
     ) -> Result<(), Stop>
-        ensures { spec.Feeds result (spec.met_by dialect (option_map (λ role. role.0) first) from at self.old) self.old self.new }
+        ensures { spec.Feeds result (spec.feed_head_role dialect (option_map (λ role. role.0) first) from at self.old) self.old self.new }
     {
         let Some(first) = first else {
             return fault(TextKind::UnknownRole, at);
@@ -329,7 +329,7 @@ impl<'a> Reader<'a> {
     }
 
     fn named(&mut self, from: Link, act: Option<u32>, at: usize) -> Result<(), Stop>
-        ensures { spec.Feeds result (spec.named act from at self.old) self.old self.new }
+        ensures { spec.Feeds result (spec.feed_bound_name act from at self.old) self.old self.new }
     {
         let Some(act) = act else {
             return fault(TextKind::UnboundName, at);
@@ -446,7 +446,7 @@ impl<'a> Reader<'a> {
     }
 
     fn begin_act(&mut self, dialect: Dialect, from: Link, head: Head, at: usize) -> Result<(), Stop>
-        ensures { spec.Feeds result (spec.headed dialect from head at self.old) self.old self.new }
+        ensures { spec.Feeds result (spec.feed_new_head dialect from head at self.old) self.old self.new }
     {
         if self.drafts.len() >= most_heads(dialect) {
             return fault(TextKind::TooManyNodes, at);
@@ -519,7 +519,7 @@ impl<'a> Reader<'a> {
     }
 
     fn new_label(&mut self, act: u32, word: &[u8], at: usize) -> Result<(), Stop>
-        ensures { spec.Feeds result (spec.labelled_by None act word.now at self.old) self.old self.new }
+        ensures { spec.Feeds result (spec.feed_label_number None act word.now at self.old) self.old self.new }
     {
         if self.labels.len() >= MOST_LABELS {
             return fault(TextKind::TooManyLabels, at);
@@ -606,7 +606,7 @@ impl<'a> Reader<'a> {
 
     /// Names and nesting are again as they were where the brace was opened.
     fn restore(&mut self, frame: Frame)
-        ensures { self.new ≡ spec.restored frame self.old }
+        ensures { self.new ≡ spec.reader_behind_frame frame self.old }
     {
         unbind(&mut self.bound, frame.bound);
         self.depth = frame.depth;
@@ -663,7 +663,7 @@ impl<'a> Reader<'a> {
     }
 
     fn end(&mut self, from: Link) -> Result<(), Stop>
-        ensures ok { OnOk result (self.new ≡ record (spec.linked from None self.old) { ended = true; mode = Mode.Next }) }
+        ensures ok { OnOk result (self.new ≡ record (spec.reader_behind_link from None self.old) { ended = true; mode = Mode.Next }) }
         ensures err { IfErr result (λ e. e ≡ Stop.Memory) }
         ensures kept { OnErr result (names_read self.new ≡ names_read self.old) }
     {
@@ -697,7 +697,7 @@ impl<'a> Reader<'a> {
         at: usize,
         next: &TextToken,
     ) -> Result<(), Stop>
-        ensures { spec.Feeds result (if turns dialect next.now.sign then spec.met_by dialect (place_of word.now self.old.roles) from at self.old else spec.named (bound_to word.now self.old.bound) from at self.old) self.old self.new }
+        ensures { spec.Feeds result (if turns dialect next.now.sign then spec.feed_head_role dialect (place_of word.now self.old.roles) from at self.old else spec.feed_bound_name (nearest_binding word.now self.old.bound) from at self.old) self.old self.new }
     {
         if is_turn(dialect, next) {
             let first = role_named(&self.roles, word);

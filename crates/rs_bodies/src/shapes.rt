@@ -49,7 +49,7 @@ fn is_walked<G: Numbered>(graph: &G, dialect: Dialect, roles: u32, labels: u32) 
     if graph.size() > MOST_PLACES {
         return false;
     }
-    let last = last_of(graph);
+    let last = number_of_end(graph);
     if last > most_heads(dialect) {
         return false;
     }
@@ -71,7 +71,7 @@ fn walks<G: Numbered>(graph: &G, trail: &Trail, labels: u32) -> bool
         labels,
         ended: false,
     };
-    let walk = met(graph, trail, trail.last + 1, 0, 0, graph.start(), begin);
+    let walk = walk_behind_next(graph, trail, trail.last + 1, 0, 0, graph.start(), begin);
     is_whole(graph, walk)
 }
 
@@ -81,7 +81,7 @@ fn is_whole<G: Numbered>(graph: &G, walk: Option<Walk>) -> bool
     ensures { result ≡ spec.is_whole (G.places graph.now) walk }
 {
     match walk {
-        Some(walk) => walk.count as usize == last_of(graph)
+        Some(walk) => walk.count as usize == number_of_end(graph)
             && same_bool(walk.ended, ends_last(graph)),
         None => false,
     }
@@ -110,9 +110,9 @@ fn ends_last<G: Numbered>(graph: &G) -> bool
 }
 
 /// The number of the end, which is the count of heads.
-fn last_of<G: Numbered>(graph: &G) -> usize
+fn number_of_end<G: Numbered>(graph: &G) -> usize
     requires few { length (G.places graph.now) ≤ MOST_TALKS + 1 }
-    ensures number { result ≡ spec.last_of (G.places graph.now) }
+    ensures number { result ≡ spec.number_of_end (G.places graph.now) }
     ensures within { result ≤ MOST_TALKS + 1 }
 {
     if ends_last(graph) {
@@ -125,7 +125,7 @@ fn last_of<G: Numbered>(graph: &G) -> usize
 /// For each place one more than the number of the last place that leads to it.
 fn reaches<G: Numbered>(graph: &G) -> [u32; MOST_PLACES]
     requires few { length (G.places graph.now) ≤ MOST_TALKS + 1 }
-    ensures { result ≡ spec.all_reached 0 (G.places graph.now) (replicate (MOST_TALKS + 1) 0) }
+    ensures { result ≡ spec.reaches_behind_places 0 (G.places graph.now) (replicate (MOST_TALKS + 1) 0) }
 {
     let mut reaches = [0; MOST_PLACES];
     for number in 0..graph.size() as u32 {
@@ -146,7 +146,7 @@ fn mark_place(reaches: &mut [u32; MOST_PLACES], number: u32, place: Option<Place
 /// Marks where the arms of a place lead.
 fn mark(reaches: &mut [u32; MOST_PLACES], number: u32, arms: &[Arm])
     requires few { number < MOST_TALKS + 1 }
-    ensures { reaches.new ≡ spec.arms_reached number arms.now reaches.old }
+    ensures { reaches.new ≡ spec.reaches_behind_arms number arms.now reaches.old }
 {
     for arm in arms {
         if (arm.next as usize) < MOST_PLACES {
@@ -163,8 +163,8 @@ fn leads_from(trail: &Trail, from: u32, to: u32) -> bool
     from < trail.reaches[to as usize]
 }
 
-fn labelled(label: u16, walk: Walk) -> Option<Walk>
-    ensures { result ≡ spec.labelled label walk }
+fn walk_behind_label(label: u16, walk: Walk) -> Option<Walk>
+    ensures { result ≡ spec.walk_behind_label label walk }
 {
     let label = u32::from(label);
     if label < walk.labels {
@@ -179,7 +179,7 @@ fn labelled(label: u16, walk: Walk) -> Option<Walk>
     }
 }
 
-fn nested(trail: &Trail, depth: u32, n: u32, arms: &[Arm]) -> u32
+fn nesting_within(trail: &Trail, depth: u32, n: u32, arms: &[Arm]) -> u32
     requires shallow { depth ≤ MOST_NESTING }
     requires there { n < MOST_TALKS + 1 }
     ensures { result ≡ spec.deeper (spec.are_more arms.now) (spec.deeper (nat_lt n (reach_of trail.now.reaches n)) depth) }
@@ -214,7 +214,7 @@ fn is_fit(trail: &Trail, nesting: u32, point: &PointRef) -> bool
 }
 
 #[cycle(walking)]
-fn met<G: Numbered>(
+fn walk_behind_next<G: Numbered>(
     graph: &G,
     trail: &Trail,
     fuel: u32,
@@ -226,12 +226,12 @@ fn met<G: Numbered>(
     requires shallow { depth ≤ MOST_NESTING }
     requires trail { IsTrailOf (G.places graph.now) trail.now }
     requires fuelled { fuel ≤ MOST_TALKS + 2 }
-    ensures { result ≡ spec.met (spec.visited fuel trail.now.dialect (outline (G.places graph.now) trail.now) depth) (spec.last_of (G.places graph.now)) from next walk }
+    ensures { result ≡ spec.walk_behind_next (spec.walk_behind_head fuel trail.now.dialect (outline (G.places graph.now) trail.now) depth) (spec.number_of_end (G.places graph.now)) from next walk }
 {
     if next < from {
         Some(walk)
     } else if next == walk.count && next < trail.last {
-        visited(graph, trail, fuel, depth, next, walk)
+        walk_behind_head(graph, trail, fuel, depth, next, walk)
     } else if next == trail.last {
         Some(Walk {
             ended: true,
@@ -243,7 +243,7 @@ fn met<G: Numbered>(
 }
 
 #[cycle(walking)]
-fn arms_met<G: Numbered>(
+fn walk_behind_arms<G: Numbered>(
     graph: &G,
     trail: &Trail,
     fuel: u32,
@@ -255,18 +255,18 @@ fn arms_met<G: Numbered>(
     requires shallow { depth ≤ MOST_NESTING }
     requires trail { IsTrailOf (G.places graph.now) trail.now }
     requires fuelled { fuel ≤ MOST_TALKS + 2 }
-    ensures { result ≡ spec.arms_met (spec.visited fuel trail.now.dialect (outline (G.places graph.now) trail.now) depth) (spec.last_of (G.places graph.now)) from arms.now walk }
+    ensures { result ≡ spec.walk_behind_arms (spec.walk_behind_head fuel trail.now.dialect (outline (G.places graph.now) trail.now) depth) (spec.number_of_end (G.places graph.now)) from arms.now walk }
 {
     let mut walk = walk;
     for arm in arms {
-        walk = labelled(arm.label.0, walk)?;
-        walk = met(graph, trail, fuel, depth, from, arm.next, walk)?;
+        walk = walk_behind_label(arm.label.0, walk)?;
+        walk = walk_behind_next(graph, trail, fuel, depth, from, arm.next, walk)?;
     }
     Some(walk)
 }
 
 /// No later arm leads back to head `n`.
-fn closed(trail: &Trail, n: u32, walk: Walk) -> Option<Walk>
+fn walk_where_closed(trail: &Trail, n: u32, walk: Walk) -> Option<Walk>
     requires { n < MOST_TALKS + 1 }
     ensures { result ≡ (if nat_lt walk.count (reach_of trail.now.reaches n) then None else Some walk) }
 {
@@ -278,7 +278,7 @@ fn closed(trail: &Trail, n: u32, walk: Walk) -> Option<Walk>
 }
 
 #[cycle(walking)]
-fn point_met<G: Numbered>(
+fn walk_behind_point<G: Numbered>(
     graph: &G,
     trail: &Trail,
     fuel: u32,
@@ -292,9 +292,9 @@ fn point_met<G: Numbered>(
     requires fuelled { fuel ≤ MOST_TALKS + 2 }
     requires counted { walk.count ≤ MOST_TALKS + 1 }
     requires there { n < MOST_TALKS + 1 }
-    ensures { result ≡ spec.place_met (λ inner next v. spec.visited fuel trail.now.dialect (outline (G.places graph.now) trail.now) inner next v) trail.now.dialect (outline (G.places graph.now) trail.now) depth n walk (Some (place.Point point.now)) }
+    ensures { result ≡ spec.walk_behind_place (λ inner next v. spec.walk_behind_head fuel trail.now.dialect (outline (G.places graph.now) trail.now) inner next v) trail.now.dialect (outline (G.places graph.now) trail.now) depth n walk (Some (place.Point point.now)) }
 {
-    let inner = nested(trail, depth, n, point.arms);
+    let inner = nesting_within(trail, depth, n, point.arms);
     if !is_fit(trail, inner, point) {
         return None;
     }
@@ -302,13 +302,13 @@ fn point_met<G: Numbered>(
         count: walk.count + 1,
         ..walk
     };
-    let walk = arms_met(graph, trail, fuel, inner, n + 1, point.arms, begin)?;
-    closed(trail, n, walk)
+    let walk = walk_behind_arms(graph, trail, fuel, inner, n + 1, point.arms, begin)?;
+    walk_where_closed(trail, n, walk)
 }
 
 /// Head `n` and what stands behind its arms.
 #[cycle(walking)]
-fn visited<G: Numbered>(
+fn walk_behind_head<G: Numbered>(
     graph: &G,
     trail: &Trail,
     fuel: u32,
@@ -321,13 +321,15 @@ fn visited<G: Numbered>(
     requires fuelled { fuel ≤ MOST_TALKS + 2 }
     requires counted { walk.count ≤ MOST_TALKS + 1 }
     requires there { n < MOST_TALKS + 1 }
-    ensures { result ≡ spec.visited fuel trail.now.dialect (outline (G.places graph.now) trail.now) depth n walk }
+    ensures { result ≡ spec.walk_behind_head fuel trail.now.dialect (outline (G.places graph.now) trail.now) depth n walk }
 {
     if fuel == 0 {
         return None;
     }
     match graph.place(n) {
-        Some(Place::Point(point)) => { point_met(graph, trail, fuel - 1, depth, n, walk, &point) }
+        Some(Place::Point(point)) => {
+            walk_behind_point(graph, trail, fuel - 1, depth, n, walk, &point)
+        }
         _ => None,
     }
 }

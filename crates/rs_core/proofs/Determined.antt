@@ -6,7 +6,7 @@ use Rattle.rs_core.specs.Configurations.{Configuration, state_at}
 use Rattle.rs_core.specs.Safety.{CanMove, MaySend, MayReceive, AllEnded, IsSafe}
 use Rattle.rs_core.specs.Choices.{AreWellFormed}
 use Rattle.rs_core.specs.Histories.{History}
-use Rattle.rs_core.specs.Actors.{Choice, Behaviour, ChoosesWell, PlaysFrom, Keeps}
+use Rattle.rs_core.specs.Actors.{Choice, Behaviour, ChoosesWell, PlaysFrom, KeepsChoice}
 use Rattle.rs_core.specs.Plain.{Moment, StartsWith, IsAtLimit, LimitedTurn, PassingTurn, Turns, Ending, Ended, Stopped, Stuck, PlainFrom, AllDone, Stops, NoneMoves, GoesOn, IsPlain, Settles, Still, Again, IsStoppedEventually}
 use Rattle.rs_core.specs.Determined.{IsRun, EndsWith, WasStopped, PlainIs}
 use Rattle.rs_core.proofs.Stands.{machine-at}
@@ -42,7 +42,7 @@ module _ {A : Type 0} (b : Behaviour A) where
   }
 
   -- what a role that is Done keeps is nothing
-  keeps-nothing : (m : Machine_data) (s : ℕ) (x y : A) (kept : Option Choice) → slice_get m.states s ≡ Some Done → Keeps b m s x kept y → x ≡ y
+  keeps-nothing : (m : Machine_data) (s : ℕ) (x y : A) (kept : Option Choice) → slice_get m.states s ≡ Some Done → KeepsChoice b m s x kept y → x ≡ y
   keeps-nothing m s x y None d k = k
   keeps-nothing m s x y (Some c) d k = absurd (cc (d, k.2))
 

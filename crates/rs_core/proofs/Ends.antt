@@ -13,7 +13,7 @@ use Rattle.rs_core.specs.Safety.{IsSafe}
 use Rattle.rs_core.specs.Choices.{AreWellFormed}
 use Rattle.rs_core.specs.Histories.{Action, Sent, Got, History}
 use Rattle.rs_core.specs.Actors.{Choice, Behaviour, ChoosesWell, PlaysAction, PlaysFrom}
-use Rattle.rs_core.specs.Plain.{Moment, StartsWith, offered, BySend, ByReceive, HasEnded, Waits, IsAtLimit, LimitedTurn, PassingTurn, Passes, Plays, Turns, Ending, Ended, Stopped, Stuck, PlainFrom, AllDone, Stops, NoneMoves, GoesOn, Settles, Still, Again}
+use Rattle.rs_core.specs.Plain.{Moment, StartsWith, offer_of, BySend, ByReceive, HasEnded, Waits, IsAtLimit, LimitedTurn, PassingTurn, Passes, Plays, Turns, Ending, Ended, Stopped, Stuck, PlainFrom, AllDone, Stops, NoneMoves, GoesOn, Settles, Still, Again}
 use Rattle.rs_core.proofs.Items.{put_at, put_at-same, put_at-other}
 use Rattle.rs_core.proofs.Moves.{after_send, after_receive, send-step, receive-step}
 use Rattle.rs_core.proofs.Nexts.{find}
@@ -65,19 +65,19 @@ module _ {A : Type 0} (b : Behaviour A) where
   unfolding send-step
   can-send ms actors limit p l m peer arms given s is st less =
       let g = s.going p m is in
-      let choice : Choice = (offered b (l.actor p) (l.kept p) arms).0 in
-      let now : A = (offered b (l.actor p) (l.kept p) arms).1 in
-      let o = offer-is b m (l.at.at p) g.before (l.actor p) (offered b (l.actor p) (l.kept p) arms).1 (l.kept p) peer arms (offered b (l.actor p) (l.kept p) arms).0 g.keeps st refl in
+      let choice : Choice = (offer_of b (l.actor p) (l.kept p) arms).0 in
+      let now : A = (offer_of b (l.actor p) (l.kept p) arms).1 in
+      let o = offer-is b m (l.at.at p) g.before (l.actor p) (offer_of b (l.actor p) (l.kept p) arms).1 (l.kept p) peer arms (offer_of b (l.actor p) (l.kept p) arms).0 g.keeps st refl in
       let fits = (given.wf.fits p m is).puts (l.at.at p) peer arms st in
       let good = given.well g.before arms fits.some in
-      let picks : slice_get arms (offered b (l.actor p) (l.kept p) arms).0.0 ≡ Some good.0 = ap (λ (z : Choice). slice_get arms z.0) (sym o.0) ∙ good.1 in
+      let picks : slice_get arms (offer_of b (l.actor p) (l.kept p) arms).0.0 ≡ Some good.0 = ap (λ (z : Choice). slice_get arms z.0) (sym o.0) ∙ good.1 in
       let P : Choice → Type 0 = λ z. HasSort z.1 good.0.sort in
       let has = subst P o.0 good.2 in
-      sending ms limit p l peer arms good.0 (offered b (l.actor p) (l.kept p) arms).0 (offered b (l.actor p) (l.kept p) arms).1 (state-of ms l.at p m (Puts peer arms) is st) picks has refl less
+      sending ms limit p l peer arms good.0 (offer_of b (l.actor p) (l.kept p) arms).0 (offer_of b (l.actor p) (l.kept p) arms).1 (state-of ms l.at p m (Puts peer arms) is st) picks has refl less
     where
       sending : (ms : List Machine_data) (limit p : ℕ) (l : Moment A) (peer : Role) (arms : List Arm) (arm : Arm) (choice : Choice) (now : A)
           → state_at ms l.at p ≡ Some (Puts peer arms) → slice_get arms choice.0 ≡ Some arm → HasSort choice.1 arm.sort
-          → offered b (l.actor p) (l.kept p) arms ≡ (choice, now) → length (l.history p) < limit → CanTurn ms limit p l
+          → offer_of b (l.actor p) (l.kept p) arms ≡ (choice, now) → length (l.history p) < limit → CanTurn ms limit p l
       sending ms limit p l peer arms arm choice now puts picks has offers less =
           let k : Moment A = record {
             at = after_send l.at p peer arm choice.1;

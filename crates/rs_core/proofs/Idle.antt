@@ -7,7 +7,7 @@ use Rattle.rs_model.specs.declared.machines.State.TheVariants.{Takes}
 use Rattle.rs_core.specs.Safety.{CanMove, MaySend, MayReceive}
 use Rattle.rs_core.specs.Histories.{Action, Sent, Got}
 use Rattle.rs_core.specs.Actors.{Behaviour}
-use Rattle.rs_core.specs.Plain.{Moment, Acts, BySend, ByReceive, Rests, HasEnded, Waits, FindsFull, Turn, LimitedTurn, PassingTurn, Passes, Plays, Turns}
+use Rattle.rs_core.specs.Plain.{Moment, Acts, BySend, ByReceive, Rests, HasEnded, Waits, FindsFull, PlainTurn, LimitedTurn, PassingTurn, Passes, Plays, Turns}
 use Rattle.rs_core.proofs.Stories.{Histories}
 
 -- the number of acts of the roles below n
@@ -100,7 +100,7 @@ module _ {A : Type 0} (b : Behaviour A) where
   none-grows : (n : ℕ) (l k : Moment A) → ((r : ℕ) → k.history r ≡ l.history r) → Grows n l k false
   none-grows n l k same = record { all = λ r. let e = ap length (same r) in omega arith; one = λ m. absurd (cc (m)) }
 
-  turn-grows : (ms : List Machine_data) (room : Option ℕ) (n p : ℕ) (l k : Moment A) (moved : Bool) → p < n → Turn ms b room p l k moved → Grows n l k moved
+  turn-grows : (ms : List Machine_data) (room : Option ℕ) (n p : ℕ) (l k : Moment A) (moved : Bool) → p < n → PlainTurn ms b room p l k moved → Grows n l k moved
   turn-grows ms room n p l k true hp t = acts t
     where
       acts : Acts ms b room p l k → Grows n l k true

@@ -9,7 +9,7 @@ use Rattle.rs_core.specs.Actors.{Choice, Behaviour}
 use Rattle.rs_core.specs.Configurations.{Configuration, state_of, state_at}
 use Rattle.rs_core.specs.Core.{Core_data, configuration_of}
 use Rattle.rs_core.specs.Histories.{Action, Sent, Got, History, entry_of, transcript_of}
-use Rattle.rs_core.specs.Plain.{Moment, offered, OthersStay, BySend, ByReceive, HasEnded, Waits, FindsFull, IsAtLimit, LimitedTurn, Turns}
+use Rattle.rs_core.specs.Plain.{Moment, offer_of, OthersStay, BySend, ByReceive, HasEnded, Waits, FindsFull, IsAtLimit, LimitedTurn, Turns}
 use Rattle.rs_core.specs.Runs.{ArePlayers, Matches, acts_of, AreReady, SoFar, HasRound}
 use Rattle.rs_core.specs.Turns.{CanChoose, KeepsWell, HasMoved, HasSent, HasGot, TurnTells}
 use Rattle.rs_core.specs.declared.players.Player.{Player}
@@ -93,8 +93,8 @@ module _ {A : Type 0} (b : Behaviour A) where
       → ArePlayers (length c.machines) h f o xs → slice_get xs p ≡ Some x → length x.transcript < limit → HasMoved b capacity c x p d y → d.machines ≡ c.machines
       → IsTurn c.machines limit capacity (moment c h f o) p d (slice_set xs p y) true
   moved limit capacity c d h f o xs p x y s is less (HasSent t) same =
-      let off : offered b (f p) (o p) t.step.arms ≡ (t.choice, y.actor) =
-      ap (λ (z : Option Choice). offered b (f p) z t.step.arms) (s.kept p x is) ∙ ap (λ (z : A). offered b z x.kept t.step.arms) (s.actor p x is) ∙ t.offers in
+      let off : offer_of b (f p) (o p) t.step.arms ≡ (t.choice, y.actor) =
+      ap (λ (z : Option Choice). offer_of b (f p) z t.step.arms) (s.kept p x is) ∙ ap (λ (z : A). offer_of b z x.kept t.step.arms) (s.actor p x is) ∙ t.offers in
       let hp : History = h p ++ (Sent t.step.peer t.step.arm.label t.choice.1 ∷ []) in
       let a : Action = Sent t.step.peer t.step.arm.label t.choice.1 in
       let e : transcript_of (h p ++ (Sent t.step.peer t.step.arm.label t.choice.1 ∷ [])) ≡ y.transcript =
@@ -155,8 +155,8 @@ module _ {A : Type 0} (b : Behaviour A) where
   turned-from limit capacity c d h f o xs p x y turned.Full flag s is e t =
       let P : Bool → Type 0 = λ z. IsTurn c.machines limit capacity (moment c h f o) p d (slice_set xs p y) z in
       let k = t.1 in
-      let off : offered b (f p) (o p) k.can.arms ≡ (k.choice, y.actor) =
-      ap (λ (z : Option Choice). offered b (f p) z k.can.arms) (s.kept p x is) ∙ ap (λ (z : A). offered b z x.kept k.can.arms) (s.actor p x is) ∙ k.offers in
+      let off : offer_of b (f p) (o p) k.can.arms ≡ (k.choice, y.actor) =
+      ap (λ (z : Option Choice). offer_of b (f p) z k.can.arms) (s.kept p x is) ∙ ap (λ (z : A). offer_of b z x.kept k.can.arms) (s.actor p x is) ∙ k.offers in
       subst P (sym e) (
         moment c (put_at h p (h p)) (put_at f p y.actor) (put_at o p y.kept),
         record {

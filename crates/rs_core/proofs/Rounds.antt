@@ -9,8 +9,8 @@ use Rattle.rs_model.specs.declared.machines.State.{State}
 use Rattle.rs_model.specs.declared.machines.State.TheVariants.{Done, Puts, Takes}
 use Rattle.rs_core.specs.Configurations.{Configuration, Send, Receive, state_at}
 use Rattle.rs_core.specs.Histories.{Action, Sent, Got, History}
-use Rattle.rs_core.specs.Actors.{Choice, Behaviour, PlaysSent, PlaysGot, PlaysFrom, Keeps}
-use Rattle.rs_core.specs.Plain.{Moment, StartsWith, offered, OthersStay, TurnSends, TurnReceives, TurnKeeps, Acts, BySend, ByReceive, Rests, HasEnded, Waits, FindsFull, IsAtLimit, LimitedTurn, PassingTurn, Passes, Plays, Turns}
+use Rattle.rs_core.specs.Actors.{Choice, Behaviour, PlaysSent, PlaysGot, PlaysFrom, KeepsChoice}
+use Rattle.rs_core.specs.Plain.{Moment, StartsWith, offer_of, OthersStay, TurnSends, TurnReceives, TurnKeeps, Acts, BySend, ByReceive, Rests, HasEnded, Waits, FindsFull, IsAtLimit, LimitedTurn, PassingTurn, Passes, Plays, Turns}
 use Rattle.rs_core.proofs.Stands.{machine-at, numbered}
 use Rattle.rs_core.proofs.Stories.{Told, no-histories, story-same, story-snoc}
 use Rattle.rs_core.proofs.Played.{plays-join}
@@ -20,7 +20,7 @@ module _ {A : Type 0} (b : Behaviour A) where
   pub record Going (m : Machine_data) (actor : A) (h : History) (s : ℕ) (kept : Option Choice) (now : A) : Type 0 where
     pub before : A
     pub plays : PlaysFrom b m m.start actor h s before
-    pub keeps : Keeps b m s before kept now
+    pub keeps : KeepsChoice b m s before kept now
 
   -- what holds at a moment: the histories are those of a run, the actors play them, and none is above the limit
   pub record Sound (ms : List Machine_data) (actors : ℕ → A) (limit : ℕ) (l : Moment A) : Type 0 where
@@ -34,14 +34,14 @@ module _ {A : Type 0} (b : Behaviour A) where
     going = λ p m is.
         let h : PlaysFrom b m m.start (actors p) [] (l.at.at p) (actors p) = (sym (s.at.states p m is), refl) in
         let P : History → Type 0 = λ z. PlaysFrom b m m.start (actors p) z (l.at.at p) (actors p) in
-        let Q : Option Choice → Type 0 = λ z. Keeps b m (l.at.at p) (actors p) z (l.actor p) in
+        let Q : Option Choice → Type 0 = λ z. KeepsChoice b m (l.at.at p) (actors p) z (l.actor p) in
         record { before = actors p; plays = subst P (sym (s.history p)) h; keeps = subst Q (sym (s.kept p)) (sym (s.actor p)) };
     few = λ p. rw (s.history p) (omega arith);
   }
 
   -- what is offered is what the actor chooses after its history
-  pub offer-is : (m : Machine_data) (s : ℕ) (x y z : A) (kept : Option Choice) (peer : Role) (arms : List Arm) (choice : Choice) → Keeps b m s x kept y
-      → slice_get m.states s ≡ Some (Puts peer arms) → offered b y kept arms ≡ (choice, z) → (b.chooses x arms ≡ choice) × (b.asked x arms ≡ z)
+  pub offer-is : (m : Machine_data) (s : ℕ) (x y z : A) (kept : Option Choice) (peer : Role) (arms : List Arm) (choice : Choice) → KeepsChoice b m s x kept y
+      → slice_get m.states s ≡ Some (Puts peer arms) → offer_of b y kept arms ≡ (choice, z) → (b.chooses x arms ≡ choice) × (b.asked x arms ≡ z)
   offer-is m s x y z None peer arms choice k st o =
       (ap (λ (w : A). b.chooses w arms) k ∙ ap (λ (w : Choice × A). w.0) o, ap (λ (w : A). b.asked w arms) k ∙ ap (λ (w : Choice × A). w.1) o)
   offer-is m s x y z (Some c) peer arms choice k st o =
@@ -52,7 +52,7 @@ module _ {A : Type 0} (b : Behaviour A) where
       )
 
   -- a role that receives keeps nothing
-  pub keeps-none : (m : Machine_data) (s : ℕ) (x y : A) (kept : Option Choice) (peer : Role) (arms : List Arm) → Keeps b m s x kept y
+  pub keeps-none : (m : Machine_data) (s : ℕ) (x y : A) (kept : Option Choice) (peer : Role) (arms : List Arm) → KeepsChoice b m s x kept y
       → slice_get m.states s ≡ Some (Takes peer arms) → (kept ≡ None) × (x ≡ y)
   keeps-none m s x y None peer arms k st = (refl, k)
   keeps-none m s x y (Some c) peer arms k st = absurd (cc (k.2, st))
@@ -63,8 +63,8 @@ module _ {A : Type 0} (b : Behaviour A) where
   others-go ms actors limit p q l k m s o ne at is =
       let g = s.going q m is in
       let P : History → ℕ → Type 0 = λ h i. PlaysFrom b m m.start (actors q) h i g.before in
-      let K : ℕ → Option Choice → Type 0 = λ i c. Keeps b m i g.before c (l.actor q) in
-      let L : A → Type 0 = λ y. Keeps b m (k.at.at q) g.before (k.kept q) y in
+      let K : ℕ → Option Choice → Type 0 = λ i c. KeepsChoice b m i g.before c (l.actor q) in
+      let L : A → Type 0 = λ y. KeepsChoice b m (k.at.at q) g.before (k.kept q) y in
       record {
         before = g.before;
         plays = subst₂ P (sym (o.history q ne)) (sym at) g.plays;
@@ -118,7 +118,7 @@ module _ {A : Type 0} (b : Behaviour A) where
           let a : Action = Sent t.step.peer t.step.arm.label t.choice.1 in
           let h = plays-join b m m.start (actors p) (l.history p) (Sent t.step.peer t.step.arm.label t.choice.1 ∷ []) (l.at.at p) (k.at.at p) g.before (k.actor p) g.plays (k.at.at p, k.actor p, one, (refl, refl)) in
           let P : History → Type 0 = λ z. PlaysFrom b m m.start (actors p) z (k.at.at p) (k.actor p) in
-          let Q : Option Choice → Type 0 = λ z. Keeps b m (k.at.at p) (k.actor p) z (k.actor p) in
+          let Q : Option Choice → Type 0 = λ z. KeepsChoice b m (k.at.at p) (k.actor p) z (k.actor p) in
           record { before = k.actor p; plays = subst P (sym t.history) h; keeps = subst Q (sym t.kept) refl }
 
   sound-receive : (ms : List Machine_data) (actors : ℕ → A) (limit p : ℕ) (l k : Moment A) → Sound ms actors limit l → length (l.history p) < limit
@@ -152,7 +152,7 @@ module _ {A : Type 0} (b : Behaviour A) where
           } in
           let h = plays-join b m m.start (actors p) (l.history p) (Got t.step.peer t.step.message.label t.step.message.value ∷ []) (l.at.at p) (k.at.at p) g.before (k.actor p) g.plays (k.at.at p, k.actor p, one, (refl, refl)) in
           let P : History → Type 0 = λ z. PlaysFrom b m m.start (actors p) z (k.at.at p) (k.actor p) in
-          let Q : Option Choice → Type 0 = λ z. Keeps b m (k.at.at p) (k.actor p) z (k.actor p) in
+          let Q : Option Choice → Type 0 = λ z. KeepsChoice b m (k.at.at p) (k.actor p) z (k.actor p) in
           record { before = k.actor p; plays = subst P (sym t.history) h; keeps = subst Q (sym (t.kept ∙ n.0)) refl }
 
   sound-keep : (ms : List Machine_data) (actors : ℕ → A) (limit : ℕ) (room : Option ℕ) (p : ℕ) (l k : Moment A) → Sound ms actors limit l
@@ -178,7 +178,7 @@ module _ {A : Type 0} (b : Behaviour A) where
           let o = offer-is m (l.at.at p) g.before (l.actor p) (k.actor p) (l.kept p) t.peer t.arms t.choice g.keeps st t.offers in
           let at : k.at.at p ≡ l.at.at p = ap (λ (z : Configuration). z.at p) t.at in
           let P : History → ℕ → Type 0 = λ z i. PlaysFrom b m m.start (actors p) z i g.before in
-          let K : ℕ → Option Choice → Type 0 = λ i c. Keeps b m i g.before c (k.actor p) in
+          let K : ℕ → Option Choice → Type 0 = λ i c. KeepsChoice b m i g.before c (k.actor p) in
           record { before = g.before; plays = subst₂ P (sym t.history) (sym at) g.plays; keeps = subst₂ K (sym at) (sym t.kept) (t.peer, t.arms, st, o.0, o.1) }
 
   -- a role that makes an act and isn't at its limit has made fewer

@@ -11,7 +11,7 @@ use Rattle.rs_core.specs.Choices.{AreWellFormed}
 use Rattle.rs_core.specs.Configurations.{Configuration, StartsAt, state_at}
 use Rattle.rs_core.specs.Core.{Core_data, configuration_of}
 use Rattle.rs_core.specs.Plain.{Moment, LimitedTurn, Turns, Ending, Ended, Stopped, Stuck, AllDone, Stops, NoneMoves, GoesOn, PlainFrom, IsPlain, FirstFull}
-use Rattle.rs_core.specs.Runs.{ArePlayers, Matches, acts_of, HasRound, NoneSends, IsFirstSender, EndTells, IsAmong, IsGiven, RoundTells, Shows, RunSoFar}
+use Rattle.rs_core.specs.Runs.{ArePlayers, Matches, acts_of, HasRound, NoneSends, IsFirstSender, EndTells, IsAmong, IsGiven, RoundTells, EndShows, RunSoFar}
 use Rattle.rs_core.specs.Safety.{IsSafe}
 use Rattle.rs_core.specs.declared.players.Player.{Player}
 use Rattle.rs_core.specs.declared.playing.End.{End}
@@ -106,7 +106,7 @@ module _ {A : Type 0} (b : Behaviour A) where
       subst₂ P (sym m.machines) (sym m.at) puts
 
   all-ended : (ms : List Machine_data) (limit : ℕ) (capacity : Option ℕ) (given : ℕ → A) (d : Core_data) (ys : List (Player A)) → ChoosesWell b → IsSafe ms → AreWellFormed ms → Idled ms limit capacity given d ys
-      → NoneSends d (length d.machines) → (o : Ending A) × IsPlain ms b given limit capacity o × Shows ms capacity o end.Ended ys
+      → NoneSends d (length d.machines) → (o : Ending A) × IsPlain ms b given limit capacity o × EndShows ms capacity o end.Ended ys
   all-ended ms limit capacity given d ys well safe wf i none = elim (all-done b ms i.before (length ms)) [
     | inl all ↦ (
         let still = done-turns b ms limit capacity (length ms) 0 i.before i.after false refl i.turns (λ r low high. all r (omega arith) (omega arith)) in
@@ -121,7 +121,7 @@ module _ {A : Type 0} (b : Behaviour A) where
   ]
 
   at-full : (ms : List Machine_data) (limit : ℕ) (capacity : Option ℕ) (given : ℕ → A) (d : Core_data) (ys : List (Player A)) (sender receiver : Role) → ChoosesWell b → IsSafe ms → AreWellFormed ms → Idled ms limit capacity given d ys
-      → IsFirstSender d sender.0 receiver → (o : Ending A) × IsPlain ms b given limit capacity o × Shows ms capacity o (end.Full sender receiver) ys
+      → IsFirstSender d sender.0 receiver → (o : Ending A) × IsPlain ms b given limit capacity o × EndShows ms capacity o (end.Full sender receiver) ys
   at-full ms limit capacity given d ys sender receiver well safe wf i first =
       let P : List Machine_data → Configuration → Type 0 = λ z w. state_at z w sender.0 ≡ Some (Puts receiver first.arms) in
       let puts : state_at ms i.after.at sender.0 ≡ Some (Puts receiver first.arms) = subst₂ P i.matches.machines i.matches.at first.puts in
@@ -153,7 +153,7 @@ module _ {A : Type 0} (b : Behaviour A) where
 
   pub run-ends : (ms : List Machine_data) (limit : ℕ) (capacity : Option ℕ) (xs0 : List A) (c d : Core_data) (xs ys : List (Player A)) (e : End) → ChoosesWell b → IsSafe ms → AreWellFormed ms
       → RunSoFar b ms limit capacity xs0 c xs → HasRound b limit capacity c xs d ys rounded.Idle → EndTells d e
-      → (given : ℕ → A) → IsGiven given xs0 → (o : Ending A) × IsPlain ms b given limit capacity o × Shows ms capacity o e ys
+      → (given : ℕ → A) → IsGiven given xs0 → (o : Ending A) × IsPlain ms b given limit capacity o × EndShows ms capacity o e ys
   run-ends ms limit capacity xs0 c d xs ys end.Ended well safe wf s r t given is = all-ended ms limit capacity given d ys well safe wf (idled ms limit capacity xs0 c d xs ys s r given is) t
   run-ends ms limit capacity xs0 c d xs ys (end.Stopped role) well safe wf s r t given is = absurd (t)
   run-ends ms limit capacity xs0 c d xs ys (end.Full sender receiver) well safe wf s r t given is = at-full ms limit capacity given d ys sender receiver well safe wf (idled ms limit capacity xs0 c d xs ys s r given is) t
@@ -170,7 +170,7 @@ module _ {A : Type 0} (b : Behaviour A) where
       (omega (arith, e), ((peered ms wf).puts sender.0 at.0 ((configuration_of d).at sender.0) receiver t.arms at.1 at.2).0)
 
   pub run-stops : (ms : List Machine_data) (limit : ℕ) (capacity : Option ℕ) (xs0 : List A) (c d : Core_data) (xs ys : List (Player A)) (role : Role) → RunSoFar b ms limit capacity xs0 c xs
-      → HasRound b limit capacity c xs d ys (rounded.Stopped role) → (given : ℕ → A) → IsGiven given xs0 → (o : Ending A) × IsPlain ms b given limit capacity o × Shows ms capacity o (end.Stopped role) ys
+      → HasRound b limit capacity c xs d ys (rounded.Stopped role) → (given : ℕ → A) → IsGiven given xs0 → (o : Ending A) × IsPlain ms b given limit capacity o × EndShows ms capacity o (end.Stopped role) ys
   run-stops ms limit capacity xs0 c d xs ys role s r given is =
       let m = s.runs given is in
       let P : List Machine_data → Type 0 = λ z. Matches z m.0 c xs → RoundTells z b limit capacity m.0 d ys (rounded.Stopped role) in

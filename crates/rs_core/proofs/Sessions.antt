@@ -14,7 +14,7 @@ use Rattle.rs_model.specs.declared.values.Value.{Value}
 use Rattle.rs_core.specs.Choices.{AreWellFormed}
 use Rattle.rs_core.specs.Configurations.{Message, Configuration, Event, Send, Receive, Step, Steps, Sends, StartsAt, IsReachable, state_at}
 use Rattle.rs_core.specs.Safety.{IsSafe}
-use Rattle.rs_core.specs.Core.{Core_data, configuration_of, HasPlaces, IsSession, HasReceived, way_of, way_by, front_of, front_by, next_by, arm_with, with_sent, with_got, send_fault, receive_fault, arm_fault}
+use Rattle.rs_core.specs.Core.{Core_data, configuration_of, HasPlaces, IsReachedSession, HasReceived, way_of, way_by, way_in_front, front_by, next_by, arm_with, with_sent, with_got, send_fault, receive_fault, arm_fault}
 use Rattle.rs_core.specs.declared.cells.Way.{Way}
 use Rattle.rs_core.specs.declared.messages.StepFault.{StepFault}
 use Rattle.rs_core.specs.declared.messages.StepFault.TheVariants.{NotSending, NoArm, WrongSort, NotReceiving, QueueEmpty}
@@ -103,7 +103,7 @@ way-peer machines c p place v w wf e =
     let at = here-is (slice_get machines p) (c.at p) (Puts w.peer s.arms) s.puts in
     ((wf.fits p at.0 at.1).puts (c.at p) w.peer s.arms at.2).known
 
-pub sent-step : (c : Core_data) (p place : ℕ) (v : Value) (w : Way) → IsSession c → p < length c.machines → way_of (state_at c.machines (configuration_of c) p) place v ≡ Ok w
+pub sent-step : (c : Core_data) (p place : ℕ) (v : Value) (w : Way) → IsReachedSession c → p < length c.machines → way_of (state_at c.machines (configuration_of c) p) place v ≡ Ok w
     → Sends c.machines (configuration_of c) p place v (configuration_of (with_sent c p w.peer.0 w.next record { label = w.label; value = v }))
 sent-step c p place v w s hp e =
     let x = send-way c.machines (configuration_of c) p place v w (state_at c.machines (configuration_of c) p) refl e in
@@ -128,8 +128,8 @@ sent-step c p place v w s hp e =
       other_queues = rows-other c.queues p w.peer.0 (slice_index_or (slice_index_or c.queues p []) w.peer.0 [] ++ (record { label = w.label; value = v } ∷ [])) hr;
     }
 
-pub sent-session : (c : Core_data) (p place : ℕ) (v : Value) (w : Way) → IsSession c → p < length c.machines → way_of (state_at c.machines (configuration_of c) p) place v ≡ Ok w
-    → IsSession (with_sent c p w.peer.0 w.next record { label = w.label; value = v })
+pub sent-session : (c : Core_data) (p place : ℕ) (v : Value) (w : Way) → IsReachedSession c → p < length c.machines → way_of (state_at c.machines (configuration_of c) p) place v ≡ Ok w
+    → IsReachedSession (with_sent c p w.peer.0 w.next record { label = w.label; value = v })
 sent-session c p place v w s hp e = record {
   safe = s.safe;
   well_formed = s.well_formed;
@@ -174,7 +174,7 @@ next-way : (peer : Role) (o : Option Arm) (w : Way) → next_by peer o ≡ Some 
 next-way peer None w e = absurd (cc (e))
 next-way peer (Some arm) w e = (let way : Way = record { peer = peer; label = arm.label; next = arm.next } in let e' : Some way ≡ Some w = e in (arm, refl, sym (cc (e'))))
 
-front-way : (machines : List Machine_data) (c : Configuration) (p : ℕ) (w : Way) (o : Option State) → state_at machines c p ≡ o → front_of o (λ q. c.queue q p) ≡ Ok (Some w)
+front-way : (machines : List Machine_data) (c : Configuration) (p : ℕ) (w : Way) (o : Option State) → state_at machines c p ≡ o → way_in_front o (λ q. c.queue q p) ≡ Ok (Some w)
     → FrontWay machines c p w
 front-way machines c p w None is e = absurd (cc (e))
 front-way machines c p w (Some Done) is e = absurd (cc (e))
@@ -190,7 +190,7 @@ front-way machines c p w (Some (Takes peer arms)) is e = by (c.queue peer.0 p) r
         let Q : Role → Type 0 = λ z. c.queue z.0 p ≡ message ∷ later in
         record { arms = arms; arm = a.0; message = message; later = later; takes = subst P (sym same) is; oldest = subst Q (sym same) q; with = a.1; next = ap (λ (z : Way). z.next) a.2 }
 
-pub front-peer : (machines : List Machine_data) (c : Configuration) (p : ℕ) (w : Way) → AreWellFormed machines → front_of (state_at machines c p) (λ q. c.queue q p) ≡ Ok (Some w)
+pub front-peer : (machines : List Machine_data) (c : Configuration) (p : ℕ) (w : Way) → AreWellFormed machines → way_in_front (state_at machines c p) (λ q. c.queue q p) ≡ Ok (Some w)
     → w.peer.0 < length machines
 front-peer machines c p w wf e =
     let s = front-way machines c p w (state_at machines c p) refl e in
@@ -204,14 +204,14 @@ peers machines c p wf peer arms takes =
     ((wf.fits p at.0 at.1).takes (c.at p) peer arms at.2).known
 
 -- in a session the oldest message has an arm that takes it
-taken : (c : Core_data) (p : ℕ) (peer : Role) (arms : List Arm) (message : Message) (later : List Message) → IsSession c → state_at c.machines (configuration_of c) p ≡ Some (Takes peer arms)
+taken : (c : Core_data) (p : ℕ) (peer : Role) (arms : List Arm) (message : Message) (later : List Message) → IsReachedSession c → state_at c.machines (configuration_of c) p ≡ Some (Takes peer arms)
     → (configuration_of c).queue peer.0 p ≡ message ∷ later → Taken arms message
 taken c p peer arms message later s takes oldest = elim (find arms message) [
   | inl t ↦ t
   | inr none ↦ absurd (s.safe.fits (configuration_of c) s.reachable record { role = p; peer = peer; arms = arms; message = message; later = later; takes = takes; oldest = oldest; no_arm = none })
 ]
 
-pub got-step : (c : Core_data) (p : ℕ) (w : Way) (m : Message) (later : List Message) → IsSession c → p < length c.machines → front_of (state_at c.machines (configuration_of c) p) (λ q. (configuration_of c).queue q p) ≡ Ok (Some w)
+pub got-step : (c : Core_data) (p : ℕ) (w : Way) (m : Message) (later : List Message) → IsReachedSession c → p < length c.machines → way_in_front (state_at c.machines (configuration_of c) p) (λ q. (configuration_of c).queue q p) ≡ Ok (Some w)
     → (configuration_of c).queue w.peer.0 p ≡ m ∷ later → HasReceived c.machines (configuration_of c) p (configuration_of (with_got c p w.peer.0 w.next later)) m
 got-step c p w m later s hp e q =
     let x = front-way c.machines (configuration_of c) p w (state_at c.machines (configuration_of c) p) refl e in
@@ -248,8 +248,8 @@ got-step c p w m later s hp e q =
       same,
     )
 
-pub got-session : (c : Core_data) (p : ℕ) (w : Way) (m : Message) (later : List Message) → IsSession c → p < length c.machines → front_of (state_at c.machines (configuration_of c) p) (λ q. (configuration_of c).queue q p) ≡ Ok (Some w)
-    → (configuration_of c).queue w.peer.0 p ≡ m ∷ later → IsSession (with_got c p w.peer.0 w.next later)
+pub got-session : (c : Core_data) (p : ℕ) (w : Way) (m : Message) (later : List Message) → IsReachedSession c → p < length c.machines → way_in_front (state_at c.machines (configuration_of c) p) (λ q. (configuration_of c).queue q p) ≡ Ok (Some w)
+    → (configuration_of c).queue w.peer.0 p ≡ m ∷ later → IsReachedSession (with_got c p w.peer.0 w.next later)
 got-session c p w m later s hp e q = record {
   safe = s.safe;
   well_formed = s.well_formed;
@@ -286,7 +286,7 @@ way-some (Some Done) place v f e = let s : NotSending ≡ f = cc (e) in ap (λ (
 way-some (Some (Takes peer arms)) place v f e = let s : NotSending ≡ f = cc (e) in ap (λ (z : StepFault). Some z) s
 way-some (Some (Puts peer arms)) place v f e = arm-some peer (slice_get arms place) v f e
 
-pub front-some : (c : Core_data) (p : ℕ) (f : StepFault) → IsSession c → front_of (state_at c.machines (configuration_of c) p) (λ q. (configuration_of c).queue q p) ≡ Err f
+pub front-some : (c : Core_data) (p : ℕ) (f : StepFault) → IsReachedSession c → way_in_front (state_at c.machines (configuration_of c) p) (λ q. (configuration_of c).queue q p) ≡ Err f
     → receive_fault (state_at c.machines (configuration_of c) p) (λ q. (configuration_of c).queue q p) ≡ Some f
 front-some c p f s e = by (state_at c.machines (configuration_of c) p) refl e
   where
@@ -295,14 +295,14 @@ front-some c p f s e = by (state_at c.machines (configuration_of c) p) refl e
     queued peer arms [] is q e = (let s : QueueEmpty ≡ f = cc (e) in ap (λ (z : StepFault). Some z) s)
     queued peer arms (message ∷ later) is q e = absurd (cc (e))
 
-    by : (o : Option State) → state_at c.machines (configuration_of c) p ≡ o → front_of o (λ q. (configuration_of c).queue q p) ≡ Err f → receive_fault o (λ q. (configuration_of c).queue q p) ≡ Some f
+    by : (o : Option State) → state_at c.machines (configuration_of c) p ≡ o → way_in_front o (λ q. (configuration_of c).queue q p) ≡ Err f → receive_fault o (λ q. (configuration_of c).queue q p) ≡ Some f
     by None is e = (let s : NotReceiving ≡ f = cc (e) in ap (λ (z : StepFault). Some z) s)
     by (Some Done) is e = (let s : NotReceiving ≡ f = cc (e) in ap (λ (z : StepFault). Some z) s)
     by (Some (Puts peer arms)) is e = (let s : NotReceiving ≡ f = cc (e) in ap (λ (z : StepFault). Some z) s)
     by (Some (Takes peer arms)) is e = queued peer arms ((configuration_of c).queue peer.0 p) is refl e
 
 -- in a session a front goes somewhere
-pub front-goes : (c : Core_data) (p : ℕ) → IsSession c → front_of (state_at c.machines (configuration_of c) p) (λ q. (configuration_of c).queue q p) ≡ Ok None → ⊥
+pub front-goes : (c : Core_data) (p : ℕ) → IsReachedSession c → way_in_front (state_at c.machines (configuration_of c) p) (λ q. (configuration_of c).queue q p) ≡ Ok None → ⊥
 front-goes c p s e = by (state_at c.machines (configuration_of c) p) refl e
   where
     found : (peer : Role) (arms : List Arm) (message : Message) (o : Option Arm) → arm_with arms message.label ≡ o → next_by peer o ≡ None → Taken arms message → ⊥
@@ -313,7 +313,7 @@ front-goes c p s e = by (state_at c.machines (configuration_of c) p) refl e
     queued peer arms [] is q e = cc (e)
     queued peer arms (message ∷ later) is q e = found peer arms message (arm_with arms message.label) refl (cc (e)) (taken c p peer arms message later s is q)
 
-    by : (o : Option State) → state_at c.machines (configuration_of c) p ≡ o → front_of o (λ q. (configuration_of c).queue q p) ≡ Ok None → ⊥
+    by : (o : Option State) → state_at c.machines (configuration_of c) p ≡ o → way_in_front o (λ q. (configuration_of c).queue q p) ≡ Ok None → ⊥
     by None is e = cc (e)
     by (Some Done) is e = cc (e)
     by (Some (Puts peer arms)) is e = cc (e)
@@ -347,7 +347,7 @@ pub starts : (machines : List Machine_data)
 starts machines = record { states = λ p m is. start-at machines p m is; queues = λ p q. empty-row (length machines) p q }
 
 pub start-session : (machines : List Machine_data) → IsSafe machines → AreWellFormed machines
-    → IsSession record { machines = machines; states = map (λ (m : Machine_data). m.start) machines; queues = replicate (length machines) (replicate (length machines) []) }
+    → IsReachedSession record { machines = machines; states = map (λ (m : Machine_data). m.start) machines; queues = replicate (length machines) (replicate (length machines) []) }
 start-session machines safe wf = record {
   safe = safe;
   well_formed = wf;
@@ -395,7 +395,7 @@ there (x ∷ xs) zero h = (x, refl)
 there (x ∷ xs) (suc p) h = there xs p (omega arith)
 
 -- a role of a session has a state
-pub has-state : (c : Core_data) (p : ℕ) → IsSession c → p < length c.machines → state_at c.machines (configuration_of c) p ≡ None → ⊥
+pub has-state : (c : Core_data) (p : ℕ) → IsReachedSession c → p < length c.machines → state_at c.machines (configuration_of c) p ≡ None → ⊥
 has-state c p s hp none =
     let m = there c.machines p hp in
     let r = s.reachable in

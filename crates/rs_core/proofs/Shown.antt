@@ -9,7 +9,7 @@ use Rattle.rs_core.specs.Actors.{Behaviour, Choice}
 use Rattle.rs_core.specs.Choices.{AreWellFormed}
 use Rattle.rs_core.specs.Histories.{History, transcript_of}
 use Rattle.rs_core.specs.Plain.{Ending, Ended, Stopped, Stuck, IsPlain}
-use Rattle.rs_core.specs.Runs.{ArePlayers, HasActors, HasTranscripts, IsGiven, IsShown, Shows, IsFullAt, sent_to, got_from}
+use Rattle.rs_core.specs.Runs.{ArePlayers, HasActors, HasTranscripts, IsGiven, EndingShows, EndShows, IsFullAt, sent_to, got_from}
 use Rattle.rs_core.specs.declared.players.Player.{Player}
 use Rattle.rs_core.specs.declared.playing.End.{End}
 use Rattle.rs_core.specs.declared.playing.End.TheVariants as end
@@ -41,31 +41,31 @@ module _ {A : Type 0} (b : Behaviour A) where
 
   -- what the rounds came to
   abbrev pub Came : List Machine_data → (ℕ → A) → ℕ → Option ℕ → End → List (Player A) → Type 0
-  Came ms given limit capacity e xs = (o : Ending A) × IsPlain ms b given limit capacity o × Shows ms capacity o e xs
+  Came ms given limit capacity e xs = (o : Ending A) × IsPlain ms b given limit capacity o × EndShows ms capacity o e xs
 
   pub show-ended : (ms : List Machine_data) (given : ℕ → A) (limit : ℕ) (capacity : Option ℕ) (e : End) (xs : List (Player A)) (out : Outcome) (ys : List A) → Came ms given limit capacity e xs → e ≡ end.Ended
-      → out ≡ outcome.Ended (map (λ (z : Player A). z.transcript) xs) → ys ≡ map (λ (z : Player A). z.actor) xs → (o : Ending A) × IsPlain ms b given limit capacity o × IsShown (length ms) o out ys
+      → out ≡ outcome.Ended (map (λ (z : Player A). z.transcript) xs) → ys ≡ map (λ (z : Player A). z.actor) xs → (o : Ending A) × IsPlain ms b given limit capacity o × EndingShows (length ms) o out ys
   show-ended ms given limit capacity e xs out ys came is eo ey =
-      let P : End → Type 0 = λ z. Shows ms capacity came.0 z xs in
+      let P : End → Type 0 = λ z. EndShows ms capacity came.0 z xs in
       by came.0 came.1 (subst P is came.2)
     where
-      by : (o : Ending A) → IsPlain ms b given limit capacity o → Shows ms capacity o end.Ended xs → (u : Ending A) × IsPlain ms b given limit capacity u × IsShown (length ms) u out ys
+      by : (o : Ending A) → IsPlain ms b given limit capacity o → EndShows ms capacity o end.Ended xs → (u : Ending A) × IsPlain ms b given limit capacity u × EndingShows (length ms) u out ys
       by (Ended k) plain s =
-          let Q : Outcome → List A → Type 0 = λ z w. IsShown (length ms) (Ended k) z w in
+          let Q : Outcome → List A → Type 0 = λ z w. EndingShows (length ms) (Ended k) z w in
           (Ended k, plain, subst₂ Q (sym eo) (sym ey) (has-transcripts (length ms) k.history k.actor k.kept xs s, has-actors (length ms) k.history k.actor k.kept xs s))
       by (Stopped p k) plain s = absurd (s)
       by (Stuck k) plain s = absurd (s)
 
   pub show-stopped : (ms : List Machine_data) (given : ℕ → A) (limit : ℕ) (capacity : Option ℕ) (role : Role) (e : End) (xs : List (Player A)) (out : Outcome) (ys : List A) → Came ms given limit capacity e xs → e ≡ end.Stopped role
-      → out ≡ outcome.Stopped role → ys ≡ map (λ (z : Player A). z.actor) xs → (o : Ending A) × IsPlain ms b given limit capacity o × IsShown (length ms) o out ys
+      → out ≡ outcome.Stopped role → ys ≡ map (λ (z : Player A). z.actor) xs → (o : Ending A) × IsPlain ms b given limit capacity o × EndingShows (length ms) o out ys
   show-stopped ms given limit capacity role e xs out ys came is eo ey =
-      let P : End → Type 0 = λ z. Shows ms capacity came.0 z xs in
+      let P : End → Type 0 = λ z. EndShows ms capacity came.0 z xs in
       by came.0 came.1 (subst P is came.2)
     where
-      by : (o : Ending A) → IsPlain ms b given limit capacity o → Shows ms capacity o (end.Stopped role) xs → (u : Ending A) × IsPlain ms b given limit capacity u × IsShown (length ms) u out ys
+      by : (o : Ending A) → IsPlain ms b given limit capacity o → EndShows ms capacity o (end.Stopped role) xs → (u : Ending A) × IsPlain ms b given limit capacity u × EndingShows (length ms) u out ys
       by (Ended k) plain s = absurd (s)
       by (Stopped p k) plain s =
-          let Q : Outcome → List A → Type 0 = λ z w. IsShown (length ms) (Stopped p k) z w in
+          let Q : Outcome → List A → Type 0 = λ z w. EndingShows (length ms) (Stopped p k) z w in
           (Stopped p k, plain, subst₂ Q (sym eo) (sym ey) (s.0, has-actors (length ms) k.history k.actor k.kept xs s.1))
       by (Stuck k) plain s = absurd (s)
 
@@ -75,10 +75,10 @@ module _ {A : Type 0} (b : Behaviour A) where
   never-full ms limit xs0 e xs sender receiver many plain is there =
       let x = get-there xs0 sender.0 (omega (arith, many)) in
       let came = plain (λ p. slice_index_or xs0 p x.0) (λ p y here. get_or_from_slice_get xs0 p y x.0 here) in
-      let P : End → Type 0 = λ z. Shows ms None came.0 z xs in
+      let P : End → Type 0 = λ z. EndShows ms None came.0 z xs in
       by came.0 (subst P is came.2)
     where
-      by : (o : Ending A) → Shows ms None o (end.Full sender receiver) xs → ⊥
+      by : (o : Ending A) → EndShows ms None o (end.Full sender receiver) xs → ⊥
       by (Ended k) s = s
       by (Stopped p k) s = s
       by (Stuck k) s = s.0.full
@@ -87,10 +87,10 @@ module _ {A : Type 0} (b : Behaviour A) where
       → Came ms given limit (Some capacity) e xs → e ≡ end.Full sender receiver → slice_get xs sender.0 ≡ Some from → slice_get xs receiver.0 ≡ Some to
       → sent ≡ sent_to receiver.0 from.transcript → taken ≡ got_from sender.0 to.transcript → IsFullAt ms b given limit capacity sender receiver sent taken
   full-at ms given limit capacity e xs sender receiver from to sent taken wf came is hf ht es et =
-      let P : End → Type 0 = λ z. Shows ms (Some capacity) came.0 z xs in
+      let P : End → Type 0 = λ z. EndShows ms (Some capacity) came.0 z xs in
       by came.0 came.1 (subst P is came.2)
     where
-      by : (o : Ending A) → IsPlain ms b given limit (Some capacity) o → Shows ms (Some capacity) o (end.Full sender receiver) xs → IsFullAt ms b given limit capacity sender receiver sent taken
+      by : (o : Ending A) → IsPlain ms b given limit (Some capacity) o → EndShows ms (Some capacity) o (end.Full sender receiver) xs → IsFullAt ms b given limit capacity sender receiver sent taken
       by (Ended k) plain s = absurd (s)
       by (Stopped p k) plain s = absurd (s)
       by (Stuck k) plain s =

@@ -9,8 +9,8 @@ use Rattle.rs_model.specs.declared.machines.State.TheVariants.{Puts, Takes}
 use Rattle.rs_model.specs.declared.values.Value.{Value}
 use Rattle.rs_core.specs.Actors.{Choice, Behaviour, ChoosesWell}
 use Rattle.rs_core.specs.Configurations.{Message, Sends, Receives, state_at}
-use Rattle.rs_core.specs.Core.{Core_data, IsSession, HasReceived, configuration_of}
-use Rattle.rs_core.specs.Plain.{HasRoom, IsFull, offered}
+use Rattle.rs_core.specs.Core.{Core_data, IsReachedSession, HasReceived, configuration_of}
+use Rattle.rs_core.specs.Plain.{HasRoom, IsFull, offer_of}
 use Rattle.rs_core.specs.Turns.{CanChoose, KeepsWell, Offers, HasMoved, HasSent, HasGot, is_full}
 use Rattle.rs_core.specs.declared.players.Player.{Player}
 use Rattle.rs_core.specs.declared.transcripts.Entry.{Entry}
@@ -27,8 +27,8 @@ has-none (Some many) queue e = search rules
 
 module _ {A : Type 0} (b : Behaviour A) where
   -- what a player offers at the arms of a state that sends is one of them, with a value of its sort
-  can-choose : (c : Core_data) (p : ℕ) (x : Player A) (peer : Role) (arms : List Arm) → ChoosesWell b → IsSession c → KeepsWell c p x
-      → state_at c.machines (configuration_of c) p ≡ Some (Puts peer arms) → (kept : Option Choice) → x.kept ≡ kept → (choice : Choice) (y : A) → offered b x.actor kept arms ≡ (choice, y)
+  can-choose : (c : Core_data) (p : ℕ) (x : Player A) (peer : Role) (arms : List Arm) → ChoosesWell b → IsReachedSession c → KeepsWell c p x
+      → state_at c.machines (configuration_of c) p ≡ Some (Puts peer arms) → (kept : Option Choice) → x.kept ≡ kept → (choice : Choice) (y : A) → offer_of b x.actor kept arms ≡ (choice, y)
       → (can : CanChoose c p choice peer) × (can.arms ≡ arms)
   can-choose c p x peer arms well s keeps puts None e choice y o =
       let at = here-is (slice_get c.machines p) ((configuration_of c).at p) (Puts peer arms) puts in
@@ -45,20 +45,20 @@ module _ {A : Type 0} (b : Behaviour A) where
       let P : Choice → Type 0 = λ z. HasSort z.1 k.1.arm.sort in
       (record { arms = arms; arm = k.1.arm; puts = puts; picks = picks; has_sort = subst P one k.1.has_sort }, refl)
 
-  pub in-range : (c : Core_data) (p : ℕ) (x : Player A) (peer : Role) (arms : List Arm) (place : ℕ) (value : Value) (y : A) → ChoosesWell b → IsSession c → KeepsWell c p x
-      → state_at c.machines (configuration_of c) p ≡ Some (Puts peer arms) → offered b x.actor x.kept arms ≡ ((place, value), y) → place < length arms
+  pub in-range : (c : Core_data) (p : ℕ) (x : Player A) (peer : Role) (arms : List Arm) (place : ℕ) (value : Value) (y : A) → ChoosesWell b → IsReachedSession c → KeepsWell c p x
+      → state_at c.machines (configuration_of c) p ≡ Some (Puts peer arms) → offer_of b x.actor x.kept arms ≡ ((place, value), y) → place < length arms
   in-range c p x peer arms place value y well s keeps puts o =
       let can = can-choose c p x peer arms well s keeps puts x.kept refl (place, value) y o in
       let P : List Arm → Type 0 = λ z. place < length z in
       subst P can.1 (slice_get_within can.0.arms place can.0.arm can.0.picks)
 
-  pub offering : (c : Core_data) (p : ℕ) (x y : Player A) (peer : Role) (arms : List Arm) (place : ℕ) (value : Value) (other : Arm) → ChoosesWell b → IsSession c → KeepsWell c p x
-      → state_at c.machines (configuration_of c) p ≡ Some (Puts peer arms) → offered b x.actor x.kept arms ≡ ((place, value), y.actor) → y.kept ≡ None → y.transcript ≡ x.transcript
+  pub offering : (c : Core_data) (p : ℕ) (x y : Player A) (peer : Role) (arms : List Arm) (place : ℕ) (value : Value) (other : Arm) → ChoosesWell b → IsReachedSession c → KeepsWell c p x
+      → state_at c.machines (configuration_of c) p ≡ Some (Puts peer arms) → offer_of b x.actor x.kept arms ≡ ((place, value), y.actor) → y.kept ≡ None → y.transcript ≡ x.transcript
       → Offers b c p x y peer (slice_index_or arms place other).label (place, value)
   offering c p x y peer arms place value other well s keeps puts o kept same =
       let can = can-choose c p x peer arms well s keeps puts x.kept refl (place, value) y.actor o in
       let at = here-is (slice_get c.machines p) ((configuration_of c).at p) (Puts peer arms) puts in
-      let P : List Arm → Type 0 = λ z. offered b x.actor x.kept z ≡ ((place, value), y.actor) in
+      let P : List Arm → Type 0 = λ z. offer_of b x.actor x.kept z ≡ ((place, value), y.actor) in
       record {
         can = can.0;
         there = ((s.well_formed.fits p at.0 at.1).puts ((configuration_of c).at p) peer arms at.2).known;
@@ -82,7 +82,7 @@ module _ {A : Type 0} (b : Behaviour A) where
         choice = (place, value);
         step = step;
         room = let R : Role → Type 0 = λ r. HasRoom capacity ((configuration_of c).queue p r.0) in subst R peers room;
-        offers = ap (λ (w : List Arm). offered b x.actor x.kept w) (sym arms) ∙ n.offers ∙ ap (λ (w : A). (choice, w)) (sym ea);
+        offers = ap (λ (w : List Arm). offer_of b x.actor x.kept w) (sym arms) ∙ n.offers ∙ ap (λ (w : A). (choice, w)) (sym ea);
         kept = ek ∙ n.kept;
         entry = let P : Role → Label → Type 0 = λ r l. z.transcript ≡ x.transcript ++ (entry.Sent r l ∷ []) in
             subst₂ P peers labels (et ∙ ap (λ (w : List Entry). w ++ (entry.Sent peer label ∷ [])) n.transcript);

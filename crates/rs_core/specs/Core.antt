@@ -37,7 +37,7 @@ pub record HasPlaces (c : Core_data) : Type 0 where
   pub queues : (p : ℕ) → p < length c.machines → length (slice_index_or c.queues p []) ≡ length c.machines
 
 -- what holds of every session: its machines are safe and well formed, and it has been reached from the start
-pub record IsSession (c : Core_data) : Type 0 where
+pub record IsReachedSession (c : Core_data) : Type 0 where
   pub safe : IsSafe c.machines
   pub well_formed : AreWellFormed c.machines
   pub places : HasPlaces c
@@ -78,9 +78,9 @@ IsUnsent first NoMemory = first ≡ None
 IsUnsent first fault = first ≡ Some fault
 
 -- the fault is the first thing that is wrong; or nothing is, and it is want of memory at a send
-abbrev pub IsRefused : List Machine_data → Configuration → Event → StepFault → Type 0
-IsRefused machines c (Send role arm value) fault = IsUnsent (step_fault machines c (Send role arm value)) fault
-IsRefused machines c (Receive role) fault = step_fault machines c (Receive role) ≡ Some fault
+abbrev pub StepIsRefused : List Machine_data → Configuration → Event → StepFault → Type 0
+StepIsRefused machines c (Send role arm value) fault = IsUnsent (step_fault machines c (Send role arm value)) fault
+StepIsRefused machines c (Receive role) fault = step_fault machines c (Receive role) ≡ Some fault
 
 -- role p has received the message
 abbrev pub HasReceived : List Machine_data → Configuration → ℕ → Configuration → Message → Type 0
@@ -120,11 +120,11 @@ front_by peer arms [] = Err QueueEmpty
 front_by peer arms (message ∷ later) = Ok (next_by peer (arm_with arms message.label))
 
 -- .. in that state, with these queues to the role
-abbrev pub front_of : Option State → (ℕ → List Message) → Result (Option Way) StepFault
-front_of None queue = Err NotReceiving
-front_of (Some Done) queue = Err NotReceiving
-front_of (Some (Puts peer arms)) queue = Err NotReceiving
-front_of (Some (Takes peer arms)) queue = front_by peer arms (queue peer.0)
+abbrev pub way_in_front : Option State → (ℕ → List Message) → Result (Option Way) StepFault
+way_in_front None queue = Err NotReceiving
+way_in_front (Some Done) queue = Err NotReceiving
+way_in_front (Some (Puts peer arms)) queue = Err NotReceiving
+way_in_front (Some (Takes peer arms)) queue = front_by peer arms (queue peer.0)
 
 -- p has sent the message to q, and its machine stands in the next state
 abbrev pub with_sent : Core_data → ℕ → ℕ → ℕ → Message → Core_data
@@ -143,8 +143,8 @@ with_got c p q next later = record {
 }
 
 -- the machines in their start states, with empty queues
-abbrev pub begun : List Machine_data → Core_data
-begun machines = record {
+abbrev pub core_at_start : List Machine_data → Core_data
+core_at_start machines = record {
   machines = machines;
   states = map (λ (m : Machine_data). m.start) machines;
   queues = replicate (length machines) (replicate (length machines) []);

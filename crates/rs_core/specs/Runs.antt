@@ -102,12 +102,12 @@ pub record RunSoFar {A : Type 0} (b : Behaviour A) (ms : List Machine_data) (lim
       → (k : Moment A) × Matches ms k c xs × ((o : plain.Ending A) → plain.PlainFrom ms b limit capacity k o → plain.IsPlain ms b given limit capacity o)
 
 -- the players are those of the outcome, and the end is its end
-abbrev pub Shows : {A : Type 0} → List Machine_data → Option ℕ → plain.Ending A → End → List (Player A) → Type 0
-Shows machines capacity (plain.Ended k) end.Ended xs = ArePlayers (length machines) k.history k.actor k.kept xs
-Shows machines capacity (plain.Stopped p k) (end.Stopped role) xs = (p ≡ role.0) × ArePlayers (length machines) k.history k.actor k.kept xs
-Shows machines capacity (plain.Stuck k) (end.Full sender receiver) xs =
+abbrev pub EndShows : {A : Type 0} → List Machine_data → Option ℕ → plain.Ending A → End → List (Player A) → Type 0
+EndShows machines capacity (plain.Ended k) end.Ended xs = ArePlayers (length machines) k.history k.actor k.kept xs
+EndShows machines capacity (plain.Stopped p k) (end.Stopped role) xs = (p ≡ role.0) × ArePlayers (length machines) k.history k.actor k.kept xs
+EndShows machines capacity (plain.Stuck k) (end.Full sender receiver) xs =
     FirstFull machines capacity k sender.0 receiver × ArePlayers (length machines) k.history k.actor k.kept xs
-Shows machines capacity _ _ xs = ⊥
+EndShows machines capacity _ _ xs = ⊥
 
 -- the sender and the receiver of a full queue are among so many roles
 abbrev pub IsAmong : ℕ → End → Type 0
@@ -125,10 +125,10 @@ pub record HasTranscripts (roles : ℕ) (history : ℕ → History) (xs : List (
   pub each : (p : ℕ) → p < roles → slice_get xs p ≡ Some (transcript_of (history p))
 
 -- a run with this outcome and these actors: all have ended, with these transcripts; or this role is at its limit
-abbrev pub IsShown : {A : Type 0} → ℕ → plain.Ending A → Outcome → List A → Type 0
-IsShown roles (plain.Ended k) (outcome.Ended transcripts) actors = HasTranscripts roles k.history transcripts × HasActors roles k.actor actors
-IsShown roles (plain.Stopped p k) (outcome.Stopped role) actors = (p ≡ role.0) × HasActors roles k.actor actors
-IsShown roles _ _ actors = ⊥
+abbrev pub EndingShows : {A : Type 0} → ℕ → plain.Ending A → Outcome → List A → Type 0
+EndingShows roles (plain.Ended k) (outcome.Ended transcripts) actors = HasTranscripts roles k.history transcripts × HasActors roles k.actor actors
+EndingShows roles (plain.Stopped p k) (outcome.Stopped role) actors = (p ≡ role.0) × HasActors roles k.actor actors
+EndingShows roles _ _ actors = ⊥
 
 -- how many messages a transcript sends to q, and how many it takes from q
 abbrev pub sent_to : ℕ → List Entry → ℕ

@@ -8,7 +8,7 @@ use Rattle.rs_model.specs.declared.machines.State.TheVariants.{Done, Puts, Takes
 use Rattle.rs_core.specs.Actors.{Choice, Behaviour}
 use Rattle.rs_core.specs.Configurations.{Sends, Receives, state_at}
 use Rattle.rs_core.specs.Core.{Core_data, configuration_of}
-use Rattle.rs_core.specs.Plain.{HasRoom, IsFull, offered}
+use Rattle.rs_core.specs.Plain.{HasRoom, IsFull, offer_of}
 use Rattle.rs_core.specs.declared.players.Player.{Player}
 use Rattle.rs_core.specs.declared.transcripts.Entry.TheVariants as entry
 use Rattle.rs_core.specs.declared.turns.Next.{Next}
@@ -33,7 +33,7 @@ pub record Offers {A : Type 0} (b : Behaviour A) (c : Core_data) (p : ℕ) (x y 
   pub can : CanChoose c p choice peer
   pub there : peer.0 < length c.machines
   pub same_label : can.arm.label ≡ label
-  pub offers : offered b x.actor x.kept can.arms ≡ (choice, y.actor)
+  pub offers : offer_of b x.actor x.kept can.arms ≡ (choice, y.actor)
   pub kept : y.kept ≡ None
   pub transcript : y.transcript ≡ x.transcript
 
@@ -50,7 +50,7 @@ pub record SentTurn {A : Type 0} (b : Behaviour A) (capacity : Option ℕ) (c : 
   pub choice : Choice
   pub step : Sends c.machines (configuration_of c) p choice.0 choice.1 (configuration_of d)
   pub room : HasRoom capacity ((configuration_of c).queue p step.peer.0)
-  pub offers : offered b x.actor x.kept step.arms ≡ (choice, y.actor)
+  pub offers : offer_of b x.actor x.kept step.arms ≡ (choice, y.actor)
   pub kept : y.kept ≡ None
   pub entry : y.transcript ≡ x.transcript ++ (entry.Sent step.peer step.arm.label ∷ [])
 
@@ -72,7 +72,7 @@ pub record KeptTurn {A : Type 0} (b : Behaviour A) (capacity : Option ℕ) (c : 
   pub peer : Role
   pub can : CanChoose c p choice peer
   pub full : IsFull capacity ((configuration_of c).queue p peer.0)
-  pub offers : offered b x.actor x.kept can.arms ≡ (choice, y.actor)
+  pub offers : offer_of b x.actor x.kept can.arms ≡ (choice, y.actor)
   pub kept : y.kept ≡ Some choice
   pub transcript : y.transcript ≡ x.transcript
 

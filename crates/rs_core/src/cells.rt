@@ -3,7 +3,7 @@ ghost use Rattle.rs_model.specs.declared.graph.Arm.{Arm};
 ghost use Rattle.rs_model.specs.declared.graph.Role.{Role};
 ghost use Rattle.rs_model.specs.declared.machines.State.TheVariants.{Takes};
 ghost use Rattle.rs_core.specs.Configurations.{state_at, state_of};
-ghost use Rattle.rs_core.specs.Core.{HasPlaces, arm_with, configuration_of, front_of, front_by, next_by, way_of, way_by, with_sent, with_got};
+ghost use Rattle.rs_core.specs.Core.{HasPlaces, arm_with, configuration_of, way_in_front, front_by, next_by, way_of, way_by, with_sent, with_got};
 
 use crate::rows::{Queue, Row};
 use crate::{Message, StepFault};
@@ -62,7 +62,7 @@ impl Cells {
         requires there { role.0 < length self.now.machines }
         requires places { HasPlaces self.now }
         requires peers { (peer : Role) (arms : List Arm) → state_at self.now.machines (configuration_of self.now) role.0 ≡ Some (Takes peer arms) → peer.0 < length self.now.machines }
-        ensures { result ≡ front_of (state_at self.now.machines (configuration_of self.now) role.0) (λ p. (configuration_of self.now).queue p role.0) }
+        ensures { result ≡ way_in_front (state_at self.now.machines (configuration_of self.now) role.0) (λ p. (configuration_of self.now).queue p role.0) }
     {
         match self.state(role) {
             Some(State::Takes { peer, arms }) => {

@@ -1,7 +1,7 @@
 ghost use Rattle.std.specs.Prelude.{◌≡◌, length, IfOk, ℕ};
 ghost use Rattle.rs_core.specs.Choices.{AreWellFormed};
 ghost use Rattle.rs_core.specs.Plain.{Ending, IsPlain};
-ghost use Rattle.rs_core.specs.Runs.{AreReady, HasRound, IsAmong, IsGiven, EndTells, Shows};
+ghost use Rattle.rs_core.specs.Runs.{AreReady, HasRound, IsAmong, IsGiven, EndTells, EndShows};
 ghost use Rattle.rs_core.specs.Safety.{IsSafe};
 
 use crate::players::{Player, players_of};
@@ -45,7 +45,7 @@ pub(crate) fn play<A: Actor>(
     requires safe { IsSafe machines.items }
     requires well_formed { AreWellFormed machines.items }
     requires actors { length actors.items ≡ length machines.items }
-    ensures plain { IfOk result (λ r. (given : ℕ → A) → IsGiven given actors.items → (o : Ending A) × IsPlain machines.items A.behaviour given limit capacity o × Shows machines.items capacity o r.end r.players.items) }
+    ensures plain { IfOk result (λ r. (given : ℕ → A) → IsGiven given actors.items → (o : Ending A) × IsPlain machines.items A.behaviour given limit capacity o × EndShows machines.items capacity o r.end r.players.items) }
     ensures many { IfOk result (λ r. length r.players.items ≡ length machines.items) }
     ensures among { IfOk result (λ r. IsAmong (length machines.items) r.end) }
 {

@@ -1,7 +1,7 @@
 ghost use Rattle.std.specs.Prelude.{◌≡◌, length, map, IfErr, IfOk, ℕ, None, Some};
 ghost use Rattle.rs_core.specs.Choices.{AreWellFormed};
 ghost use Rattle.rs_core.specs.Plain.{Ending, IsPlain};
-ghost use Rattle.rs_core.specs.Runs.{FaultTells, IsGiven, IsShown, got_from, sent_to};
+ghost use Rattle.rs_core.specs.Runs.{FaultTells, IsGiven, EndingShows, got_from, sent_to};
 ghost use Rattle.rs_core.specs.Safety.{IsSafe};
 ghost use Rattle.rs_core.specs.declared.runs.Outcome.TheVariants as outcome;
 
@@ -66,11 +66,11 @@ pub fn run_plain<A: Actor>(
     requires safe { IsSafe machines.items }
     requires well_formed { AreWellFormed machines.items }
     requires actors { length actors.items ≡ length machines.items }
-    ensures plain { IfOk result (λ r. (given : ℕ → A) → IsGiven given actors.items → (o : Ending A) × IsPlain machines.items A.behaviour given limit None o × IsShown (length machines.items) o r.outcome r.actors.items) }
+    ensures plain { IfOk result (λ r. (given : ℕ → A) → IsGiven given actors.items → (o : Ending A) × IsPlain machines.items A.behaviour given limit None o × EndingShows (length machines.items) o r.outcome r.actors.items) }
 {
     let played = play(alloc, machines, actors, limit as usize, None)?;
     match played.end {
-        End::Ended => ended(alloc, played.players),
+        End::Ended => run_that_ended(alloc, played.players),
         End::Stopped(role) => stopped(alloc, role, played.players),
         End::Full { .. } => unreachable!(),
     }
@@ -91,12 +91,12 @@ pub fn run_bounded<A: Actor>(
     requires safe { IsSafe machines.items }
     requires well_formed { AreWellFormed machines.items }
     requires actors { length actors.items ≡ length machines.items }
-    ensures plain { IfOk result (λ r. (given : ℕ → A) → IsGiven given actors.items → (o : Ending A) × IsPlain machines.items A.behaviour given limit (Some capacity) o × IsShown (length machines.items) o r.outcome r.actors.items) }
+    ensures plain { IfOk result (λ r. (given : ℕ → A) → IsGiven given actors.items → (o : Ending A) × IsPlain machines.items A.behaviour given limit (Some capacity) o × EndingShows (length machines.items) o r.outcome r.actors.items) }
     ensures full { IfErr result (λ e. (given : ℕ → A) → IsGiven given actors.items → FaultTells machines.items A.behaviour given limit capacity e) }
 {
     let played = play(alloc, machines, actors, limit as usize, Some(capacity))?;
     match played.end {
-        End::Ended => Ok(ended(alloc, played.players)?),
+        End::Ended => Ok(run_that_ended(alloc, played.players)?),
         End::Stopped(role) => Ok(stopped(alloc, role, played.players)?),
         End::Full { sender, receiver } => Err(RunFault::Full {
             sender,
@@ -113,7 +113,7 @@ pub fn run_bounded<A: Actor>(
     }
 }
 
-fn ended<A: Actor>(alloc: Global, players: Vec<Player<A>>) -> Result<Run<A>, NoMemory>
+fn run_that_ended<A: Actor>(alloc: Global, players: Vec<Player<A>>) -> Result<Run<A>, NoMemory>
     ensures outcome { IfOk result (λ r. r.outcome ≡ outcome.Ended (map (λ x. x.transcript) players.items)) }
     ensures actors { IfOk result (λ r. r.actors.items ≡ map (λ x. x.actor) players.items) }
 {

@@ -1,7 +1,7 @@
 ghost use Rattle.std.specs.Prelude.{◌≡◌, ◌<◌, ◌∷◌, [], map, replicate, length, slice_index_or, IfErr, OnErr, OnOk, IfOk, MatchOption, None, Some, slice_get};
 ghost use Rattle.rs_core.specs.Choices.{AreWellFormed};
 ghost use Rattle.rs_core.specs.Configurations.{role_of, Sends, StartsAt, state_at, state_of};
-ghost use Rattle.rs_core.specs.Core.{IsSession, HasReceived, HasStepped, IsRefused, IsUnsent, configuration_of, receive_fault, send_fault};
+ghost use Rattle.rs_core.specs.Core.{IsReachedSession, HasReceived, HasStepped, StepIsRefused, IsUnsent, configuration_of, receive_fault, send_fault};
 ghost use Rattle.rs_core.specs.Safety.{IsSafe};
 ghost use Rattle.rs_core.specs.declared.messages.StepFault.TheVariants.{NoMemory};
 
@@ -19,13 +19,13 @@ pub struct Core {
 }
 
 impl Model for Core {
-    ghost use Rattle.rs_core.specs.Core.{Core_data, IsSession};
+    ghost use Rattle.rs_core.specs.Core.{Core_data, IsReachedSession};
 
     ghost Value = { Core_data };
 
     ghost view = { λ c. c.cells };
 
-    ghost invariant = { λ c. IsSession c.cells };
+    ghost invariant = { λ c. IsReachedSession c.cells };
 }
 
 /// A value that wasn't sent, and why.
@@ -63,7 +63,7 @@ impl Core {
     pub fn step(&mut self, event: Event) -> Result<Stepped, Refused>
         requires there { role_of event < length self.old.machines }
         ensures step { IfOk result (λ s. HasStepped self.old.machines (configuration_of self.old) event (configuration_of self.new) s) }
-        ensures refused { IfErr result (λ r. IsRefused self.old.machines (configuration_of self.old) event r.fault) }
+        ensures refused { IfErr result (λ r. StepIsRefused self.old.machines (configuration_of self.old) event r.fault) }
         ensures back { IfErr result (λ r. r.event ≡ event) }
         ensures same { OnErr result (self.new ≡ self.old) }
         ensures machines { self.new.machines ≡ self.old.machines }
@@ -148,7 +148,7 @@ impl Core {
     pub(crate) fn here(&self, role: Role) -> &State
         requires there { role.0 < length self.now.machines }
         ensures state { state_at self.now.machines (configuration_of self.now) role.0 ≡ Some result.now }
-        ensures session { IsSession self.now }
+        ensures session { IsReachedSession self.now }
     {
         match self.cells.state(role) {
             Some(state) => state,
@@ -160,7 +160,7 @@ impl Core {
     pub(crate) fn state_numbered(&self, role: Role, number: u32) -> Option<&State>
         requires there { role.0 < length self.now.machines }
         ensures state { MatchOption result (state_of (slice_get self.now.machines role.0) number ≡ None) (λ s. state_of (slice_get self.now.machines role.0) number ≡ Some s.now) }
-        ensures session { IsSession self.now }
+        ensures session { IsReachedSession self.now }
     {
         self.cells.machines[role.0 as usize]
             .states

@@ -80,7 +80,7 @@ pub(crate) fn turn<A: Actor>(
         }
         Next::Receives { peer } => match core.step(Event::Receive { role }) {
             Ok(Stepped::Got { label, value }) => {
-                told(alloc, core, &mut player.actor, role, number, label, &value)?;
+                tell_actor(alloc, core, &mut player.actor, role, number, label, &value)?;
                 player.transcript.push(Entry::Got { peer, label, value })?;
                 Ok(Turned::Moved)
             }
@@ -148,7 +148,7 @@ fn is_full(capacity: Option<usize>, length: usize) -> bool
 }
 
 /// Tells the actor that its role took a message with the label, by an arm of the state of that number.
-fn told<A: Actor>(
+fn tell_actor<A: Actor>(
     alloc: Global,
     core: &Core,
     actor: &mut A,

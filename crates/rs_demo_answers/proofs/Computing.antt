@@ -10,13 +10,13 @@ use Rattle.rs_answers.specs.declared.refusals.Refusal.TheVariants as refusal
 use Rattle.rs_answers.specs.declared.verdicts.Verdict.TheVariants.{Fine}
 use Rattle.rs_core.specs.Plain.{Ending, Ended, IsPlain}
 use Rattle.rs_core.specs.Runs.{HasActors}
-use Rattle.rs_demo_answers.specs.Demos.{AnswersDemo, HasBadNumbers, IsDocument, AnswersOwn, IsRefused, IsAccepted, IsTooSmall, IsRun, Opens, TellsEnd, HasEnded, IsStopped, actor_at}
+use Rattle.rs_demo_answers.specs.Demos.{AnswersDemo, HasBadNumbers, IsDocument, AnswersOwn, IsRefused, IsAccepted, IsTooSmall, IsRun, Opens, TellsDemoEnd, HasEnded, IsStopped, actor_at}
 use Rattle.rs_demo_answers.specs.declared.limits.TheConstants.{DEMO_LIMIT}
 use Rattle.rs_demo_answers.proofs.Opening.{has_session_for}
 use Rattle.rs_demo_answers.proofs.Performing.{given}
 use Rattle.rs_demos.specs.Acting.{by_demo}
 use Rattle.rs_demos.specs.Results.{Computes}
-use Rattle.rs_demos.specs.Sessions.{demo_machines, demo_protocol, has_line, has_session, written}
+use Rattle.rs_demos.specs.Sessions.{demo_machines, demo_protocol, has_line, has_session, machine_with_line}
 use Rattle.rs_demos.specs.Starts.{StartsWithActors}
 use Rattle.rs_demos.specs.Texts.{document_of}
 use Rattle.rs_demos.specs.declared.actors.DemoActor.{DemoActor}
@@ -45,15 +45,15 @@ use Rattle.rs_wellformed.proofs.Faults as of_protocols
 
 -- where each machine that has no line is its role's projection, these are the machines of the session
 own-machines : (kind : Demo) (ms : List Machine_data) (ps : List Projection_data) → length ms ≡ length ps
-    → ((p : ℕ) (m : Machine_data) (j : Projection_data) → slice_get ms p ≡ Some m → slice_get ps p ≡ Some j → machine_or (written kind m) j ≡ m)
-    → machines_of (map (written kind) ms) ps ≡ ms
+    → ((p : ℕ) (m : Machine_data) (j : Projection_data) → slice_get ms p ≡ Some m → slice_get ps p ≡ Some j → machine_or (machine_with_line kind m) j ≡ m)
+    → machines_of (map (machine_with_line kind) ms) ps ≡ ms
 own-machines kind [] [] size h = refl
 own-machines kind [] (j ∷ ps) size h = refl
 own-machines kind (m ∷ ms) [] size h = absurd (cc (size))
 own-machines kind (m ∷ ms) (j ∷ ps) size h = ap₂ (λ (x : Machine_data) (xs : List Machine_data). x ∷ xs) (h 0 m j refl refl) (own-machines kind ms ps (cc (size)) (λ p x y e f. h (suc p) x y e f))
 
 own-machine : (kind : Demo) (n p : ℕ) (m : Machine_data) (ps : List Projection_data) (j : Projection_data) → has_session kind n ≡ true → IsWellFormed (demo_protocol kind n) → AreNumberedProjections (demo_protocol kind n) ps
-    → slice_get (demo_machines kind n) p ≡ Some m → slice_get ps p ≡ Some j → machine_or (written kind m) j ≡ m
+    → slice_get (demo_machines kind n) p ≡ Some m → slice_get ps p ≡ Some j → machine_or (machine_with_line kind m) j ≡ m
 own-machine kind n p m ps j s w h e f = go (has_line kind m.role.0) refl
   where
     go : (b : Bool) → has_line kind m.role.0 ≡ b → machine_or (if b then Some m else None) j ≡ m
@@ -106,7 +106,7 @@ refusal-isnt-fine names refusal.NoMemory e = cc
 -- ---- the run
 
 end-computes : (kind : Demo) (bytes : List ℕ) (actors : List DemoActor) (names : Names_data) (ms : List Machine_data) (capacity : ℕ) (a : Answer_data) (o : Ending DemoActor) → StartsWithActors kind bytes actors → ms ≡ demo_machines kind (length actors) → length ms ≡ length actors
-    → IsPlain ms by_demo (actor_at actors) DEMO_LIMIT (Some capacity) o → TellsEnd kind names (length ms) a o → a.verdict ≡ Fine → Computes kind bytes a.text
+    → IsPlain ms by_demo (actor_at actors) DEMO_LIMIT (Some capacity) o → TellsDemoEnd kind names (length ms) a o → a.verdict ≡ Fine → Computes kind bytes a.text
 end-computes kind bytes actors names ms capacity a o starts own many plain (IsStopped p k x) fine = absurd (not-fine a _ x (λ e. cc) fine)
 end-computes kind bytes actors names ms capacity a o starts own many plain (HasEnded k after h x) fine =
     let P : List Machine_data → Type 0 = λ z. IsPlain z by_demo (actor_at actors) DEMO_LIMIT (Some capacity) (Ended k) in

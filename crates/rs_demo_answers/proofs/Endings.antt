@@ -13,7 +13,7 @@ use Rattle.rs_core.specs.Plain.{Moment, Ending, Ended, Stopped, Stuck, IsPlain}
 use Rattle.rs_core.specs.Runs.{HasActors}
 use Rattle.rs_core.specs.Safety.{IsSafe}
 use Rattle.rs_core.proofs.Unique.{one-outcome}
-use Rattle.rs_demo_answers.specs.Demos.{Performs, IsTooSmall, IsRun, TellsEnd, HasEnded, IsStopped, TellsRun, actor_at, ended_answer}
+use Rattle.rs_demo_answers.specs.Demos.{Performs, IsTooSmall, IsRun, TellsDemoEnd, HasEnded, IsStopped, TellsDemoRun, actor_at, demo_ended_answer}
 use Rattle.rs_answers.specs.RefusalTexts.{too_small}
 use Rattle.rs_demo_answers.specs.declared.limits.TheConstants.{DEMO_LIMIT}
 use Rattle.rs_demos.specs.Acting.{by_demo}
@@ -48,13 +48,13 @@ one_actors roles k l xs ys same h g =
     let less : p < roles = omega (arith, lt, many) in
     same_Some x y (sym ex ∙ h.each p less ∙ ap (λ (z : DemoActor). Some z) (same.actor p) ∙ sym (g.each p less) ∙ ey)))
 
-one_end : (kind : Demo) (names : Names_data) (roles : ℕ) (a b : Answer_data) (o u : Ending DemoActor) → SameOutcome roles o u → TellsEnd kind names roles a o → TellsEnd kind names roles b u → a ≡ b
-one_end kind names roles a b o u same (HasEnded k xs h e) (HasEnded l ys g f) = e ∙ ap (ended_answer kind) (one_actors roles k l xs ys same h g) ∙ sym f
+one_end : (kind : Demo) (names : Names_data) (roles : ℕ) (a b : Answer_data) (o u : Ending DemoActor) → SameOutcome roles o u → TellsDemoEnd kind names roles a o → TellsDemoEnd kind names roles b u → a ≡ b
+one_end kind names roles a b o u same (HasEnded k xs h e) (HasEnded l ys g f) = e ∙ ap (demo_ended_answer kind) (one_actors roles k l xs ys same h g) ∙ sym f
 one_end kind names roles a b o u same (HasEnded k xs h e) (IsStopped q l f) = absurd same
 one_end kind names roles a b o u same (IsStopped p k e) (HasEnded l ys g f) = absurd same
 one_end kind names roles a b o u same (IsStopped p k e) (IsStopped q l f) = e ∙ ap (λ (n : ℕ). stopped_answer names (record { 0 = n })) same.0 ∙ sym f
 
-one_run : (kind : Demo) (actors : List DemoActor) (names : Names_data) (ms : List Machine_data) (capacity : ℕ) (a b : Answer_data) → AreWellFormed ms → TellsRun kind actors names ms capacity a → TellsRun kind actors names ms capacity b → a ≡ b
+one_run : (kind : Demo) (actors : List DemoActor) (names : Names_data) (ms : List Machine_data) (capacity : ℕ) (a b : Answer_data) → AreWellFormed ms → TellsDemoRun kind actors names ms capacity a → TellsDemoRun kind actors names ms capacity b → a ≡ b
 one_run kind actors names ms capacity a b wf h k =
     one_end kind names (length ms) a b h.end k.end (one-outcome by_demo ms (actor_at actors) DEMO_LIMIT (Some capacity) h.end k.end wf h.plain k.plain) h.tells k.tells
 
@@ -96,11 +96,11 @@ never_stuck bytes d ps ms ds actors capacity doc h f enough k p =
 
 pub record SomeRun (kind : Demo) (actors : List DemoActor) (names : Names_data) (ms : List Machine_data) (capacity : ℕ) : Type 0 where
   pub answer : Answer_data
-  pub tells : TellsRun kind actors names ms capacity answer
+  pub tells : TellsDemoRun kind actors names ms capacity answer
 
 some_end : (kind : Demo) (actors : List DemoActor) (names : Names_data) (ms : List Machine_data) (capacity : ℕ) (o : Ending DemoActor) → IsNeverStuck actors ms capacity → IsPlain ms by_demo (actor_at actors) DEMO_LIMIT (Some capacity) o → SomeRun kind actors names ms capacity
 some_end kind actors names ms capacity (Ended k) never p = record {
-  answer = ended_answer kind (actors_from k.actor 0 (length ms));
+  answer = demo_ended_answer kind (actors_from k.actor 0 (length ms));
   tells = record { end = Ended k; plain = p; tells = HasEnded k (actors_from k.actor 0 (length ms)) (has_actors k.actor (length ms)) refl };
 }
 some_end kind actors names ms capacity (Stopped q k) never p = record { answer = stopped_answer names (record { 0 = q }); tells = record { end = Stopped q k; plain = p; tells = IsStopped q k refl } }

@@ -7,7 +7,7 @@ use Rattle.rs_core.specs.Configurations.{Configuration}
 use Rattle.rs_core.specs.Histories.{History}
 use Rattle.rs_core.specs.Runs.{HasActors}
 use Rattle.rs_core.specs.declared.runs.Outcome.{Outcome}
-use Rattle.rs_demo_answers.specs.Demos.{Opens, actor_at, outcome_answer}
+use Rattle.rs_demo_answers.specs.Demos.{Opens, actor_at, demo_outcome_answer}
 use Rattle.rs_demo_answers.specs.declared.limits.TheConstants.{DEMO_LIMIT}
 use Rattle.rs_demos.specs.Acting.{by_demo}
 use Rattle.rs_demos.specs.declared.actors.DemoActor.{DemoActor}
@@ -21,13 +21,13 @@ use Rattle.rs_rings.specs.Closed.{Closed_data}
 
 -- what is told is an outcome to which the histories come: all have ended, and what is printed is that of what the actors have
 -- become; or the role that is named has as many acts as the limit, and hasn't ended
-abbrev pub ComesTo : Demo → Names_data → List Machine_data → Answer_data → (ℕ → History) → Configuration → (ℕ → DemoActor) → Type 0
-ComesTo kind names machines answer history end after =
-    (o : Outcome) × (left : List DemoActor) × IsOutcomeOf machines DEMO_LIMIT history end o × HasActors (length machines) after left × (answer ≡ outcome_answer kind names o left)
+abbrev pub DemoComesTo : Demo → Names_data → List Machine_data → Answer_data → (ℕ → History) → Configuration → (ℕ → DemoActor) → Type 0
+DemoComesTo kind names machines answer history end after =
+    (o : Outcome) × (left : List DemoActor) × IsOutcomeOf machines DEMO_LIMIT history end o × HasActors (length machines) after left × (answer ≡ demo_outcome_answer kind names o left)
 
 -- the session is the run of these machines by these actors, and comes to what is told
 abbrev pub WasRunByActors : Demo → List DemoActor → Names_data → List Machine_data → Answer_data → Closed_data → Type 0
-WasRunByActors kind actors names machines answer = WasRun machines by_demo (actor_at actors) DEMO_LIMIT (ComesTo kind names machines answer)
+WasRunByActors kind actors names machines answer = WasRun machines by_demo (actor_at actors) DEMO_LIMIT (DemoComesTo kind names machines answer)
 
 -- .. of the machines of this document
 pub record WasRunOn (kind : Demo) (actors : List DemoActor) (d : Document_data) (answer : Answer_data) (closed : Closed_data) : Type 0 where

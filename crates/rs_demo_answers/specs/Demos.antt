@@ -2,7 +2,7 @@
 use Rattle.std.specs.Prelude.{◌≡◌, ◌<◌, ◌≤◌, ℕ, List, [], codes, get_or, length, Option, Some}
 use Rattle.rs_answers.specs.Data.{Answer_data}
 use Rattle.rs_answers.specs.Derivations.{AreCanonical}
-use Rattle.rs_answers.specs.RefusalTexts.{malformed, too_small}
+use Rattle.rs_answers.specs.RefusalTexts.{malformed_answer, too_small}
 use Rattle.rs_answers.specs.Refusals.{HasNoDerivations, refusal_answer}
 use Rattle.rs_answers.specs.Runs.{capacity_of, stopped_answer}
 use Rattle.rs_answers.specs.Sessions.{HasMachines}
@@ -30,16 +30,16 @@ use Rattle.rs_words.specs.declared.limits.TheConstants.{DEFAULT_BOUND}
 
 -- the bytes aren't the numbers that the demo asks for
 abbrev pub bad_numbers : Answer_data
-bad_numbers = malformed (codes "numbers")
+bad_numbers = malformed_answer (codes "numbers")
 
 -- all roles have ended: what is printed of their actors
-abbrev pub ended_answer : Demo → List DemoActor → Answer_data
-ended_answer kind actors = record { text = output_of kind actors; verdict = verdict.Fine }
+abbrev pub demo_ended_answer : Demo → List DemoActor → Answer_data
+demo_ended_answer kind actors = record { text = output_of kind actors; verdict = verdict.Fine }
 
 -- what a run came to, with the actors that it left
-abbrev pub outcome_answer : Demo → Names_data → Outcome → List DemoActor → Answer_data
-outcome_answer kind names (outcome.Ended transcripts) left = ended_answer kind left
-outcome_answer kind names (outcome.Stopped role) left = stopped_answer names role
+abbrev pub demo_outcome_answer : Demo → Names_data → Outcome → List DemoActor → Answer_data
+demo_outcome_answer kind names (outcome.Ended transcripts) left = demo_ended_answer kind left
+demo_outcome_answer kind names (outcome.Stopped role) left = stopped_answer names role
 
 -- the actor of a role; behind the last role there is none, and a sink stands for it
 abbrev pub actor_at : List DemoActor → ℕ → DemoActor
@@ -47,17 +47,17 @@ actor_at actors role = get_or actors role (actor.Sink [])
 
 -- what is told of the end of a run. There is no row for a run in which no role can move: where the rings hold as many
 -- messages as the room says, there is none
-pub data TellsEnd (kind : Demo) (names : Names_data) (roles : ℕ) (answer : Answer_data) : Ending DemoActor → Type 0 where
-  HasEnded : (end : Moment DemoActor) (actors : List DemoActor) → HasActors roles end.actor actors → answer ≡ ended_answer kind actors
-      → TellsEnd kind names roles answer (Ended end)
+pub data TellsDemoEnd (kind : Demo) (names : Names_data) (roles : ℕ) (answer : Answer_data) : Ending DemoActor → Type 0 where
+  HasEnded : (end : Moment DemoActor) (actors : List DemoActor) → HasActors roles end.actor actors → answer ≡ demo_ended_answer kind actors
+      → TellsDemoEnd kind names roles answer (Ended end)
   IsStopped : (role : ℕ) (end : Moment DemoActor) → answer ≡ stopped_answer names (record { 0 = role })
-      → TellsEnd kind names roles answer (Stopped role end)
+      → TellsDemoEnd kind names roles answer (Stopped role end)
 
 -- what is told of the plain run of the machines, by these actors and with rings of this capacity
-pub record TellsRun (kind : Demo) (actors : List DemoActor) (names : Names_data) (machines : List Machine_data) (capacity : ℕ) (answer : Answer_data) : Type 0 where
+pub record TellsDemoRun (kind : Demo) (actors : List DemoActor) (names : Names_data) (machines : List Machine_data) (capacity : ℕ) (answer : Answer_data) : Type 0 where
   pub end : Ending DemoActor
   pub plain : IsPlain machines by_demo (actor_at actors) DEMO_LIMIT (Some capacity) end
-  pub tells : TellsEnd kind names (length machines) answer end
+  pub tells : TellsDemoEnd kind names (length machines) answer end
 
 -- what is answered to an accepted session
 pub data Performs (kind : Demo) (ring : Option ℕ) (actors : List DemoActor) (names : Names_data) (machines : List Machine_data) (derivations : List Derivation_data) (answer : Answer_data) : Type 0 where
@@ -65,7 +65,7 @@ pub data Performs (kind : Demo) (ring : Option ℕ) (actors : List DemoActor) (n
   IsTooSmall : capacity_of ring (room_of derivations) < room_of derivations → answer ≡ too_small (capacity_of ring (room_of derivations)) (room_of derivations)
       → Performs kind ring actors names machines derivations answer
   -- it is run
-  IsRun : room_of derivations ≤ capacity_of ring (room_of derivations) → TellsRun kind actors names machines (capacity_of ring (room_of derivations)) answer
+  IsRun : room_of derivations ≤ capacity_of ring (room_of derivations) → TellsDemoRun kind actors names machines (capacity_of ring (room_of derivations)) answer
       → Performs kind ring actors names machines derivations answer
 
 -- what is answered to the demo's own document

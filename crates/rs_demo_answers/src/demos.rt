@@ -5,9 +5,9 @@ ghost use Rattle.rs_demo_answers.specs.Demos as spec;
 ghost use Rattle.rs_answers.specs.RunSessions.{HasCome, IsThereWhere};
 ghost use Rattle.rs_answers.specs.Runs as spec_of_runs;
 ghost use Rattle.rs_demo_answers.specs.DemoSessions.{WasPerformed, WasRunByActors};
-ghost use Rattle.rs_demo_answers.specs.Demos.{AnswersDemo, Performs, TellsRun};
+ghost use Rattle.rs_demo_answers.specs.Demos.{AnswersDemo, Performs, TellsDemoRun};
 ghost use Rattle.rs_safety.specs.Room.{room_of};
-ghost use Rattle.rs_words.specs.Meaning.{IsFrom};
+ghost use Rattle.rs_words.specs.Meaning.{IsFromTo};
 ghost use Rattle.rs_model.specs.declared.limits.TheConstants.{MOST_CAPACITY};
 
 use crate::limits::DEMO_LIMIT;
@@ -24,8 +24,8 @@ use rs_safety::Accepted;
 use std::alloc::Global;
 
 /// All roles have ended: what is printed of their actors.
-fn ended_answer(alloc: Global, kind: Demo, actors: Vec<DemoActor>) -> Result<Answer, NoMemory>
-    ensures { IfOk result (λ a. a ≡ spec.ended_answer kind actors.items) }
+fn demo_ended_answer(alloc: Global, kind: Demo, actors: Vec<DemoActor>) -> Result<Answer, NoMemory>
+    ensures { IfOk result (λ a. a ≡ spec.demo_ended_answer kind actors.items) }
 {
     Ok(Answer {
         text: into_demo_output(alloc, kind, actors)?,
@@ -41,10 +41,10 @@ fn outcome_answer(
     outcome: Outcome,
     left: Vec<DemoActor>,
 ) -> Result<Answer, NoMemory>
-    ensures { IfOk result (λ a. a ≡ spec.outcome_answer kind names.now outcome left.items) }
+    ensures { IfOk result (λ a. a ≡ spec.demo_outcome_answer kind names.now outcome left.items) }
 {
     match outcome {
-        Outcome::Ended(_) => ended_answer(alloc, kind, left),
+        Outcome::Ended(_) => demo_ended_answer(alloc, kind, left),
         Outcome::Stopped(role) => stopped_answer(alloc, names, role),
     }
 }
@@ -56,7 +56,7 @@ pub(crate) fn tell(
     names: &Names,
     ran: Ran<DemoActor>,
 ) -> Result<AnswerWithSession, NoMemory>
-    ensures answer { IfOk result (λ a. a.answer ≡ spec.outcome_answer kind names.now ran.run.outcome ran.run.actors.items) }
+    ensures answer { IfOk result (λ a. a.answer ≡ spec.demo_outcome_answer kind names.now ran.run.outcome ran.run.actors.items) }
     ensures closed { IfOk result (λ a. a.closed ≡ Some ran.closed) }
 {
     let Ran { run, closed } = ran;
@@ -90,9 +90,9 @@ fn run_session(
     capacity: u16,
 ) -> Result<AnswerWithSession, NoMemory>
     requires actors { length actors.items ≡ length accepted.now.machines }
-    requires capacity { IsFrom 1 MOST_CAPACITY capacity }
+    requires capacity { IsFromTo 1 MOST_CAPACITY capacity }
     requires enough { room_of accepted.now.derivations ≤ capacity }
-    ensures answer { IfOk result (λ a. TellsRun kind actors.items names.now accepted.now.machines capacity a.answer) }
+    ensures answer { IfOk result (λ a. TellsDemoRun kind actors.items names.now accepted.now.machines capacity a.answer) }
     ensures closed { IfOk result (λ a. IsThereWhere (HasCome a.answer.verdict) (WasRunByActors kind actors.items names.now accepted.now.machines a.answer) a.closed) }
 {
     match run_inline(alloc, accepted, actors, capacity, DEMO_LIMIT) {
@@ -112,7 +112,7 @@ fn perform(
     actors: Vec<DemoActor>,
 ) -> Result<AnswerWithSession, NoMemory>
     requires actors { length actors.items ≡ length accepted.now.machines }
-    requires ring { IfSome ring (IsFrom 1 MOST_CAPACITY) }
+    requires ring { IfSome ring (IsFromTo 1 MOST_CAPACITY) }
     ensures answer { IfOk result (λ a. Performs kind ring actors.items names.now accepted.now.machines accepted.now.derivations a.answer) }
     ensures closed { IfOk result (λ a. IsThereWhere (HasCome a.answer.verdict) (WasRunByActors kind actors.items names.now accepted.now.machines a.answer) a.closed) }
 {
@@ -132,7 +132,7 @@ pub fn demo(
     ring: Option<u16>,
     bytes: &[u8],
 ) -> Result<AnswerWithSession, NoMemory>
-    requires { IfSome ring (IsFrom 1 MOST_CAPACITY) }
+    requires { IfSome ring (IsFromTo 1 MOST_CAPACITY) }
     ensures answer { IfOk result (λ a. AnswersDemo kind ring bytes.now a.answer) }
     ensures closed { IfOk result (λ a. IsThereWhere (HasCome a.answer.verdict) (WasPerformed kind bytes.now a.answer) a.closed) }
 {

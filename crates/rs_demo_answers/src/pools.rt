@@ -7,7 +7,7 @@ ghost use Rattle.rs_demo_answers.specs.Demos.{AnswersDemo, Performs};
 ghost use Rattle.rs_demo_answers.specs.Openings.{NeverStopped};
 ghost use Rattle.rs_model.specs.declared.limits.TheConstants.{MOST_BYTES, MOST_CAPACITY, MOST_WORKERS};
 ghost use Rattle.rs_safety.specs.Accepting.{IsAcceptedSession};
-ghost use Rattle.rs_words.specs.Meaning.{IsFrom};
+ghost use Rattle.rs_words.specs.Meaning.{IsFromTo};
 
 use crate::demos::{capacity_for, tell};
 use crate::limits::DEMO_LIMIT;
@@ -36,8 +36,8 @@ fn perform_by_workers<R: Threads + Wait + Sync, G: Gate + Sync>(
     requires accepted { IsAcceptedSession accepted.now }
     requires actors { length actors.items ≡ length accepted.now.machines }
     requires never { NeverStopped actors.items accepted.now.machines }
-    requires ring { IfSome ring (IsFrom 1 MOST_CAPACITY) }
-    requires workers { IsFrom 1 MOST_WORKERS workers }
+    requires ring { IfSome ring (IsFromTo 1 MOST_CAPACITY) }
+    requires workers { IsFromTo 1 MOST_WORKERS workers }
     ensures answer { IfOk result (λ a. Performs kind ring actors.items names.now accepted.now.machines accepted.now.derivations a.answer) }
     ensures closed { IfOk result (λ a. IsThereWhere (HasCome a.answer.verdict) (WasRunByActors kind actors.items names.now accepted.now.machines a.answer) a.closed) }
 {
@@ -67,8 +67,8 @@ pub fn demo_by_workers<R: Threads + Wait + Sync, G: Gate + Sync>(
     workers: u8,
     gate: &G,
 ) -> Result<AnswerWithSession, NoMemory>
-    requires ring { IfSome ring (IsFrom 1 MOST_CAPACITY) }
-    requires workers { IsFrom 1 MOST_WORKERS workers }
+    requires ring { IfSome ring (IsFromTo 1 MOST_CAPACITY) }
+    requires workers { IsFromTo 1 MOST_WORKERS workers }
     requires short { length bytes.now ≤ MOST_BYTES }
     ensures answer { IfOk result (λ a. AnswersDemo kind ring bytes.now a.answer) }
     ensures closed { IfOk result (λ a. IsThereWhere (HasCome a.answer.verdict) (WasPerformed kind bytes.now a.answer) a.closed) }

@@ -12,7 +12,7 @@ use Rattle.rs_core.specs.Runs.{IsGiven, HasActors}
 use Rattle.rs_demos.specs.Acting.{by_demo}
 use Rattle.rs_demos.specs.Numbers.{SpellsNumbers, takes_numbers}
 use Rattle.rs_demos.specs.Outputs.{output_of, result_of}
-use Rattle.rs_demos.specs.Results.{Computes, results_text, transform_at, transform_of, wrapped}
+use Rattle.rs_demos.specs.Results.{Computes, results_text, transform_at, transform_of, in_64_bits}
 use Rattle.rs_demos.specs.Sessions.{demo_machines, butterfly_machine, butterfly_pairs, states_from, Exchange}
 use Rattle.rs_demos.specs.Starts.{StartsWithActors, butterfly_member}
 use Rattle.rs_demos.specs.declared.actors.DemoActor.{DemoActor}
@@ -58,11 +58,11 @@ many-mapped f (x ∷ xs) = ap suc (many-mapped f xs)
 
 -- numbers of an input are within 64 bits
 
-zero-whole : pos 0 ≡ wrapped (pos 0)
+zero-whole : pos 0 ≡ in_64_bits (pos 0)
 unfolding int_wrap
 zero-whole = refl
 
-pub whole-numbers : (zs : List ℤ) (bytes : List ℕ) (i : ℕ) → SpellsNumbers zs bytes → get_or zs i (pos 0) ≡ wrapped (get_or zs i (pos 0))
+pub whole-numbers : (zs : List ℤ) (bytes : List ℕ) (i : ℕ) → SpellsNumbers zs bytes → get_or zs i (pos 0) ≡ in_64_bits (get_or zs i (pos 0))
 whole-numbers [] bytes i s = zero-whole
 whole-numbers (z ∷ zs) bytes zero s = sym (int_wrap_fits w64 z s.number.fits)
 whole-numbers (z ∷ zs) bytes (suc i) s = whole-numbers zs s.behind i s.later
@@ -177,7 +177,7 @@ results : (n : ℕ) (ss : List ℕ) (zs : List ℤ) (bytes : List ℕ) (actors a
     → map result_of after ≡ transform_of zs
 results n ss zs bytes actors after given end good pairs rows many spells is g r has =
     same-lists (map result_of after) (transform_of zs)
-    (many-mapped result_of after ∙ has.many ∙ sym many ∙ sym (many-numbered 0 zs) ∙ sym (many-mapped (λ (x : ℕ × ℤ). wrapped (transform_at zs x.0)) (enumerate_from 0 zs)))
+    (many-mapped result_of after ∙ has.many ∙ sym many ∙ sym (many-numbered 0 zs) ∙ sym (many-mapped (λ (x : ℕ × ℤ). in_64_bits (transform_at zs x.0)) (enumerate_from 0 zs)))
     (λ i lt. each i (omega (arith, lt, many-mapped result_of after, has.many)))
   where
     each : (i : ℕ) → i < n → slice_get (map result_of after) i ≡ slice_get (transform_of zs) i
@@ -187,8 +187,8 @@ results n ss zs bytes actors after given end good pairs rows many spells is g r 
         let ours = mapped result_of after i (end.actor i) (has.each i lt) in
         let held : result_of (end.actor i) ≡ held_at_end ss (λ (j : ℕ). j) (λ (j : ℕ). get_or zs j (pos 0)) i = ap result_of (sym l.1) in
         let sums = wrapped-at-end ss (λ (j : ℕ). j) (λ (j : ℕ). get_or zs j (pos 0)) (λ (j : ℕ). get_or zs j (pos 0)) (λ j. whole-numbers zs bytes j spells) i in
-        let theirs = mapped (λ (x : ℕ × ℤ). wrapped (transform_at zs x.0)) (enumerate_from 0 zs) i (0 + i, get_or zs i (pos 0)) (numbered-at 0 zs i (omega (arith, many))) in
-        ours ∙ ap (λ (z : ℤ). Some z) (held ∙ sums ∙ ap wrapped (rows i lt)) ∙ ap (λ (k : ℕ). Some (wrapped (transform_at zs k))) (sym e) ∙ sym theirs
+        let theirs = mapped (λ (x : ℕ × ℤ). in_64_bits (transform_at zs x.0)) (enumerate_from 0 zs) i (0 + i, get_or zs i (pos 0)) (numbered-at 0 zs i (omega (arith, many))) in
+        ours ∙ ap (λ (z : ℤ). Some z) (held ∙ sums ∙ ap in_64_bits (rows i lt)) ∙ ap (λ (k : ℕ). Some (in_64_bits (transform_at zs k))) (sym e) ∙ sym theirs
 
 data Counts (n : ℕ) : Type 0 where
   Two : n ≡ 2 → Counts n

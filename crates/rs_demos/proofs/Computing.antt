@@ -4,7 +4,7 @@ use Rattle.rs_core.specs.Plain.{Moment, Ended, IsPlain}
 use Rattle.rs_core.specs.Runs.{IsGiven, HasActors}
 use Rattle.rs_demos.specs.Acting.{by_demo}
 use Rattle.rs_demos.specs.Outputs.{bytes_of, output_of}
-use Rattle.rs_demos.specs.Results.{Computes, inverted}
+use Rattle.rs_demos.specs.Results.{Computes, inverse_bytes}
 use Rattle.rs_demos.specs.Sessions.{demo_machines, double_kernel, double_source, double_sink, stream_source, stream_sink}
 use Rattle.rs_demos.specs.Starts.{StartsWithActors}
 use Rattle.rs_demos.specs.declared.actors.DemoActor.{DemoActor}
@@ -20,7 +20,7 @@ given-at : (given : ℕ → DemoActor) (actors all : List DemoActor) (p : ℕ) (
 given-at given actors all p x e g s = g p x (ap (λ (z : List DemoActor). slice_get z p) e ∙ s)
 
 double : (bytes : List ℕ) (actors after : List DemoActor) (given : ℕ → DemoActor) (end : Moment DemoActor) (n : ℕ) → StartsWithActors demo.Double bytes actors
-    → IsGiven given actors → Ran (demo_machines demo.Double n) given end → HasActors (length actors) end.actor after → bytes_of (slice_get after 2) ≡ inverted bytes
+    → IsGiven given actors → Ran (demo_machines demo.Double n) given end → HasActors (length actors) end.actor after → bytes_of (slice_get after 2) ≡ inverse_bytes bytes
 double bytes actors after given end n s g r has =
     let k = given-at given actors (kernel_with None ∷ actor.Source bytes ∷ actor.Sink [] ∷ []) 0 (kernel_with None) s g refl in
     let so = given-at given actors (kernel_with None ∷ actor.Source bytes ∷ actor.Sink [] ∷ []) 1 (actor.Source bytes) s g refl in

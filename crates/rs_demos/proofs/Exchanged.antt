@@ -10,8 +10,8 @@ use Rattle.rs_model.specs.declared.values.Value.TheVariants as value
 use Rattle.rs_core.specs.declared.messages.Message.{Message}
 use Rattle.rs_core.specs.Histories.{Sent, Got, History}
 use Rattle.rs_core.proofs.Fifo.{sents, gots, sents-append, gots-append}
-use Rattle.rs_demos.specs.Acting.{told_of}
-use Rattle.rs_demos.specs.Results.{wrapped}
+use Rattle.rs_demos.specs.Acting.{actor_behind_value}
+use Rattle.rs_demos.specs.Results.{in_64_bits}
 use Rattle.rs_demos.specs.Sessions.{Exchange, role, partner}
 use Rattle.rs_demos.specs.declared.actors.DemoActor.{DemoActor}
 use Rattle.rs_demos.specs.declared.actors.DemoActor.TheVariants as actor
@@ -137,7 +137,7 @@ abbrev pub bits_behind : (ℕ → ℕ) → ℕ → ℕ
 bits_behind b i = b i / 2
 
 abbrev pub held_behind : ℕ → (ℕ → ℕ) → (ℕ → ℤ) → ℕ → ℤ
-held_behind s b a i = if b i % 2 == 0 then wrapped (a i +ℤ a (partner s i)) else wrapped (a (partner s i) -ℤ a i)
+held_behind s b a i = if b i % 2 == 0 then in_64_bits (a i +ℤ a (partner s i)) else in_64_bits (a (partner s i) -ℤ a i)
 
 -- role i gets the number of its partner
 came : (n s : ℕ) (ss : List ℕ) (b : ℕ → ℕ) (a : ℕ → ℤ) (h : ℕ → History) (y : ℕ → DemoActor) (i : ℕ) → Queues n h → (lt : i < n)
@@ -160,8 +160,8 @@ round : (n s : ℕ) (ss : List ℕ) (b : ℕ → ℕ) (a : ℕ → ℤ) (h : ℕ
 unfolding acts_with
 round n s ss b a h y q g st i lt =
     let c = came n s ss b a h y i q lt (g i lt) st in
-    let told : told_of (member (b i) (a i)) (st i lt).trades.came ≡ member (bits_behind b i) (held_behind s b a i) =
-    ap (λ (z : Value). told_of (member (b i) (a i)) z) c in
+    let told : actor_behind_value (member (b i) (a i)) (st i lt).trades.came ≡ member (bits_behind b i) (held_behind s b a i) =
+    ap (λ (z : Value). actor_behind_value (member (b i) (a i)) z) c in
     let P : DemoActor → Type 0 = λ z. Trades (pairs_of ss i) (y i) z (st i lt).trades.later in
     record {
       before = (st i lt).before ++ acts_with (partner s i) (a i) (st i lt).trades.came;
@@ -193,20 +193,20 @@ abbrev pub sum_at_end : List ℕ → (ℕ → ℕ) → (ℕ → ℤ) → ℕ →
 sum_at_end [] b a i = a i
 sum_at_end (s ∷ ss) b a i = sum_at_end ss (bits_behind b) (sum_behind s b a) i
 
-wrap-add : (x y : ℤ) → wrapped (wrapped x +ℤ wrapped y) ≡ wrapped (x +ℤ y)
-wrap-add x y = int_wrap-add_left w64 x (wrapped y) ∙ int_wrap-add_right w64 x y
+wrap-add : (x y : ℤ) → in_64_bits (in_64_bits x +ℤ in_64_bits y) ≡ in_64_bits (x +ℤ y)
+wrap-add x y = int_wrap-add_left w64 x (in_64_bits y) ∙ int_wrap-add_right w64 x y
 
-wrap-sub : (x y : ℤ) → wrapped (wrapped x -ℤ wrapped y) ≡ wrapped (x -ℤ y)
-wrap-sub x y = int_wrap-sub_right w64 (wrapped x) y ∙ int_wrap-add_left w64 x (neg_ℤ y)
+wrap-sub : (x y : ℤ) → in_64_bits (in_64_bits x -ℤ in_64_bits y) ≡ in_64_bits (x -ℤ y)
+wrap-sub x y = int_wrap-sub_right w64 (in_64_bits x) y ∙ int_wrap-add_left w64 x (neg_ℤ y)
 
-wrap-choice : (t : Bool) (x y : ℤ) → (if t then wrapped (wrapped x +ℤ wrapped y) else wrapped (wrapped y -ℤ wrapped x)) ≡ wrapped (if t then x +ℤ y else y -ℤ x)
+wrap-choice : (t : Bool) (x y : ℤ) → (if t then in_64_bits (in_64_bits x +ℤ in_64_bits y) else in_64_bits (in_64_bits y -ℤ in_64_bits x)) ≡ in_64_bits (if t then x +ℤ y else y -ℤ x)
 wrap-choice true x y = wrap-add x y
 wrap-choice false x y = wrap-sub y x
 
-wrapped-behind : (s : ℕ) (b : ℕ → ℕ) (a a' : ℕ → ℤ) → ((i : ℕ) → a i ≡ wrapped (a' i)) → (i : ℕ) → held_behind s b a i ≡ wrapped (sum_behind s b a' i)
+wrapped-behind : (s : ℕ) (b : ℕ → ℕ) (a a' : ℕ → ℤ) → ((i : ℕ) → a i ≡ in_64_bits (a' i)) → (i : ℕ) → held_behind s b a i ≡ in_64_bits (sum_behind s b a' i)
 wrapped-behind s b a a' e i =
-    ap₂ (λ (x y : ℤ). if b i % 2 == 0 then wrapped (x +ℤ y) else wrapped (y -ℤ x)) (e i) (e (partner s i)) ∙ wrap-choice (b i % 2 == 0) (a' i) (a' (partner s i))
+    ap₂ (λ (x y : ℤ). if b i % 2 == 0 then in_64_bits (x +ℤ y) else in_64_bits (y -ℤ x)) (e i) (e (partner s i)) ∙ wrap-choice (b i % 2 == 0) (a' i) (a' (partner s i))
 
-pub wrapped-at-end : (ss : List ℕ) (b : ℕ → ℕ) (a a' : ℕ → ℤ) → ((i : ℕ) → a i ≡ wrapped (a' i)) → (i : ℕ) → held_at_end ss b a i ≡ wrapped (sum_at_end ss b a' i)
+pub wrapped-at-end : (ss : List ℕ) (b : ℕ → ℕ) (a a' : ℕ → ℤ) → ((i : ℕ) → a i ≡ in_64_bits (a' i)) → (i : ℕ) → held_at_end ss b a i ≡ in_64_bits (sum_at_end ss b a' i)
 wrapped-at-end [] b a a' e i = e i
 wrapped-at-end (s ∷ ss) b a a' e i = wrapped-at-end ss (bits_behind b) (held_behind s b a) (sum_behind s b a') (wrapped-behind s b a a' e) i

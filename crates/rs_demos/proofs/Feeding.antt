@@ -15,8 +15,8 @@ use Rattle.rs_core.specs.Actors.{PlaysFrom}
 use Rattle.rs_core.specs.declared.messages.Message.{Message}
 use Rattle.rs_core.specs.Histories.{Sent, Got, History}
 use Rattle.rs_core.proofs.Fifo.{sents, gots}
-use Rattle.rs_demos.specs.Acting.{by_demo, told_of, piece_of, behind_piece}
-use Rattle.rs_demos.specs.Results.{inverted}
+use Rattle.rs_demos.specs.Acting.{by_demo, actor_behind_value, piece_of, behind_piece}
+use Rattle.rs_demos.specs.Results.{inverse_bytes}
 use Rattle.rs_demos.specs.Sessions.{role, arm, double_kernel, double_source, double_sink, stream_source, stream_sink}
 use Rattle.rs_demos.specs.declared.actors.DemoActor.{DemoActor}
 use Rattle.rs_demos.specs.declared.actors.DemoActor.TheVariants as actor
@@ -141,10 +141,10 @@ KernelGets s ps = feed ps
 
 -- what it sends to the sink from there on
 abbrev KernelSends : ℕ → List ℕ → List (List ℕ) → List Message
-KernelSends (suc (suc (suc (suc zero)))) piece ps = piece_message piece ∷ feed (map inverted ps)
+KernelSends (suc (suc (suc (suc zero)))) piece ps = piece_message piece ∷ feed (map inverse_bytes ps)
 KernelSends (suc (suc (suc (suc (suc zero))))) piece ps = stop_message ∷ []
 KernelSends (suc (suc (suc (suc (suc (suc s)))))) piece ps = []
-KernelSends s piece ps = feed (map inverted ps)
+KernelSends s piece ps = feed (map inverse_bytes ps)
 
 pub not-two : (r : Role) → role 1 ≡ r → r.0 ≡ 2 → ⊥
 not-two r e f = let g : 1 ≡ 2 = ap (λ (z : Role). z.0) e ∙ f in cc (g)
@@ -152,11 +152,11 @@ not-two r e f = let g : 1 ≡ 2 = ap (λ (z : Role). z.0) e ∙ f in cc (g)
 pub not-one : (r : Role) → role 2 ≡ r → r.0 ≡ 1 → ⊥
 not-one r e f = let g : 2 ≡ 1 = ap (λ (z : Role). z.0) e ∙ f in cc (g)
 
-unit-told : (v : Value) → v ≡ value.Unit → told_of (kernel_with None) v ≡ kernel_with None
-unit-told v e = ap (λ (z : Value). told_of (kernel_with None) z) e
+unit-told : (v : Value) → v ≡ value.Unit → actor_behind_value (kernel_with None) v ≡ kernel_with None
+unit-told v e = ap (λ (z : Value). actor_behind_value (kernel_with None) z) e
 
-piece-told : (v : Value) (bytes : List ℕ) → v ≡ value.Octets bytes → told_of (kernel_with None) v ≡ kernel_with (Some (inverted bytes))
-piece-told v bytes e = ap (λ (z : Value). told_of (kernel_with None) z) e
+piece-told : (v : Value) (bytes : List ℕ) → v ≡ value.Octets bytes → actor_behind_value (kernel_with None) v ≡ kernel_with (Some (inverse_bytes bytes))
+piece-told v bytes e = ap (λ (z : Value). actor_behind_value (kernel_with None) z) e
 
 kernel : (h : History) (s : ℕ) (piece : List ℕ) (ps : List (List ℕ)) (later : List Message) (t : ℕ) (y : DemoActor)
     → Plays double_kernel s (kernel_with (held_at s piece)) h t y → IsOver double_kernel t → AllUnit (gots 2 h)
@@ -216,10 +216,10 @@ kernel (Got r l v ∷ h) (suc (suc (suc zero))) piece (q ∷ ps) later t y p d u
     let el : l ≡ label 1 = ap (λ (m : Message). m.label) hd in
     let ev : v ≡ value.Octets q = ap (λ (m : Message). m.value) hd in
     let rest : gots 1 h ++ later ≡ feed ps = cc (f) in
-    let b : kernel_with (Some (inverted q)) ≡ p.1 = sym (piece-told v q ev) ∙ s.becomes in
+    let b : kernel_with (Some (inverse_bytes q)) ≡ p.1 = sym (piece-told v q ev) ∙ s.becomes in
     elim (one-of (arm 1 sort.Octets 4) (arm 2 sort.Unit 5) s.arm s.place s.follows) [
       | First a ↦ (let e : 4 ≡ p.0 = ap (λ (z : Arm). z.next) a ∙ s.goes in
-          kernel h (suc (suc (suc (suc zero)))) (inverted q) ps later t y (moved double_kernel 4 p.0 (kernel_with (Some (inverted q))) p.1 h t y e b p.3) d (subst AllUnit skip u) rest)
+          kernel h (suc (suc (suc (suc zero)))) (inverse_bytes q) ps later t y (moved double_kernel 4 p.0 (kernel_with (Some (inverse_bytes q))) p.1 h t y e b p.3) d (subst AllUnit skip u) rest)
       | Second a ↦ absurd (let k : 2 ≡ 1 = ap (λ (z : Label). z.0) (ap (λ (z : Arm). z.label) a ∙ s.label ∙ el) in cc (k))
     ]
 kernel (Got r l v ∷ h) (suc (suc (suc (suc zero)))) piece ps later t y p d u g =
@@ -229,7 +229,7 @@ kernel (Sent r l v ∷ h) (suc (suc (suc (suc zero)))) piece ps later t y p d u 
     let a : arm 1 sort.Octets 1 ≡ s.arm = cc (s.picks) in
     let e : 1 ≡ p.0 = ap (λ (z : Arm). z.next) a ∙ s.goes in
     let el : label 1 ≡ l = ap (λ (z : Arm). z.label) a ∙ s.label in
-    let on : sents 2 h ≡ feed (map inverted ps) = kernel h (suc zero) piece ps later t y (moved double_kernel 1 p.0 (kernel_with None) p.1 h t y e s.becomes p.3) d u g in
+    let on : sents 2 h ≡ feed (map inverse_bytes ps) = kernel h (suc zero) piece ps later t y (moved double_kernel 1 p.0 (kernel_with None) p.1 h t y e s.becomes p.3) d u g in
     sents-cons 2 r l v h (zero-of (role 2) r s.peer) ∙ cc (el, s.value, on)
 kernel (Got r l v ∷ h) (suc (suc (suc (suc (suc zero))))) piece ps later t y p d u g =
     absurd (no-got double_kernel 5 (kernel_with None) (arm 2 sort.Unit 6 ∷ []) (role 2) r l v p.0 p.1 refl p.2)
@@ -253,7 +253,7 @@ sink_arms = arm 1 sort.Octets 0 ∷ arm 2 sort.Unit 2 ∷ []
 abbrev pub sink_machine : ℕ → Machine_data
 sink_machine p = record { role = role p; states = Puts (role 0) (arm 0 sort.Unit 1 ∷ []) ∷ Takes (role 0) sink_arms ∷ Done ∷ []; start = 0 }
 
-sink-stays : (bytes : List ℕ) (v : Value) → (z : List ℕ) × (told_of (actor.Sink bytes) v ≡ actor.Sink z)
+sink-stays : (bytes : List ℕ) (v : Value) → (z : List ℕ) × (actor_behind_value (actor.Sink bytes) v ≡ actor.Sink z)
 sink-stays bytes value.Unit = (bytes, refl)
 sink-stays bytes (value.Flag b) = (bytes, refl)
 sink-stays bytes (value.Natural n) = (bytes, refl)
@@ -308,7 +308,7 @@ sink (Got r l v ∷ h) p (suc zero) bytes [] later t y pl d g =
     let el : l ≡ label 2 = ap (λ (m : Message). m.label) hd in
     let ev : v ≡ value.Unit = ap (λ (m : Message). m.value) hd in
     let rest : gots 0 h ++ later ≡ [] = cc (f) in
-    let b : actor.Sink bytes ≡ pl.1 = ap (λ (z : Value). told_of (actor.Sink bytes) z) (sym ev) ∙ s.becomes in
+    let b : actor.Sink bytes ≡ pl.1 = ap (λ (z : Value). actor_behind_value (actor.Sink bytes) z) (sym ev) ∙ s.becomes in
     elim (one-of (arm 1 sort.Octets 0) (arm 2 sort.Unit 2) s.arm s.place s.follows) [
       | First a ↦ absurd (let k : 1 ≡ 2 = ap (λ (z : Label). z.0) (ap (λ (z : Arm). z.label) a ∙ s.label ∙ el) in cc (k))
       | Second a ↦ (let e : 2 ≡ pl.0 = ap (λ (z : Arm). z.next) a ∙ s.goes in
@@ -323,7 +323,7 @@ sink (Got r l v ∷ h) p (suc zero) bytes (q ∷ ps) later t y pl d g =
     let el : l ≡ label 1 = ap (λ (m : Message). m.label) hd in
     let ev : v ≡ value.Octets q = ap (λ (m : Message). m.value) hd in
     let rest : gots 0 h ++ later ≡ feed ps = cc (f) in
-    let b : actor.Sink (bytes ++ q) ≡ pl.1 = ap (λ (z : Value). told_of (actor.Sink bytes) z) (sym ev) ∙ s.becomes in
+    let b : actor.Sink (bytes ++ q) ≡ pl.1 = ap (λ (z : Value). actor_behind_value (actor.Sink bytes) z) (sym ev) ∙ s.becomes in
     elim (one-of (arm 1 sort.Octets 0) (arm 2 sort.Unit 2) s.arm s.place s.follows) [
       | First a ↦ (let e : 0 ≡ pl.0 = ap (λ (z : Arm). z.next) a ∙ s.goes in
           ap (λ (z : List ℕ). actor.Sink z) (sym (append_assoc bytes q (concat ps)))
@@ -401,26 +401,26 @@ stream (a ∷ h) (suc (suc (suc (suc (suc s))))) bytes t y p d = absurd (nowhere
 
 -- both sessions
 
-inverted-append : (xs ys : List ℕ) → inverted (xs ++ ys) ≡ inverted xs ++ inverted ys
+inverted-append : (xs ys : List ℕ) → inverse_bytes (xs ++ ys) ≡ inverse_bytes xs ++ inverse_bytes ys
 inverted-append [] ys = refl
 inverted-append (x ∷ xs) ys = ap (λ (z : List ℕ). (255 - x) ∷ z) (inverted-append xs ys)
 
-inverted-concat : (ps : List (List ℕ)) → concat (map inverted ps) ≡ inverted (concat ps)
+inverted-concat : (ps : List (List ℕ)) → concat (map inverse_bytes ps) ≡ inverse_bytes (concat ps)
 inverted-concat [] = refl
-inverted-concat (p ∷ ps) = ap (λ (z : List ℕ). inverted p ++ z) (inverted-concat ps) ∙ sym (inverted-append p (concat ps))
+inverted-concat (p ∷ ps) = ap (λ (z : List ℕ). inverse_bytes p ++ z) (inverted-concat ps) ∙ sym (inverted-append p (concat ps))
 
 pub double-computes : (bytes : List ℕ) (hk hs ht : History) (k s t : ℕ) (yk ys yt : DemoActor) (from_source from_kernel from_sink : List Message)
     → Plays double_kernel 0 (kernel_with None) hk k yk → IsOver double_kernel k
     → Plays double_source 0 (actor.Source bytes) hs s ys → IsOver double_source s
     → Plays double_sink 0 (actor.Sink []) ht t yt → IsOver double_sink t
     → gots 1 hk ++ from_source ≡ sents 0 hs → gots 0 ht ++ from_kernel ≡ sents 2 hk → gots 2 hk ++ from_sink ≡ sents 0 ht
-    → actor.Sink (inverted bytes) ≡ yt
+    → actor.Sink (inverse_bytes bytes) ≡ yt
 double-computes bytes hk hs ht k s t yk ys yt from_source from_kernel from_sink pk dk ps ds pt dt one two three =
     let fed : Fed bytes (sents 0 hs) = source hs zero bytes s ys ps ds in
     let units : AllUnit (gots 2 hk) = front-unit (gots 2 hk) from_sink (subst AllUnit (sym three) (asks ht 2 0 [] t yt pt)) in
-    let sent : sents 2 hk ≡ feed (map inverted fed.pieces) = kernel hk zero [] fed.pieces from_source k yk pk dk units (one ∙ fed.are) in
-    let got = sink ht 2 zero [] (map inverted fed.pieces) from_kernel t yt pt dt (two ∙ sent) in
-    ap (λ (z : List ℕ). actor.Sink z) (ap inverted (sym fed.joined) ∙ sym (inverted-concat fed.pieces)) ∙ got
+    let sent : sents 2 hk ≡ feed (map inverse_bytes fed.pieces) = kernel hk zero [] fed.pieces from_source k yk pk dk units (one ∙ fed.are) in
+    let got = sink ht 2 zero [] (map inverse_bytes fed.pieces) from_kernel t yt pt dt (two ∙ sent) in
+    ap (λ (z : List ℕ). actor.Sink z) (ap inverse_bytes (sym fed.joined) ∙ sym (inverted-concat fed.pieces)) ∙ got
 
 pub stream-computes : (bytes : List ℕ) (hs ht : History) (s t : ℕ) (ys yt : DemoActor) (from_source : List Message)
     → Plays stream_source 0 (actor.Source bytes) hs s ys → IsOver stream_source s

@@ -10,7 +10,7 @@ use Rattle.rs_model.specs.declared.values.Value.{Value}
 use Rattle.rs_core.specs.Actors.{PlaysSent, PlaysGot, PlaysAction}
 use Rattle.rs_core.specs.Histories.{Action, Sent, Got, History}
 use Rattle.rs_core.proofs.Fifo.{sents, gots}
-use Rattle.rs_demos.specs.Acting.{by_demo, told_of}
+use Rattle.rs_demos.specs.Acting.{by_demo, actor_behind_value}
 use Rattle.rs_demos.specs.declared.actors.DemoActor.{DemoActor}
 
 -- it is sent by one of these arms
@@ -42,7 +42,7 @@ pub record GotAt (x : DemoActor) (arms : List Arm) (q r : Role) (l : Label) (v :
   pub follows : slice_get arms place ≡ Some arm
   pub label : arm.label ≡ l
   pub goes : arm.next ≡ t
-  pub becomes : told_of x v ≡ y
+  pub becomes : actor_behind_value x v ≡ y
 
 pub got-at : (m : Machine_data) (s : ℕ) (x : DemoActor) (arms : List Arm) (q r : Role) (l : Label) (v : Value) (t : ℕ) (y : DemoActor)
     → slice_get m.states s ≡ Some (Takes q arms) → PlaysGot by_demo m s x r l v t y → GotAt x arms q r l v t y

@@ -2,7 +2,7 @@
 use Rattle.std.proofs.Common.{◌≡◌, ◌≢◌, ℕ, zero, suc, ◌<◌, true, List, [], ◌∷◌, ◌++◌, Option, Some, None, slice_get, length, subst, arith}
 use Rattle.rs_model.specs.Data.{Machine_data}
 use Rattle.rs_model.specs.declared.machines.State.TheVariants.{Done}
-use Rattle.rs_core.specs.Actors.{Choice, PlaysFrom, Keeps}
+use Rattle.rs_core.specs.Actors.{Choice, PlaysFrom, KeepsChoice}
 use Rattle.rs_core.specs.Configurations.{state_at}
 use Rattle.rs_core.specs.Plain.{Moment, Ending, Ended, Stopped, Stuck, PlainFrom, AllDone, Stops, NoneMoves, GoesOn, IsPlain}
 use Rattle.rs_core.proofs.Ends.{sound-round}
@@ -37,7 +37,7 @@ there [] p x e = absurd (cc (e))
 there (y ∷ ys) zero x e = omega arith
 there (y ∷ ys) (suc p) x e = let r = there ys p x e in omega arith
 
-keeps-nothing : (m : Machine_data) (s : ℕ) (x y : DemoActor) (kept : Option Choice) → slice_get m.states s ≡ Some Done → Keeps by_demo m s x kept y → x ≡ y
+keeps-nothing : (m : Machine_data) (s : ℕ) (x y : DemoActor) (kept : Option Choice) → slice_get m.states s ≡ Some Done → KeepsChoice by_demo m s x kept y → x ≡ y
 keeps-nothing m s x y None d k = k
 keeps-nothing m s x y (Some c) d k = absurd (cc (d, k.2))
 

@@ -4,7 +4,7 @@ use Rattle.std.specs.List.{list_all, range_with_len}
 use Rattle.std.proofs.lemmas.Bool.{and_parts, false≢true, leb-true}
 use Rattle.std.proofs.lemmas.Bool.Decides.{eqb_tells}
 use Rattle.rs_documents.proofs.Parts.{none_there}
-use Rattle.rs_documents.specs.Reading.{AreShort, IsReady}
+use Rattle.rs_documents.specs.Reading.{AreShort, DocumentIsReady}
 use Rattle.rs_model.specs.Data.{Machine_data}
 use Rattle.rs_model.specs.declared.limits.TheConstants.{MOST_ACTS, MOST_ROLES, MOST_TALKS}
 use Rattle.rs_demos.specs.Sessions.{demo_names, demo_protocol, has_session, written_machines}
@@ -65,7 +65,7 @@ are-short : (machines : List (Option Machine_data)) → list_all short machines 
 unfolding short
 are-short machines h k m e = leb-true (length m.states) (MOST_ACTS + 1) (at-all short machines k (Some m) h e)
 
-pub ready : (kind : Demo) (n : ℕ) → has_session kind n ≡ true → IsReady (document_of kind n)
+pub ready : (kind : Demo) (n : ℕ) → has_session kind n ≡ true → DocumentIsReady (document_of kind n)
 ready kind n s =
     let again = can-be-read kind n s in
     let t = and_parts (nat_le 2 (length (demo_names kind n).roles) && nat_le (length (demo_names kind n).roles) MOST_ROLES)

@@ -12,10 +12,10 @@ use Rattle.rs_core.specs.Plain.{Moment, Ended, IsPlain}
 use Rattle.rs_core.specs.Runs.{IsGiven, HasActors}
 use Rattle.rs_core.specs.Histories.{Got, History}
 use Rattle.rs_core.proofs.Fifo.{sents, gots}
-use Rattle.rs_demos.specs.Acting.{by_demo, told_of}
+use Rattle.rs_demos.specs.Acting.{by_demo, actor_behind_value}
 use Rattle.rs_demos.specs.Numbers.{SpellsNumbers, takes_numbers}
 use Rattle.rs_demos.specs.Outputs.{output_of, result_of}
-use Rattle.rs_demos.specs.Results.{Computes, results_text, sums_of, total, wrapped}
+use Rattle.rs_demos.specs.Results.{Computes, results_text, sums_of, total, in_64_bits}
 use Rattle.rs_demos.specs.Sessions.{demo_machines, next_in_ring, previous_in_ring, ring_machine, ring_pairs, role}
 use Rattle.rs_demos.specs.Starts.{StartsWithActors, ring_member}
 use Rattle.rs_demos.specs.declared.actors.DemoActor.{DemoActor}
@@ -36,11 +36,11 @@ msg v = record { label = record { 0 = 0 }; value = v }
 -- a number before each value that comes
 abbrev all_sent : DemoActor → List Value → List Message
 all_sent x [] = []
-all_sent x (v ∷ vs) = msg (value.Whole (held x)) ∷ all_sent (told_of x v) vs
+all_sent x (v ∷ vs) = msg (value.Whole (held x)) ∷ all_sent (actor_behind_value x v) vs
 
 abbrev told_all : DemoActor → List Value → DemoActor
 told_all x [] = x
-told_all x (v ∷ vs) = told_all (told_of x v) vs
+told_all x (v ∷ vs) = told_all (actor_behind_value x v) vs
 
 record Traded (count q r : ℕ) (x y : DemoActor) (h : History) : Type 0 where
   values : List Value
@@ -52,7 +52,7 @@ record Traded (count q r : ℕ) (x y : DemoActor) (h : History) : Type 0 where
 traded : (xs : List ℕ) (q r : ℕ) (x y : DemoActor) (h : History) → Trades (map (λ (round : ℕ). (q, r)) xs) y x h → Traded (length xs) q r x y h
 traded [] q r x y h t = record { values = []; many = refl; sent = ap (λ (z : History). sents q z) t.0; got = ap (λ (z : History). gots r z) t.0; left = t.1 }
 traded (n ∷ xs) q r x y h t =
-    let on = traded xs q r (told_of x t.came) y t.later t.rest in
+    let on = traded xs q r (actor_behind_value x t.came) y t.later t.rest in
     record {
       values = t.came ∷ on.values;
       many = ap suc on.many;
@@ -64,13 +64,13 @@ traded (n ∷ xs) q r x y h t =
 
 many-sent : (x : DemoActor) (vs : List Value) → length (all_sent x vs) ≡ length vs
 many-sent x [] = refl
-many-sent x (v ∷ vs) = ap suc (many-sent (told_of x v) vs)
+many-sent x (v ∷ vs) = ap suc (many-sent (actor_behind_value x v) vs)
 
-ring-stays : (m : RingMember) (v : Value) → (k : RingMember) × (told_of (actor.RingMember m) v ≡ actor.RingMember k)
+ring-stays : (m : RingMember) (v : Value) → (k : RingMember) × (actor_behind_value (actor.RingMember m) v ≡ actor.RingMember k)
 ring-stays m value.Unit = (m, refl)
 ring-stays m (value.Flag b) = (m, refl)
 ring-stays m (value.Natural n) = (m, refl)
-ring-stays m (value.Whole z) = (record { last = z; sum = wrapped (m.sum +ℤ z) }, refl)
+ring-stays m (value.Whole z) = (record { last = z; sum = in_64_bits (m.sum +ℤ z) }, refl)
 ring-stays m (value.Octets b) = (m, refl)
 ring-stays m (value.Numbers zs) = (m, refl)
 
@@ -84,7 +84,7 @@ next-sent : (vs : List Value) (m : RingMember) (r : ℕ) (c : ℤ) → slice_get
 next-sent [] m r c e lt = absurd (omega arith)
 next-sent (v ∷ vs) m zero c e lt =
     let is : v ≡ value.Whole c = cc (e) in
-    ap (λ (z : Value). slice_get (all_sent (told_of (actor.RingMember m) z) vs) 0) is ∙ first-sent (record { last = c; sum = wrapped (m.sum +ℤ c) }) vs (omega arith)
+    ap (λ (z : Value). slice_get (all_sent (actor_behind_value (actor.RingMember m) z) vs) 0) is ∙ first-sent (record { last = c; sum = in_64_bits (m.sum +ℤ c) }) vs (omega arith)
 next-sent (v ∷ vs) m (suc r) c e lt =
     let k = ring-stays m v in
     ap (λ (z : DemoActor). slice_get (all_sent z vs) (suc r)) k.1 ∙ next-sent vs k.0 r c e (omega arith)
@@ -249,11 +249,11 @@ once-round zs n i low high many lt =
 
 -- what a member has summed
 
-summed : (cs : List ℤ) (m : RingMember) (s : ℤ) → m.sum ≡ wrapped s → result_of (told_all (actor.RingMember m) (map value.Whole cs)) ≡ wrapped (s +ℤ total cs)
-summed [] m s e = e ∙ ap wrapped (zero-right s)
+summed : (cs : List ℤ) (m : RingMember) (s : ℤ) → m.sum ≡ in_64_bits s → result_of (told_all (actor.RingMember m) (map value.Whole cs)) ≡ in_64_bits (s +ℤ total cs)
+summed [] m s e = e ∙ ap in_64_bits (zero-right s)
 summed (c ∷ cs) m s e =
-    let f : wrapped (m.sum +ℤ c) ≡ wrapped (s +ℤ c) = ap (λ (x : ℤ). wrapped (x +ℤ c)) e ∙ int_wrap-add_left w64 s c in
-    summed cs (record { last = c; sum = wrapped (m.sum +ℤ c) }) (s +ℤ c) f ∙ ap wrapped (assoc-add s c (total cs))
+    let f : in_64_bits (m.sum +ℤ c) ≡ in_64_bits (s +ℤ c) = ap (λ (x : ℤ). in_64_bits (x +ℤ c)) e ∙ int_wrap-add_left w64 s c in
+    summed cs (record { last = c; sum = in_64_bits (m.sum +ℤ c) }) (s +ℤ c) f ∙ ap in_64_bits (assoc-add s c (total cs))
 
 same-values : (xs ys : List Value) → length xs ≡ length ys → ((i : ℕ) → i < length xs → slice_get xs i ≡ slice_get ys i) → xs ≡ ys
 same-values [] [] n h = refl
@@ -306,9 +306,9 @@ value-at n z h y low high t fifo (suc r) i lt few =
 
 -- the sum that role i has at the end
 sum-at : (n : ℕ) (zs : List ℤ) (h : ℕ → History) (y : ℕ → DemoActor) → 2 ≤ n → n ≤ 16 → length zs ≡ n
-    → ((j : ℕ) → get_or zs j (pos 0) ≡ wrapped (get_or zs j (pos 0)))
+    → ((j : ℕ) → get_or zs j (pos 0) ≡ in_64_bits (get_or zs j (pos 0)))
     → AllTraded n (λ (j : ℕ). get_or zs j (pos 0)) h y → ((a b : ℕ) → a ≢ b → (q : List Message) × (gots a (h b) ++ q ≡ sents b (h a)))
-    → (i : ℕ) → i < n → result_of (y i) ≡ wrapped (total zs)
+    → (i : ℕ) → i < n → result_of (y i) ≡ in_64_bits (total zs)
 sum-at n zs h y low high many fits t fifo i lt =
     let same : (t i lt).values ≡ map value.Whole (numbers_back n (λ (j : ℕ). get_or zs j (pos 0)) (n - 1) (previous_in_ring n i)) =
     same-values (t i lt).values (map value.Whole (numbers_back n (λ (j : ℕ). get_or zs j (pos 0)) (n - 1) (previous_in_ring n i)))
@@ -322,7 +322,7 @@ sum-at n zs h y low high many fits t fifo i lt =
     let round : get_or zs i (pos 0) +ℤ total (numbers_back n (λ (j : ℕ). get_or zs j (pos 0)) (n - 1) (previous_in_ring n i)) ≡ total zs =
     ap (λ (k : ℕ). total (numbers_back n (λ (j : ℕ). get_or zs j (pos 0)) k i)) e ∙ once-round zs n i low high many lt in
     ap result_of (sym (t i lt).left)
-    ∙ ap (λ (vs : List Value). result_of (told_all (ring_at (λ (j : ℕ). get_or zs j (pos 0)) i) vs)) same ∙ sum ∙ ap wrapped round
+    ∙ ap (λ (vs : List Value). result_of (told_all (ring_at (λ (j : ℕ). get_or zs j (pos 0)) i) vs)) same ∙ sum ∙ ap in_64_bits round
 
 -- a run
 
@@ -343,7 +343,7 @@ results : (n : ℕ) (zs : List ℤ) (bytes : List ℕ) (actors after : List Demo
     → HasActors n end.actor after → map result_of after ≡ sums_of zs
 results n zs bytes actors after given end low high many spells is g r has =
     same-lists (map result_of after) (sums_of zs)
-    (many-mapped result_of after ∙ has.many ∙ sym many ∙ sym (many-mapped (λ (z : ℤ). wrapped (total zs)) zs))
+    (many-mapped result_of after ∙ has.many ∙ sym many ∙ sym (many-mapped (λ (z : ℤ). in_64_bits (total zs)) zs))
     (λ i lt. each i (omega (arith, lt, many-mapped result_of after, has.many)))
   where
     all : AllTraded n (λ (j : ℕ). get_or zs j (pos 0)) end.history end.actor
@@ -361,7 +361,7 @@ results n zs bytes actors after given end low high many spells is g r has =
     each i lt =
         let ours = mapped result_of after i (end.actor i) (has.each i lt) in
         let sum = sum-at n zs end.history end.actor low high many (λ j. whole-numbers zs bytes j spells) all (λ a b ne. (end.at.queue a b, r.fifo a b ne)) i lt in
-        let theirs = mapped (λ (z : ℤ). wrapped (total zs)) zs i (get_or zs i (pos 0)) (number-at zs i (omega (arith, many))) in
+        let theirs = mapped (λ (z : ℤ). in_64_bits (total zs)) zs i (get_or zs i (pos 0)) (number-at zs i (omega (arith, many))) in
         ours ∙ ap (λ (z : ℤ). Some z) sum ∙ sym theirs
 
 pub ring-run : (bytes : List ℕ) (actors after : List DemoActor) (given : ℕ → DemoActor) (limit : ℕ) (capacity : Option ℕ) (end : Moment DemoActor)

@@ -13,7 +13,7 @@ use Rattle.rs_model.specs.Data.{Machine_data, Protocol_data}
 use Rattle.rs_model.specs.declared.graph.Node.{Node}
 use Rattle.rs_model.specs.declared.graph.Node.TheVariants.{Finished, Talk}
 use Rattle.rs_model.specs.declared.values.Sort.TheVariants as sort
-use Rattle.rs_demos.specs.Sessions.{arm, role, demo_machines, demo_names, demo_protocol, double_kernel, double_sink, double_source, has_line, has_session, stream_sink, stream_source, written, ring_machine, butterfly_machine, role_name, numbers_from}
+use Rattle.rs_demos.specs.Sessions.{arm, role, demo_machines, demo_names, demo_protocol, double_kernel, double_sink, double_source, has_line, has_session, stream_sink, stream_source, machine_with_line, ring_machine, butterfly_machine, role_name, numbers_from}
 use Rattle.rs_demos.specs.Texts.{IsDemoText, document_of}
 use Rattle.rs_demos.specs.declared.kinds.Demo.{Demo}
 use Rattle.rs_demos.specs.declared.kinds.Demo.TheVariants as demo
@@ -55,7 +55,7 @@ in-place demo.Stream n (suc (suc k)) m e = absurd (cc (e))
 in-place demo.Ring n k m e = of-numbers (ring_machine n) (λ i. refl) n k m e
 in-place demo.Butterfly n k m e = of-numbers (butterfly_machine n) (λ i. refl) n k m e
 
-written-there : (kind : Demo) (ms : List Machine_data) (k : ℕ) (m : Machine_data) → slice_get (map (written kind) ms) k ≡ Some (Some m) → slice_get ms k ≡ Some m
+written-there : (kind : Demo) (ms : List Machine_data) (k : ℕ) (m : Machine_data) → slice_get (map (machine_with_line kind) ms) k ≡ Some (Some m) → slice_get ms k ≡ Some m
 written-there kind [] k m e = absurd (cc (e))
 written-there kind (x ∷ ms) zero m e = go (has_line kind x.role.0) e
   where
@@ -93,7 +93,7 @@ can-be-read kind n s = record {
   shown = printable kind n s;
   few = few-labels kind n;
   machines = record {
-    one_each = mapped-length (written kind) (demo_machines kind n) ∙ as-many kind n;
+    one_each = mapped-length (machine_with_line kind) (demo_machines kind n) ∙ as-many kind n;
     in_place = λ k m e. in-place kind n k m (written-there kind (demo_machines kind n) k m e);
   };
   derivations = record {

@@ -30,7 +30,7 @@ use Rattle.rs_bodies.specs.Dialects.{with_mark}
 use Rattle.rs_machines.specs.Canonical.{IsCanonicalMachineText}
 use Rattle.rs_machines.specs.Texts as machine_texts
 use Rattle.rs_bodies.specs.declared.dialects.Mark.TheVariants as mark
-use Rattle.rs_demos.specs.Sessions.{demo_names, Exchange, role, arm, machine, role_name, numbers_from, nodes_from, states_from, protocol_of, has_session, ring_exchanges, ring_pairs, butterfly_exchanges, butterfly_pairs, written}
+use Rattle.rs_demos.specs.Sessions.{demo_names, Exchange, role, arm, machine, role_name, numbers_from, nodes_from, states_from, protocol_of, has_session, ring_exchanges, ring_pairs, butterfly_exchanges, butterfly_pairs, machine_with_line}
 use Rattle.rs_documents.specs.Canonical.{AreCanonicalMachines}
 use Rattle.rs_documents.proofs.Lines.{without}
 use Rattle.rs_demos.specs.Texts.{IsDemoText}
@@ -201,14 +201,14 @@ line-is n p xs lt w = record {
 -- the lines of all roles but the first
 
 lines : (kind : Demo) (n : ℕ) (pairs : ℕ → List Exchange) (k a : ℕ) → 0 < a → a + k ≤ n → ((i : ℕ) → i < n → are_within n (pairs i) ≡ true)
-    → ((m : Machine_data) → m.role.0 ≢ 0 → written kind m ≡ Some m)
-    → AreCanonicalMachines (names_for n) (map (written kind) (map (λ (i : ℕ). machine i (states_from 0 (pairs i))) (range_with_len a k))) (flat_map (λ (i : ℕ). machine_line i (pairs i)) (range_with_len a k))
+    → ((m : Machine_data) → m.role.0 ≢ 0 → machine_with_line kind m ≡ Some m)
+    → AreCanonicalMachines (names_for n) (map (machine_with_line kind) (map (λ (i : ℕ). machine i (states_from 0 (pairs i))) (range_with_len a k))) (flat_map (λ (i : ℕ). machine_line i (pairs i)) (range_with_len a k))
 lines kind n pairs zero a low le w is = refl
 lines kind n pairs (suc k) a low le w is =
     let m : Machine_data = machine a (states_from 0 (pairs a)) in
     let later = lines kind n pairs k (a + 1) (omega arith) (omega arith) w is in
     let P : Option Machine_data → Type 0 = λ o.
-    AreCanonicalMachines (names_for n) (o ∷ map (written kind) (map (λ (i : ℕ). machine i (states_from 0 (pairs i))) (range_with_len (a + 1) k)))
+    AreCanonicalMachines (names_for n) (o ∷ map (machine_with_line kind) (map (λ (i : ℕ). machine i (states_from 0 (pairs i))) (range_with_len (a + 1) k)))
     (machine_line a (pairs a) ++ flat_map (λ (i : ℕ). machine_line i (pairs i)) (range_with_len (a + 1) k)) in
     subst P (sym (is (machine a (states_from 0 (pairs a))) (λ e. (let z : a ≡ 0 = e in omega arith))))
     (machine_line a (pairs a), flat_map (λ (i : ℕ). machine_line i (pairs i)) (range_with_len (a + 1) k), line-is n a (pairs a) (omega arith) (w a (omega arith)), later, refl)
@@ -263,10 +263,10 @@ pairs-within pairs n h i lt =
 less : (k : ℕ) → suc (suc k) - 1 ≡ suc k
 less k = omega arith
 
-ring-written : (m : Machine_data) → m.role.0 ≢ 0 → written demo.Ring m ≡ Some m
+ring-written : (m : Machine_data) → m.role.0 ≢ 0 → machine_with_line demo.Ring m ≡ Some m
 ring-written m ne = ap (λ (b : Bool). if b then Some m else None) (not-first m ne)
 
-butterfly-written : (m : Machine_data) → m.role.0 ≢ 0 → written demo.Butterfly m ≡ Some m
+butterfly-written : (m : Machine_data) → m.role.0 ≢ 0 → machine_with_line demo.Butterfly m ≡ Some m
 butterfly-written m ne = ap (λ (b : Bool). if b then Some m else None) (not-first m ne)
 
 ring-at : (k : ℕ) (text : List ℕ) → tests ring_exchanges ring_pairs (suc (suc k)) ≡ true → text ≡ ring_text (suc (suc k)) → IsDemoText demo.Ring (suc (suc k)) text

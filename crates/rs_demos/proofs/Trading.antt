@@ -9,7 +9,7 @@ use Rattle.rs_model.specs.declared.values.Value.{Value}
 use Rattle.rs_model.specs.declared.values.Value.TheVariants as value
 use Rattle.rs_core.specs.Actors.{PlaysFrom}
 use Rattle.rs_core.specs.Histories.{Action, Sent, Got, History}
-use Rattle.rs_demos.specs.Acting.{by_demo, told_of}
+use Rattle.rs_demos.specs.Acting.{by_demo, actor_behind_value}
 use Rattle.rs_demos.specs.Sessions.{Exchange, role, arm, states_from}
 use Rattle.rs_demos.specs.declared.actors.DemoActor.{DemoActor}
 use Rattle.rs_demos.specs.declared.actors.DemoActor.TheVariants as actor
@@ -37,7 +37,7 @@ chooses (actor.Source b) next h = absurd (cc (h))
 chooses (actor.Kernel k) next h = absurd (cc (h))
 chooses (actor.Sink b) next h = absurd (cc (h))
 
-pub stays-member : (x : DemoActor) (v : Value) → is_member x ≡ true → is_member (told_of x v) ≡ true
+pub stays-member : (x : DemoActor) (v : Value) → is_member x ≡ true → is_member (actor_behind_value x v) ≡ true
 stays-member (actor.RingMember m) value.Unit h = refl
 stays-member (actor.RingMember m) (value.Flag b) h = refl
 stays-member (actor.RingMember m) (value.Natural n) h = refl
@@ -67,7 +67,7 @@ pub record Trade (e : Exchange) (Behind : DemoActor → History → Type 0) (x :
   pub came : Value
   pub later : History
   pub is : h ≡ script_sent e x ∷ script_got e came ∷ later
-  pub rest : Behind (told_of x came) later
+  pub rest : Behind (actor_behind_value x came) later
 
 -- the history has these pairs of acts, one behind the other, and leads from actor x to y
 abbrev pub Trades : List Exchange → DemoActor → DemoActor → History → Type 0
@@ -124,7 +124,7 @@ trades (Sent r l v ∷ Got r' l' v' ∷ h) (e ∷ es) m s x t y mem st p d =
     let a' = only-arm (arm 0 sort.Whole (suc (suc s))) g'.arm g'.place g'.follows in
     let n' : suc (suc s) ≡ p.3.0 = ap (λ (z : Arm). z.next) a' ∙ g'.goes in
     let el' : record { 0 = 0 } ≡ l' = ap (λ (z : Arm). z.label) a' ∙ g'.label in
-    let ex' : told_of x v' ≡ p.3.1 = ap (λ (z : DemoActor). told_of z v') ex ∙ g'.becomes in
+    let ex' : actor_behind_value x v' ≡ p.3.1 = ap (λ (z : DemoActor). actor_behind_value z v') ex ∙ g'.becomes in
     let P : ℕ → DemoActor → Type 0 = λ i z. PlaysFrom by_demo m i z h t y in
     let on = subst₂ P (sym n') (sym ex') p.3.3 in
     let one : Sent r l v ≡ script_sent e x = cc (g.peer, el, ev) in
@@ -133,5 +133,5 @@ trades (Sent r l v ∷ Got r' l' v' ∷ h) (e ∷ es) m s x t y mem st p d =
       came = v';
       later = h;
       is = cc (one, other);
-      rest = trades h es m (suc (suc s)) (told_of x v') t y (stays-member x v' mem) (next-states m s e es st) on d;
+      rest = trades h es m (suc (suc s)) (actor_behind_value x v') t y (stays-member x v' mem) (next-states m s e es st) on d;
     }

@@ -9,7 +9,7 @@ use Rattle.rs_model.specs.declared.values.Sort.TheVariants as sort
 use Rattle.rs_model.specs.declared.values.Value.{Value}
 use Rattle.rs_model.specs.declared.values.Value.TheVariants as value
 use Rattle.rs_core.specs.Actors.{Choice, Behaviour}
-use Rattle.rs_demos.specs.Results.{inverted, wrapped}
+use Rattle.rs_demos.specs.Results.{inverse_bytes, in_64_bits}
 use Rattle.rs_demos.specs.declared.actors.DemoActor.{DemoActor}
 use Rattle.rs_demos.specs.declared.actors.DemoActor.TheVariants as actor
 use Rattle.rs_demos.specs.declared.parts.RingMember.{RingMember}
@@ -35,12 +35,12 @@ next_piece (b ∷ bytes) = Some (piece_of (b ∷ bytes))
 
 -- what an actor would send: a source its next piece, or the unit where no bytes are left; a kernel the piece that it
 -- holds, or the unit where it holds none; a sink the unit; a member of a ring or of a butterfly the number that it holds
-abbrev pub wanted : DemoActor → Value
-wanted (actor.Source bytes) = octets_or_unit (next_piece bytes)
-wanted (actor.Kernel k) = octets_or_unit k.piece
-wanted (actor.Sink bytes) = value.Unit
-wanted (actor.RingMember m) = value.Whole m.last
-wanted (actor.ButterflyMember m) = value.Whole m.held
+abbrev pub value_at_hand : DemoActor → Value
+value_at_hand (actor.Source bytes) = octets_or_unit (next_piece bytes)
+value_at_hand (actor.Kernel k) = octets_or_unit k.piece
+value_at_hand (actor.Sink bytes) = value.Unit
+value_at_hand (actor.RingMember m) = value.Whole m.last
+value_at_hand (actor.ButterflyMember m) = value.Whole m.held
 
 -- the sort of a value
 abbrev pub sort_of : Value → Sort
@@ -64,7 +64,7 @@ empty_for (a ∷ arms) = empty_value a.sort
 
 -- what it wants goes by that arm; where there is none, the first arm is taken, with an empty value
 abbrev pub chosen_at : DemoActor → List Arm → Option ℕ → Choice
-chosen_at x arms (Some place) = (place, wanted x)
+chosen_at x arms (Some place) = (place, value_at_hand x)
 chosen_at x arms None = (0, empty_for arms)
 
 -- what an actor is when it has sent what it wanted
@@ -74,39 +74,39 @@ after_sending (actor.Kernel k) = actor.Kernel (record { piece = None })
 after_sending x = x
 
 -- .. where an arm was found for it; else it stays as it is
-abbrev pub asked_at : DemoActor → Option ℕ → DemoActor
-asked_at x (Some place) = after_sending x
-asked_at x None = x
+abbrev pub actor_behind_choice : DemoActor → Option ℕ → DemoActor
+actor_behind_choice x (Some place) = after_sending x
+actor_behind_choice x None = x
 
 -- the place of the arm by which what it wants can go
 abbrev pub arm_for : DemoActor → List Arm → Option ℕ
-arm_for x arms = arm_place (sort_of (wanted x)) arms
+arm_for x arms = arm_place (sort_of (value_at_hand x)) arms
 
 -- a number comes to a member of a ring: it is the last one, and is added to the sum
 abbrev pub ring_told : RingMember → ℤ → RingMember
-ring_told m c = record { last = c; sum = wrapped (m.sum +ℤ c) }
+ring_told m c = record { last = c; sum = in_64_bits (m.sum +ℤ c) }
 
 -- a number c comes to a member of a butterfly that holds a: where this round's bit of its role is clear, it then holds
 -- a + c, and c - a where the bit is set
 abbrev pub butterfly_sum : ButterflyMember → ℤ → ℤ
-butterfly_sum m c = if m.bits % 2 == 0 then wrapped (m.held +ℤ c) else wrapped (c -ℤ m.held)
+butterfly_sum m c = if m.bits % 2 == 0 then in_64_bits (m.held +ℤ c) else in_64_bits (c -ℤ m.held)
 
 -- .. and the next bit is that of the next round
 abbrev pub butterfly_told : ButterflyMember → ℤ → ButterflyMember
 butterfly_told m c = record { bits = m.bits / 2; held = butterfly_sum m c }
 
 -- what an actor becomes when a value comes: a kernel holds the piece, each byte inverted; a sink joins the pieces
-abbrev pub told_of : DemoActor → Value → DemoActor
-told_of (actor.Kernel k) (value.Octets bytes) = actor.Kernel (record { piece = Some (inverted bytes) })
-told_of (actor.Sink bytes) (value.Octets piece) = actor.Sink (bytes ++ piece)
-told_of (actor.RingMember m) (value.Whole c) = actor.RingMember (ring_told m c)
-told_of (actor.ButterflyMember m) (value.Whole c) = actor.ButterflyMember (butterfly_told m c)
-told_of x v = x
+abbrev pub actor_behind_value : DemoActor → Value → DemoActor
+actor_behind_value (actor.Kernel k) (value.Octets bytes) = actor.Kernel (record { piece = Some (inverse_bytes bytes) })
+actor_behind_value (actor.Sink bytes) (value.Octets piece) = actor.Sink (bytes ++ piece)
+actor_behind_value (actor.RingMember m) (value.Whole c) = actor.RingMember (ring_told m c)
+actor_behind_value (actor.ButterflyMember m) (value.Whole c) = actor.ButterflyMember (butterfly_told m c)
+actor_behind_value x v = x
 
 -- how the actors of the demos behave
 abbrev pub by_demo : Behaviour DemoActor
 by_demo = record {
   chooses = λ x arms. chosen_at x arms (arm_for x arms);
-  asked = λ x arms. asked_at x (arm_for x arms);
-  told = λ x arms place v. told_of x v;
+  asked = λ x arms. actor_behind_choice x (arm_for x arms);
+  told = λ x arms place v. actor_behind_value x v;
 }

@@ -8,7 +8,7 @@ use Rattle.rs_model.specs.declared.values.Sort.TheVariants as sort
 use Rattle.rs_model.specs.declared.values.Value.TheVariants as value
 use Rattle.rs_model.proofs.EmptyValues.{empty-fits}
 use Rattle.rs_core.specs.Actors.{ChoosesWell}
-use Rattle.rs_demos.specs.Acting.{wanted, sort_of, arm_place, octets_or_unit, next_piece, empty_for, chosen_at, arm_for, by_demo}
+use Rattle.rs_demos.specs.Acting.{value_at_hand, sort_of, arm_place, octets_or_unit, next_piece, empty_for, chosen_at, arm_for, by_demo}
 use Rattle.rs_demos.specs.declared.actors.DemoActor.{DemoActor}
 use Rattle.rs_demos.specs.declared.actors.DemoActor.TheVariants as actor
 
@@ -28,7 +28,7 @@ octets-fit None s e = let P : Sort → Type 0 = λ z. HasSort value.Unit z in su
 octets-fit (Some bytes) s e = let P : Sort → Type 0 = λ z. HasSort (value.Octets bytes) z in subst P e refl
 
 -- what an actor wants has its sort
-wanted-fits : (x : DemoActor) (s : Sort) → sort_of (wanted x) ≡ s → HasSort (wanted x) s
+wanted-fits : (x : DemoActor) (s : Sort) → sort_of (value_at_hand x) ≡ s → HasSort (value_at_hand x) s
 wanted-fits (actor.Source bytes) s e = octets-fit (next_piece bytes) s e
 wanted-fits (actor.Kernel k) s e = octets-fit k.piece s e
 wanted-fits (actor.Sink bytes) s e = let P : Sort → Type 0 = λ z. HasSort value.Unit z in subst P e refl
@@ -67,5 +67,5 @@ chooses-well x arms some = go (arm_for x arms) refl
         → (arm : Arm) × (slice_get arms (chosen_at x arms o).0 ≡ Some arm) × HasSort (chosen_at x arms o).1 arm.sort
     go None e = first-there arms some
     go (Some place) e =
-        let r = place-right (sort_of (wanted x)) arms place e in
+        let r = place-right (sort_of (value_at_hand x)) arms place e in
         (r.0, r.1, wanted-fits x r.0.sort r.2)

@@ -29,6 +29,6 @@ SpellsNone bytes fault.BadNumbers = (zs : List ℤ) → SpellsNumbers zs bytes �
 SpellsNone bytes fault.NoMemory = Unit {0}
 
 -- .. and of asking for them
-abbrev pub AsksInVain : Demo → List ℕ → DemoFault → Type 0
-AsksInVain kind bytes fault.BadNumbers = (zs : List ℤ) → AreAsked kind bytes zs → ⊥
-AsksInVain kind bytes fault.NoMemory = Unit {0}
+abbrev pub ReadsInVain : Demo → List ℕ → DemoFault → Type 0
+ReadsInVain kind bytes fault.BadNumbers = (zs : List ℤ) → AreAsked kind bytes zs → ⊥
+ReadsInVain kind bytes fault.NoMemory = Unit {0}

@@ -8,12 +8,12 @@ use Rattle.rs_demos.specs.declared.kinds.Demo.{Demo}
 use Rattle.rs_demos.specs.declared.kinds.Demo.TheVariants as demo
 
 -- each byte b as 255 - b
-abbrev pub inverted : List ℕ → List ℕ
-inverted bytes = map (λ (b : ℕ). 255 - b) bytes
+abbrev pub inverse_bytes : List ℕ → List ℕ
+inverse_bytes bytes = map (λ (b : ℕ). 255 - b) bytes
 
 -- what 64 bits keep of a number
-abbrev pub wrapped : ℤ → ℤ
-wrapped z = int_wrap w64 z
+abbrev pub in_64_bits : ℤ → ℤ
+in_64_bits z = int_wrap w64 z
 
 -- the sum of the numbers
 abbrev pub total : List ℤ → ℤ
@@ -31,11 +31,11 @@ transform_at zs i = total (map (λ (x : ℕ × ℤ). signed_at i x.0 x.1) (enume
 
 -- the sum of the numbers, once for each of them
 abbrev pub sums_of : List ℤ → List ℤ
-sums_of zs = map (λ (z : ℤ). wrapped (total zs)) zs
+sums_of zs = map (λ (z : ℤ). in_64_bits (total zs)) zs
 
 -- the transform at each place
 abbrev pub transform_of : List ℤ → List ℤ
-transform_of zs = map (λ (x : ℕ × ℤ). wrapped (transform_at zs x.0)) (enumerate_from 0 zs)
+transform_of zs = map (λ (x : ℕ × ℤ). in_64_bits (transform_at zs x.0)) (enumerate_from 0 zs)
 
 -- results in decimal, separated by one space, and LF
 abbrev pub results_text : List ℤ → List ℕ
@@ -43,7 +43,7 @@ results_text zs = join_with_byte 32 (map signed_decimal zs) ++ (10 ∷ [])
 
 -- what the demo computes of the bytes
 abbrev pub Computes : Demo → List ℕ → List ℕ → Type 0
-Computes demo.Double bytes output = output ≡ inverted bytes
+Computes demo.Double bytes output = output ≡ inverse_bytes bytes
 Computes demo.Stream bytes output = output ≡ bytes
 Computes demo.Ring bytes output = (zs : List ℤ) × AreAsked demo.Ring bytes zs × (output ≡ results_text (sums_of zs))
 Computes demo.Butterfly bytes output = (zs : List ℤ) × AreAsked demo.Butterfly bytes zs × (output ≡ results_text (transform_of zs))

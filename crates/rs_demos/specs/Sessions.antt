@@ -243,9 +243,9 @@ has_line demo.Ring p = not (p == 0)
 has_line demo.Butterfly p = not (p == 0)
 
 -- the machine, where the text has a line for it
-abbrev pub written : Demo → Machine_data → Option Machine_data
-written kind m = if has_line kind m.role.0 then Some m else None
+abbrev pub machine_with_line : Demo → Machine_data → Option Machine_data
+machine_with_line kind m = if has_line kind m.role.0 then Some m else None
 
 -- .. of each role
 abbrev pub written_machines : Demo → ℕ → List (Option Machine_data)
-written_machines kind n = map (written kind) (demo_machines kind n)
+written_machines kind n = map (machine_with_line kind) (demo_machines kind n)

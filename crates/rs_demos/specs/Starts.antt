@@ -33,6 +33,6 @@ HasNoNumbers demo.Stream bytes = ⊥
 HasNoNumbers kind bytes = (zs : List ℤ) → AreAsked kind bytes zs → ⊥
 
 -- what each fault says; of refused memory nothing is said
-abbrev pub Refuses : Demo → List ℕ → DemoFault → Type 0
-Refuses kind bytes fault.BadNumbers = HasNoNumbers kind bytes
-Refuses kind bytes fault.NoMemory = Unit {0}
+abbrev pub StartRefuses : Demo → List ℕ → DemoFault → Type 0
+StartRefuses kind bytes fault.BadNumbers = HasNoNumbers kind bytes
+StartRefuses kind bytes fault.NoMemory = Unit {0}

@@ -2,9 +2,9 @@
 
 ghost use Rattle.std.specs.Prelude.{◌≡◌, ◌≢◌, ◌+ℤ◌, ◌-ℤ◌, [], IfOk, OnErr, OnOk};
 ghost use Rattle.rs_model.specs.Serving.{serves, sort_number};
-ghost use Rattle.rs_demos.specs.Acting.{after_sending, butterfly_told, by_demo, arm_place, ring_told, sort_of, told_of, wanted};
+ghost use Rattle.rs_demos.specs.Acting.{after_sending, butterfly_told, by_demo, arm_place, ring_told, sort_of, actor_behind_value, value_at_hand};
 ghost use Rattle.rs_demos.specs.Choosing.{chooses-well};
-ghost use Rattle.rs_demos.specs.Results.{inverted, wrapped};
+ghost use Rattle.rs_demos.specs.Results.{inverse_bytes, in_64_bits};
 
 use crate::parts::{ButterflyMember, Kernel, RingMember, Sink, Source};
 use rs_core::Actor;
@@ -24,7 +24,7 @@ pub enum DemoActor {
 impl DemoActor {
     /// The sort of what it would send.
     fn wanted_sort(&self) -> Sort
-        ensures { result ≡ sort_of (wanted self.now) }
+        ensures { result ≡ sort_of (value_at_hand self.now) }
     {
         match self {
             DemoActor::Source(source) if source.left().is_empty() => Sort::Unit,
@@ -40,7 +40,7 @@ impl DemoActor {
 
     /// What it would send, which it then has sent.
     fn send(&mut self, alloc: Global) -> Result<Value, NoMemory>
-        ensures value { IfOk result (λ v. v ≡ wanted self.old) }
+        ensures value { IfOk result (λ v. v ≡ value_at_hand self.old) }
         ensures becomes { OnOk result (self.new ≡ after_sending self.old) }
         ensures err { OnErr result (self.new ≡ self.old) }
     {
@@ -70,8 +70,8 @@ fn arm_place(sort: Sort, arms: &[Arm]) -> Option<u16>
 }
 
 /// The bytes, each one inverted.
-fn inverted(alloc: Global, bytes: &[u8]) -> Result<Octets, NoMemory>
-    ensures { IfOk result (λ o. o ≡ inverted bytes.now) }
+fn inverse_bytes(alloc: Global, bytes: &[u8]) -> Result<Octets, NoMemory>
+    ensures { IfOk result (λ o. o ≡ inverse_bytes bytes.now) }
 {
     let bytes: Vec<u8> = bytes.iter().map(|byte| 255 - *byte).collect(alloc)?;
     Ok(Octets::from(bytes))
@@ -79,14 +79,14 @@ fn inverted(alloc: Global, bytes: &[u8]) -> Result<Octets, NoMemory>
 
 #[tactic(auto, using(std::proofs::lemmas::Int::wraps))]
 fn sum(a: i64, b: i64) -> i64
-    ensures { result ≡ wrapped (a +ℤ b) }
+    ensures { result ≡ in_64_bits (a +ℤ b) }
 {
     a.wrapping_add(b)
 }
 
 #[tactic(auto, using(std::proofs::lemmas::Int::wraps))]
 fn difference(a: i64, b: i64) -> i64
-    ensures { result ≡ wrapped (a -ℤ b) }
+    ensures { result ≡ in_64_bits (a -ℤ b) }
 {
     a.wrapping_sub(b)
 }
@@ -141,7 +141,7 @@ impl Actor for DemoActor {
     ) -> Result<(), NoMemory> {
         match (self, value) {
             (DemoActor::Kernel(kernel), Value::Octets(bytes)) => {
-                kernel.piece = Some(inverted(alloc, bytes.as_slice())?);
+                kernel.piece = Some(inverse_bytes(alloc, bytes.as_slice())?);
             }
             (DemoActor::Sink(sink), Value::Octets(piece)) => sink.append(piece.as_slice())?,
             (DemoActor::RingMember(member), Value::Whole(number)) => *member = member.told(*number),

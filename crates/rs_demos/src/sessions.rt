@@ -2,7 +2,7 @@
 
 ghost use Rattle.std.specs.Prelude.{◌≡◌, ◌+◌, ◌≤◌, ◌<◌, ◌++◌, ◌∷◌, [], length, map, true, IfOk, OnOk};
 ghost use Rattle.rs_documents.specs.Parts.{no_parts};
-ghost use Rattle.rs_documents.specs.Reading.{IsReady};
+ghost use Rattle.rs_documents.specs.Reading.{DocumentIsReady};
 ghost use Rattle.rs_model.specs.declared.limits.TheConstants.{MOST_ROLES};
 ghost use Rattle.rs_model.specs.declared.graph.Node.TheVariants as node;
 ghost use Rattle.rs_model.specs.declared.machines.State.TheVariants as state;
@@ -27,7 +27,7 @@ use std::alloc::Global;
 pub fn demo_session_document(alloc: Global, kind: Demo, count: u8) -> Result<Document, NoMemory>
     requires { has_session kind count ≡ true }
     ensures document { IfOk result (λ document. document ≡ document_of kind count) }
-    ensures ready { IfOk result IsReady }
+    ensures ready { IfOk result DocumentIsReady }
     ensures roles { IfOk result (λ document. length document.names.roles ≡ document.protocol.roles) }
 {
     let names = demo_names(alloc, kind, count)?;

@@ -3,8 +3,8 @@
 ghost use Rattle.std.specs.Prelude.{◌≡◌, ◌∷◌, [], map, IfErr, IfOk, None};
 ghost use Rattle.std.specs.List.{enumerate_from};
 ghost use Rattle.rs_demos.specs.Numbers.{AreAsked, takes_numbers};
-ghost use Rattle.rs_demos.specs.Reading.{AsksInVain};
-ghost use Rattle.rs_demos.specs.Starts.{Refuses, StartsWithActors, butterfly_member, ring_member};
+ghost use Rattle.rs_demos.specs.Reading.{ReadsInVain};
+ghost use Rattle.rs_demos.specs.Starts.{StartRefuses, StartsWithActors, butterfly_member, ring_member};
 ghost use Rattle.rs_demos.specs.declared.actors.DemoActor.TheVariants as actor;
 
 use crate::actors::DemoActor;
@@ -19,7 +19,7 @@ use std::alloc::Global;
 /// `BadNumbers` comes exactly where the demo asks for numbers and the bytes aren't those.
 pub fn demo_actors(alloc: Global, kind: Demo, bytes: &[u8]) -> Result<Vec<DemoActor>, DemoFault>
     ensures ok { IfOk result (λ actors. StartsWithActors kind bytes.now actors.items) }
-    ensures err { IfErr result (λ e. Refuses kind bytes.now e) }
+    ensures err { IfErr result (λ e. StartRefuses kind bytes.now e) }
 {
     match kind {
         Demo::Double => Ok(double_actors(alloc, bytes)?),
@@ -49,7 +49,7 @@ fn takes_numbers(kind: Demo, count: usize) -> bool
 #[tactic(auto, using(crate::proofs::Spelt::asks_none))]
 fn asked_numbers(alloc: Global, kind: Demo, bytes: &[u8]) -> Result<Vec<i64>, DemoFault>
     ensures ok { IfOk result (λ numbers. AreAsked kind bytes.now numbers.items) }
-    ensures err { IfErr result (λ e. AsksInVain kind bytes.now e) }
+    ensures err { IfErr result (λ e. ReadsInVain kind bytes.now e) }
 {
     let numbers = numbers_of(alloc, bytes)?;
     if takes_numbers(kind, numbers.len()) {

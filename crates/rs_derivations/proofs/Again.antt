@@ -19,7 +19,7 @@ use Rattle.rs_derive.specs.Data.{DNode_data, Derivation_data}
 use Rattle.rs_text.specs.Arms.{sort_or_unit}
 use Rattle.rs_text.specs.Lexemes.{Lexeme}
 use Rattle.rs_text.specs.Lexing.{Lexed, next_lexeme}
-use Rattle.rs_text.specs.Names.{grown, is_among, place_of, number_or}
+use Rattle.rs_text.specs.Names.{names_with, is_among, place_of, number_or}
 use Rattle.rs_text.specs.NamePlaces.{StandsFirst, name_at, text_or_none}
 use Rattle.rs_text.specs.Shown.{shown_sort}
 use Rattle.rs_text.specs.Sound.{IsSound}
@@ -160,11 +160,11 @@ and_both : (a b : Bool) → (a && b) ≡ true → (a ≡ true) × (b ≡ true)
 and_both true b h = (refl, h)
 and_both false b h = absurd (cc h)
 
-grown_same : (xs names : List (List ℕ)) → Known names xs → grown names xs ≡ names
+grown_same : (xs names : List (List ℕ)) → Known names xs → names_with names xs ≡ names
 grown_same [] names h = refl
 grown_same (x ∷ xs) names h =
     let k = and_both (is_among x names) (list_all (λ y. is_among y names) xs) h in
-    ap (λ z. grown (if z then names else names ++ x ∷ []) xs) k.0 ∙ grown_same xs names k.1
+    ap (λ z. names_with (if z then names else names ++ x ∷ []) xs) k.0 ∙ grown_same xs names k.1
 
 named : (names : Names_data) (d : Derivation_data) → IsPrintable names d → NodesNamed names d.nodes
 named names d p = nodes_named names d.nodes p.roles.peers p.labels

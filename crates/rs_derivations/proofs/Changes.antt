@@ -10,7 +10,7 @@ use Rattle.rs_model.specs.declared.values.Sort.{Sort}
 use Rattle.rs_prefix.specs.declared.earliest.Kind.{Kind}
 use Rattle.rs_text.specs.declared.faults.TextKind.{TextKind}
 use Rattle.rs_text.specs.declared.faults.TextKind.TheVariants as kind
-use Rattle.rs_text.specs.Names.{grown}
+use Rattle.rs_text.specs.Names.{names_with}
 use Rattle.rs_text.specs.Seen.{plain_text, word_text, sort_named}
 use Rattle.rs_text.specs.Signs.{Sign}
 use Rattle.rs_derivations.specs.Cuts.{ActCut, behind_peer, behind_mark, behind_label, behind_paren, behind_sort, NodeCut, at_number, at_colon, at_state, at_acts, at_act, in_act, behind_act, at_above, at_rank_word, at_rank, at_next_word, at_nexts, at_next, behind_next, Cut, at_begin, at_role, at_bound_word, at_bound, at_brace, in_nodes, at_end}
@@ -110,7 +110,7 @@ pub record AddsRole (old : Names_data) (c : Cut) (t : Sign) (d : Cut) : Type 0 w
 
 pub record AddsLabel (old : Names_data) (c : Cut) (t : Sign) (d : Cut) : Type 0 where
   pub name : List ℕ
-  pub fault : fault_of old c t ≡ fault_of_label (grown old.labels (labels_in c)) (Some name)
+  pub fault : fault_of old c t ≡ fault_of_label (names_with old.labels (labels_in c)) (Some name)
   pub adds : Adds c d [] (name ∷ []) 0
 
 pub record AddsNode (old : Names_data) (c : Cut) (t : Sign) (d : Cut) : Type 0 where
@@ -208,7 +208,7 @@ labels_change : (old : Names_data) (x : List ℕ) (b : ℕ) (ns : List NodeTree)
 labels_change old x b ns s acts p k t None e = tt
 labels_change old x b ns s acts p k t (Some l) e = inr (inr (inl (record {
   name = l;
-  fault = ap (λ z. fault_of_label (grown old.labels (labels_of_nodes ns ++ labels_of_acts acts)) z) e;
+  fault = ap (λ z. fault_of_label (names_with old.labels (labels_of_nodes ns ++ labels_of_acts acts)) z) e;
   adds = record { roles_are = sym (append-nil (x ∷ (peers_of_nodes ns ++ (peers_of_acts acts ++ p ∷ [])))); labels_are = sym (append_assoc (labels_of_nodes ns) (labels_of_acts acts) (l ∷ [])); count_is = omega arith };
 })))
 

@@ -7,7 +7,7 @@ use Rattle.rs_model.specs.Data.{Names_data}
 use Rattle.rs_model.specs.declared.limits.TheConstants.{MOST_LABELS, MOST_CANDIDATES}
 use Rattle.rs_text.specs.declared.faults.TextKind.{TextKind}
 use Rattle.rs_text.specs.declared.faults.TextKind.TheVariants as kind
-use Rattle.rs_text.specs.Names.{grown, is_among}
+use Rattle.rs_text.specs.Names.{names_with, is_among}
 use Rattle.rs_text.specs.Signs.{Sign}
 use Rattle.rs_text.proofs.Gaps.{true_or_false}
 use Rattle.rs_text.proofs.Naming.{grown_append}
@@ -19,7 +19,7 @@ use Rattle.rs_derivations.proofs.Changes.{labels_in, roles_in, count_in, Adds, A
 -- what stands before the place keeps the rules
 pub record FitsSo (old : Names_data) (c : Cut) : Type 0 where
   pub roles : AreKnown old (roles_in c)
-  pub labels : length (grown old.labels (labels_in c)) ≤ MOST_LABELS
+  pub labels : length (names_with old.labels (labels_in c)) ≤ MOST_LABELS
   pub count : count_in c ≤ MOST_CANDIDATES
 
 pub fits_first : (old : Names_data) → length old.labels ≤ MOST_LABELS → FitsSo old at_begin
@@ -50,7 +50,7 @@ with_one : (b : Bool) (names : List (List ℕ)) (x : List ℕ) → length names 
 with_one true names x = omega arith
 with_one false names x = let e = length-append names (x ∷ []) in omega arith
 
-grown_longer : (xs names : List (List ℕ)) → length names ≤ length (grown names xs)
+grown_longer : (xs names : List (List ℕ)) → length names ≤ length (names_with names xs)
 grown_longer [] names = omega arith
 grown_longer (x ∷ xs) names =
     let a = with_one (is_among x names) names x in
@@ -99,14 +99,14 @@ node_room n false e h = leb-false MOST_CANDIDATES n e
 same_roles : (old : Names_data) (c d : Cut) (ls : List (List ℕ)) (n : ℕ) → Adds c d [] ls n → AreKnown old (roles_in c) → AreKnown old (roles_in d)
 same_roles old c d ls n a h = subst (AreKnown old) (sym (a.roles_are ∙ append-nil (roles_in c))) h
 
-same_labels : (old : Names_data) (c d : Cut) (rs : List (List ℕ)) (n : ℕ) → Adds c d rs [] n → length (grown old.labels (labels_in c)) ≤ MOST_LABELS → length (grown old.labels (labels_in d)) ≤ MOST_LABELS
-same_labels old c d rs n a h = subst (λ (z : List (List ℕ)). length (grown old.labels z) ≤ MOST_LABELS) (sym (a.labels_are ∙ append-nil (labels_in c))) h
+same_labels : (old : Names_data) (c d : Cut) (rs : List (List ℕ)) (n : ℕ) → Adds c d rs [] n → length (names_with old.labels (labels_in c)) ≤ MOST_LABELS → length (names_with old.labels (labels_in d)) ≤ MOST_LABELS
+same_labels old c d rs n a h = subst (λ (z : List (List ℕ)). length (names_with old.labels z) ≤ MOST_LABELS) (sym (a.labels_are ∙ append-nil (labels_in c))) h
 
 same_count : (c d : Cut) (rs ls : List (List ℕ)) → Adds c d rs ls 0 → count_in c ≤ MOST_CANDIDATES → count_in d ≤ MOST_CANDIDATES
 same_count c d rs ls a h = let e = a.count_is in omega arith
 
-more_labels : (old : Names_data) (c d : Cut) (rs : List (List ℕ)) (x : List ℕ) (n : ℕ) → Adds c d rs (x ∷ []) n → grown old.labels (labels_in d) ≡ grown (grown old.labels (labels_in c)) (x ∷ [])
-more_labels old c d rs x n a = ap (grown old.labels) a.labels_are ∙ grown_append (labels_in c) (x ∷ []) old.labels
+more_labels : (old : Names_data) (c d : Cut) (rs : List (List ℕ)) (x : List ℕ) (n : ℕ) → Adds c d rs (x ∷ []) n → names_with old.labels (labels_in d) ≡ names_with (names_with old.labels (labels_in c)) (x ∷ [])
+more_labels old c d rs x n a = ap (names_with old.labels) a.labels_are ∙ grown_append (labels_in c) (x ∷ []) old.labels
 
 pub fits_on : (old : Names_data) (c : Cut) (t : Sign) (d : Cut) → Change old c t d → fault_of old c t ≡ None → FitsSo old c → FitsSo old d
 fits_on old c t d change clear f = elim change [
@@ -118,7 +118,7 @@ fits_on old c t d change clear f = elim change [
   }
   | inr (inr (inl a)) ↦ record {
     roles = same_roles old c d (a.name ∷ []) 0 a.adds f.roles;
-    labels = subst (λ (z : List (List ℕ)). length z ≤ MOST_LABELS) (sym (more_labels old c d [] a.name 0 a.adds)) (label_fits (is_among a.name (grown old.labels (labels_in c))) (grown old.labels (labels_in c)) a.name f.labels (sym a.fault ∙ clear));
+    labels = subst (λ (z : List (List ℕ)). length z ≤ MOST_LABELS) (sym (more_labels old c d [] a.name 0 a.adds)) (label_fits (is_among a.name (names_with old.labels (labels_in c))) (names_with old.labels (labels_in c)) a.name f.labels (sym a.fault ∙ clear));
     count = same_count c d [] (a.name ∷ []) a.adds f.count;
   }
   | inr (inr (inr a)) ↦ record {
@@ -133,11 +133,11 @@ fits_on old c t d change clear f = elim change [
 back_roles : (old : Names_data) (c d : Cut) (rs ls : List (List ℕ)) (n : ℕ) → Adds c d rs ls n → AreKnown old (roles_in d) → AreKnown old (roles_in c)
 back_roles old c d rs ls n a h = (known_parts old (roles_in c) rs (subst (AreKnown old) a.roles_are h)).0
 
-back_labels : (old : Names_data) (c d : Cut) (rs ls : List (List ℕ)) (n : ℕ) → Adds c d rs ls n → length (grown old.labels (labels_in d)) ≤ MOST_LABELS → length (grown old.labels (labels_in c)) ≤ MOST_LABELS
+back_labels : (old : Names_data) (c d : Cut) (rs ls : List (List ℕ)) (n : ℕ) → Adds c d rs ls n → length (names_with old.labels (labels_in d)) ≤ MOST_LABELS → length (names_with old.labels (labels_in c)) ≤ MOST_LABELS
 back_labels old c d rs ls n a h =
-    let e : grown old.labels (labels_in d) ≡ grown (grown old.labels (labels_in c)) ls = ap (grown old.labels) a.labels_are ∙ grown_append (labels_in c) ls old.labels in
-    let k : length (grown (grown old.labels (labels_in c)) ls) ≤ MOST_LABELS = subst (λ (z : List (List ℕ)). length z ≤ MOST_LABELS) e h in
-    let l = grown_longer ls (grown old.labels (labels_in c)) in
+    let e : names_with old.labels (labels_in d) ≡ names_with (names_with old.labels (labels_in c)) ls = ap (names_with old.labels) a.labels_are ∙ grown_append (labels_in c) ls old.labels in
+    let k : length (names_with (names_with old.labels (labels_in c)) ls) ≤ MOST_LABELS = subst (λ (z : List (List ℕ)). length z ≤ MOST_LABELS) e h in
+    let l = grown_longer ls (names_with old.labels (labels_in c)) in
     omega arith
 
 back_count : (c d : Cut) (rs ls : List (List ℕ)) (n : ℕ) → Adds c d rs ls n → count_in d ≤ MOST_CANDIDATES → count_in c ≤ MOST_CANDIDATES
@@ -150,7 +150,7 @@ pub fits_back : (old : Names_data) (c : Cut) (t : Sign) (d : Cut) → Change old
 fits_back old c t d change f = elim change [
   | inl a ↦ (fits_adds old c d [] [] 0 a.adds f, a.clear)
   | inr (inl a) ↦ (fits_adds old c d (a.name ∷ []) [] 0 a.adds f, a.fault ∙ role_clear old a.name (one_known old a.name (known_parts old (roles_in c) (a.name ∷ []) (subst (AreKnown old) a.adds.roles_are f.roles)).1))
-  | inr (inr (inl a)) ↦ (fits_adds old c d [] (a.name ∷ []) 0 a.adds f, a.fault ∙ label_clear (is_among a.name (grown old.labels (labels_in c))) (grown old.labels (labels_in c)) a.name (subst (λ (z : List (List ℕ)). length z ≤ MOST_LABELS) (more_labels old c d [] a.name 0 a.adds) f.labels))
+  | inr (inr (inl a)) ↦ (fits_adds old c d [] (a.name ∷ []) 0 a.adds f, a.fault ∙ label_clear (is_among a.name (names_with old.labels (labels_in c))) (names_with old.labels (labels_in c)) a.name (subst (λ (z : List (List ℕ)). length z ≤ MOST_LABELS) (more_labels old c d [] a.name 0 a.adds) f.labels))
   | inr (inr (inr a)) ↦ (
     fits_adds old c d [] [] 1 a.adds f,
     (let e = a.adds.count_is in let k = f.count in let room : count_in c < MOST_CANDIDATES = omega arith in a.fault ∙ ap (λ z. if z then Some kind.TooManyNodes else None) (lt-leb MOST_CANDIDATES (count_in c) room)),

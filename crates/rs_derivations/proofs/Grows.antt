@@ -12,10 +12,10 @@ use Rattle.rs_text.specs.Arms.{sort_text}
 use Rattle.rs_text.specs.Seen.{is_text, plain_text, word_text, sort_named}
 use Rattle.rs_text.specs.Signs.{Sign, rec_word, end_word, plain, number, word_sign, bang, question, colon, comma, open_brace, close_brace, open_paren, close_paren, open_bracket, close_bracket}
 use Rattle.rs_text.proofs.Judging.{IsProper}
-use Rattle.rs_derivations.specs.Cuts.{ActCut, behind_peer, behind_mark, behind_label, behind_paren, behind_sort, NodeCut, at_number, at_colon, at_state, at_acts, at_act, in_act, behind_act, at_above, at_rank_word, at_rank, at_next_word, at_nexts, at_next, behind_next, Cut, at_begin, at_role, at_bound_word, at_bound, at_brace, in_nodes, at_end, act_cut_signs, opened, acts_closed, nexts_opened, node_cut_signs, cut_signs, IsPlace}
+use Rattle.rs_derivations.specs.Cuts.{ActCut, behind_peer, behind_mark, behind_label, behind_paren, behind_sort, NodeCut, at_number, at_colon, at_state, at_acts, at_act, in_act, behind_act, at_above, at_rank_word, at_rank, at_next_word, at_nexts, at_next, behind_next, Cut, at_begin, at_role, at_bound_word, at_bound, at_brace, in_nodes, at_end, act_cut_signs, elements_with_commas, node_behind_acts, node_before_nexts, node_cut_signs, cut_signs, IsPlace}
 use Rattle.rs_derivations.specs.Faults.{number_value}
 use Rattle.rs_derivations.specs.Feeding.{is_colon, is_comma, is_open_brace, is_close_brace, is_open_paren, is_close_paren, is_open_bracket, is_close_bracket, is_keyword, mark_kind, is_none_of, is_some_of, is_bound}
-use Rattle.rs_derivations.specs.Lists.{separated, with_separators}
+use Rattle.rs_derivations.specs.Lists.{list_with_separators, with_separators}
 use Rattle.rs_derivations.specs.Spells.{IsBound, IsFormed}
 use Rattle.rs_derivations.specs.Trees.{ActTree, NodeTree, DerivationTree, mark_sign, act_signs, acts_signs, number_signs, numbers_signs, rest_signs, node_signs, nodes_signs, head_signs, derivation_signs}
 
@@ -217,7 +217,7 @@ pub with_more : {A : Type 0} (f : A → List Sign) (xs ys : List A) → with_sep
 with_more f [] ys = refl
 with_more f (x ∷ xs) ys = ap (λ z. comma ∷ (f x ++ z)) (with_more f xs ys) ∙ ap (λ z. comma ∷ z) (sym (append_assoc (f x) (with_separators (comma ∷ []) f xs) (with_separators (comma ∷ []) f ys)))
 
-one_more : {A : Type 0} (f : A → List Sign) (x : A) (xs : List A) (y : A) → separated (comma ∷ []) f (x ∷ (xs ++ y ∷ [])) ≡ opened f (x ∷ xs) ++ f y
+one_more : {A : Type 0} (f : A → List Sign) (x : A) (xs : List A) (y : A) → list_with_separators (comma ∷ []) f (x ∷ (xs ++ y ∷ [])) ≡ elements_with_commas f (x ∷ xs) ++ f y
 one_more f x xs y =
     ap (λ z. f x ++ z) (with_more f xs (y ∷ []) ∙ ap (λ z. with_separators (comma ∷ []) f xs ++ comma ∷ z) (append-nil (f y)))
     ∙ sym (append_assoc (f x ++ with_separators (comma ∷ []) f xs) (comma ∷ []) (f y) ∙ append_assoc (f x) (with_separators (comma ∷ []) f xs) (comma ∷ f y))
@@ -259,25 +259,25 @@ none_there (x ∷ xs) h = absurd (cc h)
 abbrev begun : ℕ → ℕ → List Sign → List Sign
 begun n s z = number n ∷ colon ∷ number s ∷ open_bracket ∷ z
 
-on_acts : (n s : ℕ) (acts : List ActTree) (more : List Sign) (t : Sign) → acts_closed n s acts ++ (more ++ t ∷ []) ≡ (acts_closed n s acts ++ more) ++ t ∷ []
-on_acts n s acts more t = sym (append_assoc (acts_closed n s acts) more (t ∷ []))
+on_acts : (n s : ℕ) (acts : List ActTree) (more : List Sign) (t : Sign) → node_behind_acts n s acts ++ (more ++ t ∷ []) ≡ (node_behind_acts n s acts ++ more) ++ t ∷ []
+on_acts n s acts more t = sym (append_assoc (node_behind_acts n s acts) more (t ∷ []))
 
-acted_signs : (n s : ℕ) (acts : List ActTree) (a : ActTree) → node_cut_signs n (acted s acts a) ≡ begun n s (opened act_signs acts ++ act_signs a)
+acted_signs : (n s : ℕ) (acts : List ActTree) (a : ActTree) → node_cut_signs n (acted s acts a) ≡ begun n s (elements_with_commas act_signs acts ++ act_signs a)
 acted_signs n s [] a = ap (λ z. begun n s z) (append-nil (act_signs a))
 acted_signs n s (x ∷ xs) a = ap (λ z. begun n s z) (one_more act_signs x xs a)
 
-in_signs : (n s : ℕ) (acts : List ActTree) (own more : List Sign) (t : Sign) → more ≡ own ++ t ∷ [] → begun n s (opened act_signs acts ++ more) ≡ begun n s (opened act_signs acts ++ own) ++ t ∷ []
-in_signs n s acts own more t e = ap (λ z. begun n s (opened act_signs acts ++ z)) e ∙ ap (λ z. begun n s z) (sym (append_assoc (opened act_signs acts) own (t ∷ [])))
+in_signs : (n s : ℕ) (acts : List ActTree) (own more : List Sign) (t : Sign) → more ≡ own ++ t ∷ [] → begun n s (elements_with_commas act_signs acts ++ more) ≡ begun n s (elements_with_commas act_signs acts ++ own) ++ t ∷ []
+in_signs n s acts own more t e = ap (λ z. begun n s (elements_with_commas act_signs acts ++ z)) e ∙ ap (λ z. begun n s z) (sym (append_assoc (elements_with_commas act_signs acts) own (t ∷ [])))
 
-nexted_signs : (n s : ℕ) (acts : List ActTree) (a r : ℕ) (next : List ℕ) (k : ℕ) → node_cut_signs n (nexted s acts a r next k) ≡ (nexts_opened n s acts a r ++ opened number_signs next) ++ number k ∷ []
-nexted_signs n s acts a r [] k = sym (append_assoc (nexts_opened n s acts a r) [] (number k ∷ []))
-nexted_signs n s acts a r (x ∷ xs) k = ap (λ z. nexts_opened n s acts a r ++ z) (one_more number_signs x xs k) ∙ sym (append_assoc (nexts_opened n s acts a r) (opened number_signs (x ∷ xs)) (number k ∷ []))
+nexted_signs : (n s : ℕ) (acts : List ActTree) (a r : ℕ) (next : List ℕ) (k : ℕ) → node_cut_signs n (nexted s acts a r next k) ≡ (node_before_nexts n s acts a r ++ elements_with_commas number_signs next) ++ number k ∷ []
+nexted_signs n s acts a r [] k = sym (append_assoc (node_before_nexts n s acts a r) [] (number k ∷ []))
+nexted_signs n s acts a r (x ∷ xs) k = ap (λ z. node_before_nexts n s acts a r ++ z) (one_more number_signs x xs k) ∙ sym (append_assoc (node_before_nexts n s acts a r) (elements_with_commas number_signs (x ∷ xs)) (number k ∷ []))
 
 whole_shape : (xs m ys zs : List Sign) (c : Sign) → (((xs ++ c ∷ []) ++ m) ++ ys) ++ zs ≡ xs ++ (c ∷ (m ++ (ys ++ zs)))
 whole_shape xs m ys zs c = append_assoc ((xs ++ c ∷ []) ++ m) ys zs ∙ append_assoc (xs ++ c ∷ []) m (ys ++ zs) ∙ append_assoc xs (c ∷ []) (m ++ (ys ++ zs))
 
 -- a node as far as behind its last next, and "]"
-node_whole : (n s : ℕ) (acts : List ActTree) (a r : ℕ) (next : List ℕ) → node_signs n (node_tree s acts a r next) ≡ (nexts_opened n s acts a r ++ numbers_signs next) ++ close_bracket ∷ []
+node_whole : (n s : ℕ) (acts : List ActTree) (a r : ℕ) (next : List ℕ) → node_signs n (node_tree s acts a r next) ≡ (node_before_nexts n s acts a r ++ numbers_signs next) ++ close_bracket ∷ []
 node_whole n s acts a r next = ap (λ z. begun n s z) (sym (whole_shape (acts_signs acts) (number a ∷ plain (codes "rank") ∷ number r ∷ plain (codes "next") ∷ open_bracket ∷ []) (numbers_signs next) (close_bracket ∷ []) close_bracket))
 
 marks_grow : (ns : List NodeTree) (s : ℕ) (acts : List ActTree) (p : List ℕ) (t : Sign) (o : Option Kind) → mark_kind t ≡ o → IfSome (mark_step s acts p o) (GrownSigns ns (in_act s acts (behind_peer p)) t)
@@ -314,34 +314,34 @@ states_grow : (ns : List NodeTree) (t : Sign) (o : Option ℕ) → number_value 
 states_grow ns t None e = tt
 states_grow ns t (Some n) e = ap (λ z. number (length ns) ∷ colon ∷ z ∷ []) (sym (value_is t n e))
 
-no_acts : (acts : List ActTree) → acts ≡ [] → acts_signs acts ≡ opened act_signs acts
+no_acts : (acts : List ActTree) → acts ≡ [] → acts_signs acts ≡ elements_with_commas act_signs acts
 no_acts [] e = refl
 no_acts (x ∷ xs) e = absurd (cc e)
 
-no_numbers : (next : List ℕ) → next ≡ [] → numbers_signs next ≡ opened number_signs next
+no_numbers : (next : List ℕ) → next ≡ [] → numbers_signs next ≡ elements_with_commas number_signs next
 no_numbers [] e = refl
 no_numbers (x ∷ xs) e = absurd (cc e)
 
 peers_grow : (ns : List NodeTree) (s : ℕ) (acts : List ActTree) (t : Sign) (o : Option (List ℕ)) → plain_text t ≡ o → IfSome (act_step s acts o (is_close_bracket t)) (GrownSigns ns (at_act s acts) t)
-peers_grow ns s acts t (Some w) e = ap (λ z. begun (length ns) s (opened act_signs acts ++ z ∷ [])) (sym (plain_is t w e))
+peers_grow ns s acts t (Some w) e = ap (λ z. begun (length ns) s (elements_with_commas act_signs acts ++ z ∷ [])) (sym (plain_is t w e))
 peers_grow ns s acts t None e = if_grown (is_close_bracket t && is_none_of acts) (stays (at_above s acts)) _ (λ h.
     let k = and_both (is_close_bracket t) (is_none_of acts) h in
-    ap (λ z. begun (length ns) s (z ++ close_bracket ∷ [])) (no_acts acts (none_there acts k.1)) ∙ ap (λ z. begun (length ns) s (opened act_signs acts ++ z ∷ [])) (sym (close_bracket_is t k.0)))
+    ap (λ z. begun (length ns) s (z ++ close_bracket ∷ [])) (no_acts acts (none_there acts k.1)) ∙ ap (λ z. begun (length ns) s (elements_with_commas act_signs acts ++ z ∷ [])) (sym (close_bracket_is t k.0)))
 
 aboves_grow : (ns : List NodeTree) (s : ℕ) (acts : List ActTree) (t : Sign) (o : Option ℕ) → number_value t ≡ o → IfSome (above_step s acts o) (GrownSigns ns (at_above s acts) t)
 aboves_grow ns s acts t None e = tt
-aboves_grow ns s acts t (Some n) e = ap (λ z. acts_closed (length ns) s acts ++ z ∷ []) (sym (value_is t n e))
+aboves_grow ns s acts t (Some n) e = ap (λ z. node_behind_acts (length ns) s acts ++ z ∷ []) (sym (value_is t n e))
 
 ranks_grow : (ns : List NodeTree) (s : ℕ) (acts : List ActTree) (a : ℕ) (t : Sign) (o : Option ℕ) → number_value t ≡ o → IfSome (rank_step s acts a o) (GrownSigns ns (at_rank s acts a) t)
 ranks_grow ns s acts a t None e = tt
-ranks_grow ns s acts a t (Some n) e = ap (λ z. acts_closed (length ns) s acts ++ (number a ∷ plain (codes "rank") ∷ z ∷ [])) (sym (value_is t n e)) ∙ on_acts (length ns) s acts (number a ∷ plain (codes "rank") ∷ []) t
+ranks_grow ns s acts a t (Some n) e = ap (λ z. node_behind_acts (length ns) s acts ++ (number a ∷ plain (codes "rank") ∷ z ∷ [])) (sym (value_is t n e)) ∙ on_acts (length ns) s acts (number a ∷ plain (codes "rank") ∷ []) t
 
 nexts_grow : (ns : List NodeTree) (s : ℕ) (acts : List ActTree) (a r : ℕ) (next : List ℕ) (t : Sign) (o : Option ℕ) → number_value t ≡ o → IfSome (next_step s acts a r next o (is_close_bracket t)) (GrownSigns ns (at_next s acts a r next) t)
-nexts_grow ns s acts a r next t (Some n) e = nexted_signs (length ns) s acts a r next n ∙ ap (λ z. (nexts_opened (length ns) s acts a r ++ opened number_signs next) ++ z ∷ []) (sym (value_is t n e))
+nexts_grow ns s acts a r next t (Some n) e = nexted_signs (length ns) s acts a r next n ∙ ap (λ z. (node_before_nexts (length ns) s acts a r ++ elements_with_commas number_signs next) ++ z ∷ []) (sym (value_is t n e))
 nexts_grow ns s acts a r next t None e = if_grown (is_close_bracket t && is_none_of next) (ends (node_tree s acts a r next)) _ (λ h.
     let k = and_both (is_close_bracket t) (is_none_of next) h in
-    node_whole (length ns) s acts a r next ∙ ap (λ z. (nexts_opened (length ns) s acts a r ++ z) ++ close_bracket ∷ []) (no_numbers next (none_there next k.1))
-    ∙ ap (λ z. (nexts_opened (length ns) s acts a r ++ opened number_signs next) ++ z ∷ []) (sym (close_bracket_is t k.0)))
+    node_whole (length ns) s acts a r next ∙ ap (λ z. (node_before_nexts (length ns) s acts a r ++ z) ++ close_bracket ∷ []) (no_numbers next (none_there next k.1))
+    ∙ ap (λ z. (node_before_nexts (length ns) s acts a r ++ elements_with_commas number_signs next) ++ z ∷ []) (sym (close_bracket_is t k.0)))
 
 node_signs_grow : (ns : List NodeTree) (p : NodeCut) (t : Sign) → IsProper t → IfSome (node_grows ns p t) (GrownSigns ns p t)
 node_signs_grow ns at_number t proper = numbers_grow ns t (number_value t) refl
@@ -354,14 +354,14 @@ node_signs_grow ns (behind_act s x xs) t proper = either_grown (is_comma t) (is_
     (λ h. ap (λ z. begun (length ns) s (acts_signs (x ∷ xs) ++ z ∷ [])) (sym (comma_is t h)))
     (λ h. ap (λ z. begun (length ns) s (acts_signs (x ∷ xs) ++ z ∷ [])) (sym (close_bracket_is t h)))
 node_signs_grow ns (at_above s acts) t proper = aboves_grow ns s acts t (number_value t) refl
-node_signs_grow ns (at_rank_word s acts a) t proper = if_grown (is_keyword (codes "rank") t) (stays (at_rank s acts a)) _ (λ h. ap (λ z. acts_closed (length ns) s acts ++ (number a ∷ z ∷ [])) (sym (keyword_is (codes "rank") t h)) ∙ on_acts (length ns) s acts (number a ∷ []) t)
+node_signs_grow ns (at_rank_word s acts a) t proper = if_grown (is_keyword (codes "rank") t) (stays (at_rank s acts a)) _ (λ h. ap (λ z. node_behind_acts (length ns) s acts ++ (number a ∷ z ∷ [])) (sym (keyword_is (codes "rank") t h)) ∙ on_acts (length ns) s acts (number a ∷ []) t)
 node_signs_grow ns (at_rank s acts a) t proper = ranks_grow ns s acts a t (number_value t) refl
-node_signs_grow ns (at_next_word s acts a r) t proper = if_grown (is_keyword (codes "next") t) (stays (at_nexts s acts a r)) _ (λ h. ap (λ z. acts_closed (length ns) s acts ++ (number a ∷ plain (codes "rank") ∷ number r ∷ z ∷ [])) (sym (keyword_is (codes "next") t h)) ∙ on_acts (length ns) s acts (number a ∷ plain (codes "rank") ∷ number r ∷ []) t)
-node_signs_grow ns (at_nexts s acts a r) t proper = if_grown (is_open_bracket t) (stays (at_next s acts a r [])) _ (λ h. append-nil (nexts_opened (length ns) s acts a r) ∙ ap (λ z. acts_closed (length ns) s acts ++ (number a ∷ plain (codes "rank") ∷ number r ∷ plain (codes "next") ∷ z ∷ [])) (sym (open_bracket_is t h)) ∙ on_acts (length ns) s acts (number a ∷ plain (codes "rank") ∷ number r ∷ plain (codes "next") ∷ []) t)
+node_signs_grow ns (at_next_word s acts a r) t proper = if_grown (is_keyword (codes "next") t) (stays (at_nexts s acts a r)) _ (λ h. ap (λ z. node_behind_acts (length ns) s acts ++ (number a ∷ plain (codes "rank") ∷ number r ∷ z ∷ [])) (sym (keyword_is (codes "next") t h)) ∙ on_acts (length ns) s acts (number a ∷ plain (codes "rank") ∷ number r ∷ []) t)
+node_signs_grow ns (at_nexts s acts a r) t proper = if_grown (is_open_bracket t) (stays (at_next s acts a r [])) _ (λ h. append-nil (node_before_nexts (length ns) s acts a r) ∙ ap (λ z. node_behind_acts (length ns) s acts ++ (number a ∷ plain (codes "rank") ∷ number r ∷ plain (codes "next") ∷ z ∷ [])) (sym (open_bracket_is t h)) ∙ on_acts (length ns) s acts (number a ∷ plain (codes "rank") ∷ number r ∷ plain (codes "next") ∷ []) t)
 node_signs_grow ns (at_next s acts a r next) t proper = nexts_grow ns s acts a r next t (number_value t) refl
 node_signs_grow ns (behind_next s acts a r x xs) t proper = either_grown (is_comma t) (is_close_bracket t) (stays (at_next s acts a r (x ∷ xs))) (ends (node_tree s acts a r (x ∷ xs))) _
-    (λ h. ap (λ z. nexts_opened (length ns) s acts a r ++ (numbers_signs (x ∷ xs) ++ z ∷ [])) (sym (comma_is t h)) ∙ sym (append_assoc (nexts_opened (length ns) s acts a r) (numbers_signs (x ∷ xs)) (t ∷ [])))
-    (λ h. node_whole (length ns) s acts a r (x ∷ xs) ∙ ap (λ z. (nexts_opened (length ns) s acts a r ++ numbers_signs (x ∷ xs)) ++ z ∷ []) (sym (close_bracket_is t h)))
+    (λ h. ap (λ z. node_before_nexts (length ns) s acts a r ++ (numbers_signs (x ∷ xs) ++ z ∷ [])) (sym (comma_is t h)) ∙ sym (append_assoc (node_before_nexts (length ns) s acts a r) (numbers_signs (x ∷ xs)) (t ∷ [])))
+    (λ h. node_whole (length ns) s acts a r (x ∷ xs) ∙ ap (λ z. (node_before_nexts (length ns) s acts a r ++ numbers_signs (x ∷ xs)) ++ z ∷ []) (sym (close_bracket_is t h)))
 
 -- ---- the same of a derivation
 

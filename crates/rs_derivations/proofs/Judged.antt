@@ -25,9 +25,9 @@ use Rattle.rs_derivations.specs.declared.reading.Mode.TheVariants as mode
 use Rattle.rs_derivations.specs.Cuts.{ActCut, behind_peer, behind_mark, behind_label, behind_paren, behind_sort, NodeCut, at_number, at_colon, at_act, in_act, Cut, at_begin, at_role, in_nodes, at_end, cut_signs, wanted_of, IsPlace}
 use Rattle.rs_derivations.specs.Data.{Reader_data}
 use Rattle.rs_derivations.specs.Derivations.{labels_of_acts, labels_of_nodes, names_of, derivation_of}
-use Rattle.rs_text.specs.Names.{grown}
-use Rattle.rs_derivations.specs.Faults.{Begins, IsWithin, StandsAt, IsUnexpected, IsMisplaced, IsBroken, FaultAt, FirstFault, number_value, fault_of_role, fault_of_label, fault_of_node, fault_of, fault_in_node}
-use Rattle.rs_derivations.specs.Feeding.{Fed, begin, feed_at, is_read, feeding, names_read, derivation_read}
+use Rattle.rs_text.specs.Names.{names_with}
+use Rattle.rs_derivations.specs.Faults.{Begins, IsInDerivation, StandsAt, IsUnexpected, IsMisplaced, IsBroken, FaultAt, FirstFault, number_value, fault_of_role, fault_of_label, fault_of_node, fault_of, fault_in_node}
+use Rattle.rs_derivations.specs.Feeding.{Fed, start_of_derivation, feed_at, is_read, feeding, names_read, derivation_read}
 use Rattle.rs_derivations.specs.Spells.{IsFormed, Fits, SpellsDerivation}
 use Rattle.rs_derivations.specs.Trees.{ActTree, NodeTree, DerivationTree, derivation_signs}
 use Rattle.rs_derivations.proofs.Changes.{Change, change}
@@ -64,12 +64,12 @@ unread_in old x b ns (in_act s acts (behind_paren q k l)) = refl
 unread_in old x b ns (in_act s acts (behind_sort q k l o)) = refl
 unread_in old x b ns _ = refl
 
-unread : (old : Names_data) (c : Cut) → IsWithin c → is_read (stand old c) ≡ false
+unread : (old : Names_data) (c : Cut) → IsInDerivation c → is_read (stand old c) ≡ false
 unread old (in_nodes x b ns p) h = unread_in old x b ns p
 unread old (at_end t) h = absurd h
 unread old _ h = refl
 
-within : (old : Names_data) (c : Cut) → is_read (stand old c) ≡ false → IsWithin c
+within : (old : Names_data) (c : Cut) → is_read (stand old c) ≡ false → IsInDerivation c
 within old (at_end t) h = absurd (cc h)
 within old _ h = tt
 
@@ -105,7 +105,7 @@ unfit_peer old s acts (Some w) c h = absurd (cc h)
 unfit_in : (old : Names_data) (ns : List NodeTree) (p : NodeCut) (t : Sign) → node_grows ns p t ≡ None → fault_in_node old ns p t ≡ None
 unfit_in old ns at_number t h = unfit_number ns (number_value t) _ h
 unfit_in old ns (at_act s acts) t h = unfit_peer old s acts (plain_text t) _ h
-unfit_in old ns (in_act s acts (behind_mark p k)) t h = unfit_label (grown old.labels (labels_of_nodes ns ++ labels_of_acts acts)) s acts p k (word_text t) h
+unfit_in old ns (in_act s acts (behind_mark p k)) t h = unfit_label (names_with old.labels (labels_of_nodes ns ++ labels_of_acts acts)) s acts p k (word_text t) h
 unfit_in old ns (in_act s acts _) t h = refl
 unfit_in old ns _ t h = refl
 
@@ -140,7 +140,7 @@ goes_whole : (c d : Cut) (t : Sign) → Wholeness t → grows c t ≡ Some d →
 goes_whole c d _ (a_faulty j) h = absurd (cc (sym (broken_stuck c j) ∙ h))
 goes_whole c d _ (a_whole t w) h = w
 
-goes_within : (c d : Cut) (t : Sign) → grows c t ≡ Some d → IsWithin c
+goes_within : (c d : Cut) (t : Sign) → grows c t ≡ Some d → IsInDerivation c
 goes_within (at_end e) d t h = absurd (cc h)
 goes_within _ d t h = tt
 
@@ -193,7 +193,7 @@ clear_of old xs t u r s proper w c g f k h = elim h [
   | inr (inr b) ↦ subst IsWhole b.2.broken_is w
 ]
 
-at_place : (old : Names_data) (xs : List Sign) (r : Reader_data) (s : Stood old xs r) → IsWithin s.place → StandsAt xs s.place
+at_place : (old : Names_data) (xs : List Sign) (r : Reader_data) (s : Stood old xs r) → IsInDerivation s.place → StandsAt xs s.place
 at_place old xs r s h = record { right = s.right; within = h; signs = s.signs }
 
 misplaced : (old : Names_data) (xs : List Sign) (t : Sign) (at : ℕ) (u : Sign) (r : Reader_data) (s : Stood old xs r) → IsProper t → IsWhole t → (c : Cut) (k : TextKind) → grows s.place t ≡ Some c → fault_of old s.place t ≡ Some k → Here (FaultAt old) xs t at u (record { kind = k; at = at })
@@ -207,7 +207,7 @@ misplaced old xs t at u r s proper w c k g f = record {
   ];
 }
 
-unexpected : (old : Names_data) (xs : List Sign) (t : Sign) (at : ℕ) (u : Sign) (r : Reader_data) (s : Stood old xs r) → IsWithin s.place → IsWhole t → grows s.place t ≡ None → Here (FaultAt old) xs t at u (record { kind = kind.Expected (wanted_of s.place); at = at })
+unexpected : (old : Names_data) (xs : List Sign) (t : Sign) (at : ℕ) (u : Sign) (r : Reader_data) (s : Stood old xs r) → IsInDerivation s.place → IsWhole t → grows s.place t ≡ None → Here (FaultAt old) xs t at u (record { kind = kind.Expected (wanted_of s.place); at = at })
 unexpected old xs t at u r s h w g = record {
   at_is = refl;
   fault = inl (
@@ -228,7 +228,7 @@ unexpected old xs t at u r s h w g = record {
   ];
 }
 
-verdict_of : (old : Names_data) (xs : List Sign) (t : Sign) (at : ℕ) (n : Lexeme) (r : Reader_data) (s : Stood old xs r) → IsWithin s.place → IsProper t → IsWhole t → (g : Option Cut) (f : Option TextKind) → grows s.place t ≡ g → fault_of old s.place t ≡ f
+verdict_of : (old : Names_data) (xs : List Sign) (t : Sign) (at : ℕ) (n : Lexeme) (r : Reader_data) (s : Stood old xs r) → IsInDerivation s.place → IsProper t → IsWhole t → (g : Option Cut) (f : Option TextKind) → grows s.place t ≡ g → fault_of old s.place t ≡ f
     → judging.Verdict (FaultAt old) LeavesAny r xs t at n (told old g f (wanted_of s.place) at)
 verdict_of old xs t at n r s h proper w None f g e = inl (unexpected old xs t at n.sign r s h w g)
 verdict_of old xs t at n r s h proper w (Some c) None g e = clear_of old xs t n.sign r s proper w c g e
@@ -237,7 +237,7 @@ verdict_of old xs t at n r s h proper w (Some c) (Some k) g e = inl (misplaced o
 broken_same : (i j : FaultKind) → broken i ≡ broken j → i ≡ j
 broken_same i j h = cc
 
-faulty : (old : Names_data) (xs : List Sign) (j : FaultKind) (at : ℕ) (u : Sign) (r : Reader_data) (s : Stood old xs r) → IsWithin s.place → Here (FaultAt old) xs (broken j) at u (record { kind = kind_of j; at = at })
+faulty : (old : Names_data) (xs : List Sign) (j : FaultKind) (at : ℕ) (u : Sign) (r : Reader_data) (s : Stood old xs r) → IsInDerivation s.place → Here (FaultAt old) xs (broken j) at u (record { kind = kind_of j; at = at })
 faulty old xs j at u r s h = record {
   at_is = refl;
   fault = inr (inr (j, refl, record { broken_is = refl; place = s.place; stands = at_place old xs r s h }));
@@ -248,7 +248,7 @@ faulty old xs j at u r s h = record {
   ];
 }
 
-verdict_by : (t : Sign) → Wholeness t → (old : Names_data) (xs : List Sign) (at : ℕ) (n : Lexeme) (r : Reader_data) (s : Stood old xs r) → IsWithin s.place → IsProper t → judging.Verdict (FaultAt old) LeavesAny r xs t at n (feed_sign feeding t at n r)
+verdict_by : (t : Sign) → Wholeness t → (old : Names_data) (xs : List Sign) (at : ℕ) (n : Lexeme) (r : Reader_data) (s : Stood old xs r) → IsInDerivation s.place → IsProper t → judging.Verdict (FaultAt old) LeavesAny r xs t at n (feed_sign feeding t at n r)
 verdict_by _ (a_faulty j) old xs at n r s h proper = inl (faulty old xs j at n.sign r s h)
 verdict_by _ (a_whole t w) old xs at n r s h proper = subst (λ (z : Fed). judging.Verdict (FaultAt old) LeavesAny r xs t at n z) (sym (fed_is old xs t at n r s w)) (verdict_of old xs t at n r s h proper w (grows s.place t) (fault_of old s.place t) refl refl)
 
@@ -278,7 +278,7 @@ there_of old xs t u k f = elim f [
   | inr (inr b) ↦ (b.2.place, b.2.stands)
 ]
 
-read_within : (old : Names_data) (r : Reader_data) (c d : Cut) → r ≡ stand old c → is_read r ≡ true → d ≡ c → IsWithin d → ⊥
+read_within : (old : Names_data) (r : Reader_data) (c d : Cut) → r ≡ stand old c → is_read r ≡ true → d ≡ c → IsInDerivation d → ⊥
 read_within old r c d e h same w = absurd (cc (sym h ∙ ap is_read (e ∙ ap (stand old) (sym same)) ∙ unread old d w))
 
 behind_clear : (old : Names_data) (xs : List Sign) (t u : Sign) (r : Reader_data) (k : TextKind) → Stood old xs r → is_read r ≡ true → FaultAt old xs t u k → ⊥
@@ -300,7 +300,7 @@ judges old = record {
   beyond = λ xs t ys s u r k stands h whole f. beyond old xs t ys s u r k stands h f;
 }
 
-pub begins : (old : Names_data) → length old.labels ≤ MOST_LABELS → (t : Sign) → At old [] t (begin old)
+pub begins : (old : Names_data) → length old.labels ≤ MOST_LABELS → (t : Sign) → At old [] t (start_of_derivation old)
 begins old h t = record { place = at_begin; right = tt; signs = refl; is = refl; fits = fits_first old h }
 
 -- ---- what is read is spelt
@@ -330,8 +330,8 @@ spelt_by old bytes at ls x lexed h =
       goes_on = h.until;
     }
 
-pub sound : (old : Names_data) → length old.labels ≤ MOST_LABELS → (bytes : List ℕ) (at : ℕ) (ls : List Lexeme) (x : Reading Reader_data) → Lexed bytes at ls → read_all feeding (Ok (begin old)) ls ≡ Ok x → SpellsDerivation bytes at old (names_read x.reader) (derivation_read x.reader) x.until
-sound old few bytes at ls x lexed e = spelt_by old bytes at ls x lexed (halt (judges old) (begin old) bytes at ls x (begins old few) lexed e)
+pub sound : (old : Names_data) → length old.labels ≤ MOST_LABELS → (bytes : List ℕ) (at : ℕ) (ls : List Lexeme) (x : Reading Reader_data) → Lexed bytes at ls → read_all feeding (Ok (start_of_derivation old)) ls ≡ Ok x → SpellsDerivation bytes at old (names_read x.reader) (derivation_read x.reader) x.until
+sound old few bytes at ls x lexed e = spelt_by old bytes at ls x lexed (halt (judges old) (start_of_derivation old) bytes at ls x (begins old few) lexed e)
 
 -- ---- what is spelt is read
 
@@ -365,5 +365,5 @@ runs old (x ∷ xs) c tree l others h f = elim (some_or (grows c x.sign)) [
 ]
 
 -- the reading of what is spelt
-pub complete : (old new : Names_data) (bytes : List ℕ) (at : ℕ) (derivation : Derivation_data) (until : ℕ) (s : SpellsDerivation bytes at old new derivation until) → read_all feeding (Ok (begin old)) (s.lexemes ++ s.behind ∷ s.others) ≡ Ok (record { reader = stand old (at_end s.tree); until = s.behind.from })
+pub complete : (old new : Names_data) (bytes : List ℕ) (at : ℕ) (derivation : Derivation_data) (until : ℕ) (s : SpellsDerivation bytes at old new derivation until) → read_all feeding (Ok (start_of_derivation old)) (s.lexemes ++ s.behind ∷ s.others) ≡ Ok (record { reader = stand old (at_end s.tree); until = s.behind.from })
 complete old new bytes at derivation until s = runs old s.lexemes at_begin s.tree s.behind s.others (ap (along (Some at_begin)) s.spelt ∙ path (at_end s.tree) s.fits.formed) (fits_so old s.tree s.fits)

@@ -12,10 +12,10 @@ use Rattle.rs_text.specs.Arms.{sort_text, sort_signs}
 use Rattle.rs_text.specs.Seen.{word_text, sort_named}
 use Rattle.rs_text.specs.Signs.{Sign, rec_word, end_word, plain, number, word_sign, bang, question, colon, comma, open_brace, close_brace, open_paren, close_paren, open_bracket, close_bracket}
 use Rattle.rs_text.proofs.Judging.{IsProper}
-use Rattle.rs_derivations.specs.Cuts.{ActCut, behind_peer, behind_mark, behind_label, behind_paren, behind_sort, NodeCut, at_number, at_colon, at_state, at_acts, at_act, in_act, behind_act, at_above, at_rank_word, at_rank, at_next_word, at_nexts, at_next, behind_next, Cut, at_begin, at_role, at_bound_word, at_bound, at_brace, in_nodes, at_end, act_cut_signs, opened, acts_closed, nexts_opened, node_cut_signs, cut_signs, IsPlace}
-use Rattle.rs_derivations.specs.Faults.{Begins, IsWithin}
+use Rattle.rs_derivations.specs.Cuts.{ActCut, behind_peer, behind_mark, behind_label, behind_paren, behind_sort, NodeCut, at_number, at_colon, at_state, at_acts, at_act, in_act, behind_act, at_above, at_rank_word, at_rank, at_next_word, at_nexts, at_next, behind_next, Cut, at_begin, at_role, at_bound_word, at_bound, at_brace, in_nodes, at_end, act_cut_signs, elements_with_commas, node_behind_acts, node_before_nexts, node_cut_signs, cut_signs, IsPlace}
+use Rattle.rs_derivations.specs.Faults.{Begins, IsInDerivation}
 use Rattle.rs_derivations.specs.Feeding.{is_bound}
-use Rattle.rs_derivations.specs.Lists.{separated, with_separators}
+use Rattle.rs_derivations.specs.Lists.{list_with_separators, with_separators}
 use Rattle.rs_derivations.specs.Spells.{IsBound, IsFormed}
 use Rattle.rs_derivations.specs.Trees.{ActTree, NodeTree, DerivationTree, mark_sign, act_signs, acts_signs, number_signs, numbers_signs, rest_signs, node_signs, nodes_signs, head_signs, derivation_signs}
 use Rattle.rs_derivations.proofs.Grows.{act_tree, node_tree, derivation_tree, acted, grows, label_step, number_step, sorted_step, grown_to, stays, ends, GoesOn, goes_on}
@@ -127,7 +127,7 @@ path_later (a ∷ more) x b ns s y ys =
 path_first : (x : List ℕ) (b : ℕ) (ns : List NodeTree) (s : ℕ) (y : ActTree) (ys : List ActTree) → Path (in_nodes x b ns (at_act s [])) (acts_signs (y ∷ ys)) (in_nodes x b ns (behind_act s y ys))
 path_first x b ns s y ys = path_then (node x b ns (at_act s [])) (node x b ns (behind_act s y [])) (node x b ns (behind_act s y ys)) (act_signs y) (with_separators (comma ∷ []) act_signs ys) (path_act x b ns s [] y) (path_later ys x b ns s y [])
 
-path_opened : (x : List ℕ) (b : ℕ) (ns : List NodeTree) (s : ℕ) (acts : List ActTree) → Path (in_nodes x b ns (at_act s [])) (opened act_signs acts) (in_nodes x b ns (at_act s acts))
+path_opened : (x : List ℕ) (b : ℕ) (ns : List NodeTree) (s : ℕ) (acts : List ActTree) → Path (in_nodes x b ns (at_act s [])) (elements_with_commas act_signs acts) (in_nodes x b ns (at_act s acts))
 path_opened x b ns s [] = refl
 path_opened x b ns s (y ∷ ys) = path_then (node x b ns (at_act s [])) (node x b ns (behind_act s y ys)) (node x b ns (at_act s (y ∷ ys))) (acts_signs (y ∷ ys)) (comma ∷ []) (path_first x b ns s y ys) refl
 
@@ -144,7 +144,7 @@ path_more (n ∷ more) x b ns s acts a r y ys = path_more more x b ns s acts a r
 path_next : (x : List ℕ) (b : ℕ) (ns : List NodeTree) (s : ℕ) (acts : List ActTree) (a r y : ℕ) (ys : List ℕ) → Path (in_nodes x b ns (at_next s acts a r [])) (numbers_signs (y ∷ ys)) (in_nodes x b ns (behind_next s acts a r y ys))
 path_next x b ns s acts a r y ys = path_more ys x b ns s acts a r y []
 
-path_nexts : (x : List ℕ) (b : ℕ) (ns : List NodeTree) (s : ℕ) (acts : List ActTree) (a r : ℕ) (next : List ℕ) → Path (in_nodes x b ns (at_next s acts a r [])) (opened number_signs next) (in_nodes x b ns (at_next s acts a r next))
+path_nexts : (x : List ℕ) (b : ℕ) (ns : List NodeTree) (s : ℕ) (acts : List ActTree) (a r : ℕ) (next : List ℕ) → Path (in_nodes x b ns (at_next s acts a r [])) (elements_with_commas number_signs next) (in_nodes x b ns (at_next s acts a r next))
 path_nexts x b ns s acts a r [] = refl
 path_nexts x b ns s acts a r (y ∷ ys) = path_then (node x b ns (at_next s acts a r [])) (node x b ns (behind_next s acts a r y ys)) (node x b ns (at_next s acts a r (y ∷ ys))) (numbers_signs (y ∷ ys)) (comma ∷ []) (path_next x b ns s acts a r y ys) refl
 
@@ -158,15 +158,15 @@ path_end x b ns s acts a r (y ∷ ys) = path_then (node x b ns (at_next s acts a
 path_begun : (x : List ℕ) (b : ℕ) (ns : List NodeTree) (s : ℕ) (z : Cut) (more : List Sign) → Path (in_nodes x b ns (at_act s [])) more z → Path (in_nodes x b ns at_number) (number (length ns) ∷ colon ∷ number s ∷ open_bracket ∷ more) z
 path_begun x b ns s z more h = path_on (node x b ns at_number) (node x b ns at_colon) z (number (length ns)) (colon ∷ number s ∷ open_bracket ∷ more) (numbered x b ns) h
 
-path_acts : (x : List ℕ) (b : ℕ) (ns : List NodeTree) (s : ℕ) (acts : List ActTree) → Path (in_nodes x b ns at_number) (acts_closed (length ns) s acts) (in_nodes x b ns (at_above s acts))
+path_acts : (x : List ℕ) (b : ℕ) (ns : List NodeTree) (s : ℕ) (acts : List ActTree) → Path (in_nodes x b ns at_number) (node_behind_acts (length ns) s acts) (in_nodes x b ns (at_above s acts))
 path_acts x b ns s acts = path_begun x b ns s (node x b ns (at_above s acts)) (acts_signs acts ++ close_bracket ∷ []) (path_closed x b ns s acts)
 
-path_behind : (x : List ℕ) (b : ℕ) (ns : List NodeTree) (s : ℕ) (acts : List ActTree) (z : Cut) (more : List Sign) → Path (in_nodes x b ns (at_above s acts)) more z → Path (in_nodes x b ns at_number) (acts_closed (length ns) s acts ++ more) z
-path_behind x b ns s acts z more h = path_then (node x b ns at_number) (node x b ns (at_above s acts)) z (acts_closed (length ns) s acts) more (path_acts x b ns s acts) h
+path_behind : (x : List ℕ) (b : ℕ) (ns : List NodeTree) (s : ℕ) (acts : List ActTree) (z : Cut) (more : List Sign) → Path (in_nodes x b ns (at_above s acts)) more z → Path (in_nodes x b ns at_number) (node_behind_acts (length ns) s acts ++ more) z
+path_behind x b ns s acts z more h = path_then (node x b ns at_number) (node x b ns (at_above s acts)) z (node_behind_acts (length ns) s acts) more (path_acts x b ns s acts) h
 
-path_nexted : (x : List ℕ) (b : ℕ) (ns : List NodeTree) (s : ℕ) (acts : List ActTree) (a r : ℕ) (z : Cut) (more : List Sign) → Path (in_nodes x b ns (at_next s acts a r [])) more z → Path (in_nodes x b ns at_number) (nexts_opened (length ns) s acts a r ++ more) z
+path_nexted : (x : List ℕ) (b : ℕ) (ns : List NodeTree) (s : ℕ) (acts : List ActTree) (a r : ℕ) (z : Cut) (more : List Sign) → Path (in_nodes x b ns (at_next s acts a r [])) more z → Path (in_nodes x b ns at_number) (node_before_nexts (length ns) s acts a r ++ more) z
 path_nexted x b ns s acts a r z more h =
-    path_then (node x b ns at_number) (node x b ns (at_next s acts a r [])) z (nexts_opened (length ns) s acts a r) more
+    path_then (node x b ns at_number) (node x b ns (at_next s acts a r [])) z (node_before_nexts (length ns) s acts a r) more
     (path_behind x b ns s acts (node x b ns (at_next s acts a r [])) (number a ∷ plain (codes "rank") ∷ number r ∷ plain (codes "next") ∷ open_bracket ∷ []) refl) h
 
 path_place : (x : List ℕ) (b : ℕ) (ns : List NodeTree) (p : NodeCut) → Path (in_nodes x b ns at_number) (node_cut_signs (length ns) p) (in_nodes x b ns p)
@@ -174,21 +174,21 @@ path_place x b ns at_number = refl
 path_place x b ns at_colon = one (node x b ns at_number) (node x b ns at_colon) (number (length ns)) (numbered x b ns)
 path_place x b ns at_state = path_on (node x b ns at_number) (node x b ns at_colon) (node x b ns at_state) (number (length ns)) (colon ∷ []) (numbered x b ns) refl
 path_place x b ns (at_acts s) = path_on (node x b ns at_number) (node x b ns at_colon) (node x b ns (at_acts s)) (number (length ns)) (colon ∷ number s ∷ []) (numbered x b ns) refl
-path_place x b ns (at_act s acts) = path_begun x b ns s (node x b ns (at_act s acts)) (opened act_signs acts) (path_opened x b ns s acts)
-path_place x b ns (in_act s acts a) = path_begun x b ns s (node x b ns (in_act s acts a)) (opened act_signs acts ++ act_cut_signs a)
-    (path_then (node x b ns (at_act s [])) (node x b ns (at_act s acts)) (node x b ns (in_act s acts a)) (opened act_signs acts) (act_cut_signs a) (path_opened x b ns s acts) (path_cut x b ns s acts a))
+path_place x b ns (at_act s acts) = path_begun x b ns s (node x b ns (at_act s acts)) (elements_with_commas act_signs acts) (path_opened x b ns s acts)
+path_place x b ns (in_act s acts a) = path_begun x b ns s (node x b ns (in_act s acts a)) (elements_with_commas act_signs acts ++ act_cut_signs a)
+    (path_then (node x b ns (at_act s [])) (node x b ns (at_act s acts)) (node x b ns (in_act s acts a)) (elements_with_commas act_signs acts) (act_cut_signs a) (path_opened x b ns s acts) (path_cut x b ns s acts a))
 path_place x b ns (behind_act s y ys) = path_begun x b ns s (node x b ns (behind_act s y ys)) (acts_signs (y ∷ ys)) (path_first x b ns s y ys)
 path_place x b ns (at_above s acts) = path_acts x b ns s acts
 path_place x b ns (at_rank_word s acts a) = path_behind x b ns s acts (node x b ns (at_rank_word s acts a)) (number a ∷ []) refl
 path_place x b ns (at_rank s acts a) = path_behind x b ns s acts (node x b ns (at_rank s acts a)) (number a ∷ plain (codes "rank") ∷ []) refl
 path_place x b ns (at_next_word s acts a r) = path_behind x b ns s acts (node x b ns (at_next_word s acts a r)) (number a ∷ plain (codes "rank") ∷ number r ∷ []) refl
 path_place x b ns (at_nexts s acts a r) = path_behind x b ns s acts (node x b ns (at_nexts s acts a r)) (number a ∷ plain (codes "rank") ∷ number r ∷ plain (codes "next") ∷ []) refl
-path_place x b ns (at_next s acts a r next) = path_nexted x b ns s acts a r (node x b ns (at_next s acts a r next)) (opened number_signs next) (path_nexts x b ns s acts a r next)
+path_place x b ns (at_next s acts a r next) = path_nexted x b ns s acts a r (node x b ns (at_next s acts a r next)) (elements_with_commas number_signs next) (path_nexts x b ns s acts a r next)
 path_place x b ns (behind_next s acts a r y ys) = path_nexted x b ns s acts a r (node x b ns (behind_next s acts a r y ys)) (numbers_signs (y ∷ ys)) (path_next x b ns s acts a r y ys)
 
 path_node : (x : List ℕ) (b : ℕ) (ns : List NodeTree) (n : NodeTree) → Path (in_nodes x b ns at_number) (node_signs (length ns) n) (in_nodes x b (ns ++ n ∷ []) at_number)
 path_node x b ns n =
-    let shape : node_signs (length ns) n ≡ acts_closed (length ns) n.state n.pending ++ (number n.above ∷ plain (codes "rank") ∷ number n.rank ∷ plain (codes "next") ∷ open_bracket ∷ (numbers_signs n.next ++ close_bracket ∷ [])) =
+    let shape : node_signs (length ns) n ≡ node_behind_acts (length ns) n.state n.pending ++ (number n.above ∷ plain (codes "rank") ∷ number n.rank ∷ plain (codes "next") ∷ open_bracket ∷ (numbers_signs n.next ++ close_bracket ∷ [])) =
     ap (λ z. number (length ns) ∷ colon ∷ number n.state ∷ open_bracket ∷ z) (sym (append_assoc (acts_signs n.pending) (close_bracket ∷ []) (number n.above ∷ plain (codes "rank") ∷ number n.rank ∷ plain (codes "next") ∷ open_bracket ∷ (numbers_signs n.next ++ close_bracket ∷ [])))) in
     subst (λ (z : List Sign). Path (in_nodes x b ns at_number) z (in_nodes x b (ns ++ n ∷ []) at_number)) (sym shape)
     (path_behind x b ns n.state n.pending (node x b (ns ++ n ∷ []) at_number) (number n.above ∷ plain (codes "rank") ∷ number n.rank ∷ plain (codes "next") ∷ open_bracket ∷ (numbers_signs n.next ++ close_bracket ∷ [])) (path_end x b ns n.state n.pending n.above n.rank n.next))

@@ -20,7 +20,7 @@ use Rattle.rs_derivations.specs.declared.reading.Mode.{Mode}
 use Rattle.rs_derivations.specs.declared.reading.Mode.TheVariants as mode
 use Rattle.rs_derivations.specs.Data.{Reader_data}
 use Rattle.rs_derivations.specs.Faults.{number_value}
-use Rattle.rs_derivations.specs.Feeding.{Fed, in_mode, passes, played_by, feed_role, feed_bound, feed_node, feed_state, met_by, feed_act, feed_mark, labelled_by, feed_label, pended, sorted_by, feed_sort, feed_close_paren, feed_behind_act, feed_above, feed_rank, ended, feed_next, feed_behind_next, feed_rest, feed_at, feeding, is_bound, is_some_of, is_none_of, is_comma, is_close_bracket, is_close_brace, is_close_paren, mark_kind}
+use Rattle.rs_derivations.specs.Feeding.{Fed, in_mode, passes, feed_derivation_role, feed_role, feed_bound, feed_node, feed_state, feed_peer, feed_act, feed_mark, feed_label_number, feed_label, feed_pending, feed_sort_word, feed_sort, feed_close_paren, feed_behind_act, feed_above, feed_rank, feed_node_end, feed_next, feed_behind_next, feed_rest, feed_at, feeding, is_bound, is_some_of, is_none_of, is_comma, is_close_bracket, is_close_brace, is_close_paren, mark_kind}
 
 -- the fault stands there
 abbrev Stays : ℕ → Fed → Type 0
@@ -34,7 +34,7 @@ passed : (n : ℕ) (b : Bool) (w : Wanted) (m : Mode) (at : ℕ) (r : Reader_dat
 passed n true w m at r h = tt
 passed n false w m at r h = h
 
-played : (n : ℕ) (o : Option ℕ) (at : ℕ) (r : Reader_data) → at ≤ n → Stays n (played_by o at r)
+played : (n : ℕ) (o : Option ℕ) (at : ℕ) (r : Reader_data) → at ≤ n → Stays n (feed_derivation_role o at r)
 played n None at r h = h
 played n (Some k) at r h = tt
 
@@ -55,7 +55,7 @@ state : (n : ℕ) (o : Option ℕ) (at : ℕ) (r : Reader_data) → at ≤ n →
 state n None at r h = h
 state n (Some k) at r h = tt
 
-met : (n : ℕ) (o : Option ℕ) (at : ℕ) (r : Reader_data) → at ≤ n → Stays n (met_by o at r)
+met : (n : ℕ) (o : Option ℕ) (at : ℕ) (r : Reader_data) → at ≤ n → Stays n (feed_peer o at r)
 met n None at r h = h
 met n (Some k) at r h = tt
 
@@ -67,7 +67,7 @@ mark : (n : ℕ) (p : Role) (o : Option Kind) (at : ℕ) (r : Reader_data) → a
 mark n p None at r h = h
 mark n p (Some k) at r h = tt
 
-labelled : (n : ℕ) (o : Option ℕ) (p : Role) (m : Kind) (w : List ℕ) (at : ℕ) (r : Reader_data) → at ≤ n → Stays n (labelled_by o p m w at r)
+labelled : (n : ℕ) (o : Option ℕ) (p : Role) (m : Kind) (w : List ℕ) (at : ℕ) (r : Reader_data) → at ≤ n → Stays n (feed_label_number o p m w at r)
 labelled n (Some k) p m w at r h = tt
 labelled n None p m w at r h = either n (nat_le MOST_LABELS (length r.labels)) (fault kind.TooManyLabels at) (Ok _) h tt
 
@@ -75,7 +75,7 @@ label : (n : ℕ) (p : Role) (m : Kind) (o : Option (List ℕ)) (at : ℕ) (r : 
 label n p m None at r h = h
 label n p m (Some w) at r h = labelled n (place_of w r.labels) p m w at r h
 
-sorted : (n : ℕ) (o : Option Sort) (p : Role) (m : Kind) (l : Label) (at : ℕ) (r : Reader_data) → at ≤ n → Stays n (sorted_by o p m l at r)
+sorted : (n : ℕ) (o : Option Sort) (p : Role) (m : Kind) (l : Label) (at : ℕ) (r : Reader_data) → at ≤ n → Stays n (feed_sort_word o p m l at r)
 sorted n None p m l at r h = h
 sorted n (Some s) p m l at r h = tt
 
@@ -103,7 +103,7 @@ rank n (Some k) at r h = tt
 
 next : (n : ℕ) (o : Option ℕ) (c : Bool) (at : ℕ) (r : Reader_data) → at ≤ n → Stays n (feed_next o c at r)
 next n (Some k) c at r h = tt
-next n None c at r h = either n (c && is_none_of r.node.next) (ended r) (expected _ at) tt h
+next n None c at r h = either n (c && is_none_of r.node.next) (feed_node_end r) (expected _ at) tt h
 
 behind_next : (n : ℕ) (g c : Bool) (at : ℕ) (r : Reader_data) → at ≤ n → Stays n (feed_behind_next g c at r)
 behind_next n true c at r h = tt

@@ -25,7 +25,7 @@ use Rattle.rs_text.specs.Words.{is_word, is_role_word}
 use Rattle.rs_text.specs.Writing.{IsWritten}
 use Rattle.rs_text.proofs.Written.{nothing_written, joined, before_blank, before_mark, before_word, before_role, before_number, written_cut}
 use Rattle.rs_text.proofs.Nexts.{exists, are_lexed, end_again}
-use Rattle.rs_derivations.specs.Lists.{separated, with_separators}
+use Rattle.rs_derivations.specs.Lists.{list_with_separators, with_separators}
 use Rattle.rs_derivations.specs.Texts.{mark_text, act_text, acts_text, numbers_text, rest_text, node_text, nodes_text, bound_text, head_text, derivation_text}
 use Rattle.rs_derivations.specs.Trees.{ActTree, NodeTree, DerivationTree, mark_sign, act_signs, acts_signs, number_signs, numbers_signs, rest_signs, node_signs, nodes_signs, head_signs, derivation_signs}
 

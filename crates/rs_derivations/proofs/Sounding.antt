@@ -23,7 +23,7 @@ use Rattle.rs_derivations.specs.declared.reading.Mode.{Mode}
 use Rattle.rs_derivations.specs.declared.reading.Mode.TheVariants as mode
 use Rattle.rs_derivations.specs.Data.{Reader_data}
 use Rattle.rs_derivations.specs.Faults.{Keeps, number_value}
-use Rattle.rs_derivations.specs.Feeding.{Fed, in_mode, passes, played_by, feed_role, feed_bound, feed_node, feed_state, met_by, feed_act, feed_mark, labelled_by, feed_label, sorted_by, feed_sort, feed_close_paren, feed_behind_act, feed_above, feed_rank, ended, feed_next, feed_behind_next, feed_rest, feed_at, feed_of, names_read, is_bound, is_some_of, is_none_of, is_comma, is_close_bracket, is_close_brace, is_close_paren, mark_kind, feeding}
+use Rattle.rs_derivations.specs.Feeding.{Fed, in_mode, passes, feed_derivation_role, feed_role, feed_bound, feed_node, feed_state, feed_peer, feed_act, feed_mark, feed_label_number, feed_label, feed_sort_word, feed_sort, feed_close_paren, feed_behind_act, feed_above, feed_rank, feed_node_end, feed_next, feed_behind_next, feed_rest, feed_at, feed_of, names_read, is_bound, is_some_of, is_none_of, is_comma, is_close_bracket, is_close_brace, is_close_paren, mark_kind, feeding}
 
 -- names that are still sound, with further labels behind the old ones
 pub record GoodNames (old : Names_data) (roles labels : List (List ℕ)) : Type 0 where
@@ -66,7 +66,7 @@ passed : (old : Names_data) (b : Bool) (w : Wanted) (m : Mode) (at : ℕ) (r : R
 passed old true w m at r h = h
 passed old false w m at r h = tt
 
-played : (old : Names_data) (o : Option ℕ) (at : ℕ) (r : Reader_data) → Good old r → Stays old (played_by o at r)
+played : (old : Names_data) (o : Option ℕ) (at : ℕ) (r : Reader_data) → Good old r → Stays old (feed_derivation_role o at r)
 played old None at r h = tt
 played old (Some k) at r h = h
 
@@ -87,7 +87,7 @@ state : (old : Names_data) (o : Option ℕ) (at : ℕ) (r : Reader_data) → Goo
 state old None at r h = tt
 state old (Some k) at r h = h
 
-met : (old : Names_data) (o : Option ℕ) (at : ℕ) (r : Reader_data) → Good old r → Stays old (met_by o at r)
+met : (old : Names_data) (o : Option ℕ) (at : ℕ) (r : Reader_data) → Good old r → Stays old (feed_peer o at r)
 met old None at r h = tt
 met old (Some k) at r h = h
 
@@ -109,7 +109,7 @@ pushed false old w at r m e k h = record {
   words = new_all is_word r.labels w e h.words k;
 }
 
-labelled : (old : Names_data) (o : Option ℕ) (p : Role) (m : Kind) (w : List ℕ) (at : ℕ) (r : Reader_data) → place_of w r.labels ≡ o → is_word w ≡ true → Good old r → Stays old (labelled_by o p m w at r)
+labelled : (old : Names_data) (o : Option ℕ) (p : Role) (m : Kind) (w : List ℕ) (at : ℕ) (r : Reader_data) → place_of w r.labels ≡ o → is_word w ≡ true → Good old r → Stays old (feed_label_number o p m w at r)
 labelled old (Some k) p m w at r e f h = h
 labelled old None p m w at r e f h = pushed (nat_le MOST_LABELS (length r.labels)) old w at r _ (not_among r.labels w 0 e) f h
 
@@ -117,7 +117,7 @@ label : (old : Names_data) (p : Role) (m : Kind) (o : Option (List ℕ)) (at : �
 label old p m None at r k h = tt
 label old p m (Some w) at r k h = labelled old (place_of w r.labels) p m w at r refl (k w refl) h
 
-sorted : (old : Names_data) (o : Option Sort) (p : Role) (m : Kind) (l : Label) (at : ℕ) (r : Reader_data) → Good old r → Stays old (sorted_by o p m l at r)
+sorted : (old : Names_data) (o : Option Sort) (p : Role) (m : Kind) (l : Label) (at : ℕ) (r : Reader_data) → Good old r → Stays old (feed_sort_word o p m l at r)
 sorted old None p m l at r h = tt
 sorted old (Some s) p m l at r h = h
 
@@ -145,7 +145,7 @@ rank old (Some k) at r h = h
 
 next : (old : Names_data) (o : Option ℕ) (c : Bool) (at : ℕ) (r : Reader_data) → Good old r → Stays old (feed_next o c at r)
 next old (Some k) c at r h = h
-next old None c at r h = either old (c && is_none_of r.node.next) (ended r) (expected _ at) h tt
+next old None c at r h = either old (c && is_none_of r.node.next) (feed_node_end r) (expected _ at) h tt
 
 behind_next : (old : Names_data) (g c : Bool) (at : ℕ) (r : Reader_data) → Good old r → Stays old (feed_behind_next g c at r)
 behind_next old true c at r h = h

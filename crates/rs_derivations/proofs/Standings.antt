@@ -21,7 +21,7 @@ use Rattle.rs_text.specs.declared.faults.TextKind.{TextKind}
 use Rattle.rs_text.specs.declared.faults.TextKind.TheVariants as kind
 use Rattle.rs_text.specs.declared.faults.Wanted.{Wanted}
 use Rattle.rs_text.specs.declared.faults.Wanted.TheVariants as wanted
-use Rattle.rs_text.specs.Names.{grown, is_among, place_of, number_or}
+use Rattle.rs_text.specs.Names.{names_with, is_among, place_of, number_or}
 use Rattle.rs_text.specs.Readings.{fault, expected}
 use Rattle.rs_text.specs.Seen.{plain_text, word_text, sort_named}
 use Rattle.rs_text.specs.Signs.{Sign}
@@ -31,8 +31,8 @@ use Rattle.rs_derivations.specs.declared.reading.Mode.TheVariants as mode
 use Rattle.rs_derivations.specs.Cuts.{ActCut, behind_peer, behind_mark, behind_label, behind_paren, behind_sort, NodeCut, at_number, at_colon, at_state, at_acts, at_act, in_act, behind_act, at_above, at_rank_word, at_rank, at_next_word, at_nexts, at_next, behind_next, Cut, at_begin, at_role, at_bound_word, at_bound, at_brace, in_nodes, at_end, wanted_of, node_wanted, act_wanted, next_wanted}
 use Rattle.rs_derivations.specs.Data.{Reader_data}
 use Rattle.rs_derivations.specs.Derivations.{labels_of_acts, labels_of_node, labels_of_nodes, with_labels, role_named, label_named, act_of_kind, act_of, node_of, derivation_of, names_of}
-use Rattle.rs_derivations.specs.Faults.{number_value, fault_of_role, fault_of_label, fault_of_node, fault_of, IsWithin}
-use Rattle.rs_derivations.specs.Feeding.{Fed, begin, no_node, in_mode, passes, played_by, feed_role, feed_bound, feed_node, feed_state, met_by, feed_act, feed_mark, labelled_by, feed_label, pended, sorted_by, feed_sort, feed_close_paren, feed_behind_act, feed_above, feed_rank, ended, feed_next, feed_behind_next, feed_at, feed_of, is_read, is_colon, is_comma, is_open_brace, is_close_brace, is_open_paren, is_close_paren, is_open_bracket, is_close_bracket, is_keyword, mark_kind, is_none_of, is_some_of, is_bound}
+use Rattle.rs_derivations.specs.Faults.{number_value, fault_of_role, fault_of_label, fault_of_node, fault_of, IsInDerivation}
+use Rattle.rs_derivations.specs.Feeding.{Fed, start_of_derivation, no_node, in_mode, passes, feed_derivation_role, feed_role, feed_bound, feed_node, feed_state, feed_peer, feed_act, feed_mark, feed_label_number, feed_label, feed_pending, feed_sort_word, feed_sort, feed_close_paren, feed_behind_act, feed_above, feed_rank, feed_node_end, feed_next, feed_behind_next, feed_at, feed_of, is_read, is_colon, is_comma, is_open_brace, is_close_brace, is_open_paren, is_close_paren, is_open_bracket, is_close_bracket, is_keyword, mark_kind, is_none_of, is_some_of, is_bound}
 use Rattle.rs_derivations.specs.Trees.{ActTree, NodeTree, DerivationTree}
 use Rattle.rs_derivations.proofs.Grows.{Grown, stays, ends, closes, act_tree, node_tree, derivation_tree, acted, nexted, number_step, state_step, act_step, mark_step, label_step, sorted_step, sort_step, above_step, rank_step, next_step, act_grows, node_grows, grown_to, role_step, bound_step, grows}
 use Rattle.rs_derivations.proofs.Changes.{labels_before, labels_at, labels_in}
@@ -89,11 +89,11 @@ abbrev stand_in : Names_data → List ℕ → ℕ → List NodeTree → NodeCut 
 stand_in names x b ns p = standing names x b ns (draft names p) (node_mode names p)
 
 abbrev pub stand : Names_data → Cut → Reader_data
-stand old at_begin = begin old
-stand old at_role = record (begin old) { mode = mode.AtRole }
-stand old (at_bound_word x) = record (begin old) { role = role_named old x; mode = mode.AtBoundWord }
-stand old (at_bound x) = record (begin old) { role = role_named old x; mode = mode.AtBound }
-stand old (at_brace x b) = record (begin old) { role = role_named old x; bound = b; mode = mode.AtBrace }
+stand old at_begin = start_of_derivation old
+stand old at_role = record (start_of_derivation old) { mode = mode.AtRole }
+stand old (at_bound_word x) = record (start_of_derivation old) { role = role_named old x; mode = mode.AtBoundWord }
+stand old (at_bound x) = record (start_of_derivation old) { role = role_named old x; mode = mode.AtBound }
+stand old (at_brace x b) = record (start_of_derivation old) { role = role_named old x; bound = b; mode = mode.AtBrace }
 stand old (in_nodes x b ns p) = stand_in (with_labels old (labels_of_nodes ns ++ labels_at p)) x b ns p
 stand old (at_end t) = standing (with_labels old (labels_of_nodes t.nodes)) t.role t.bound t.nodes no_node mode.Behind
 
@@ -188,15 +188,15 @@ or_first : (a b : Bool) → a ≡ true → (a || b) ≡ true
 or_first true b h = refl
 or_first false b h = absurd (cc h)
 
-stays_among : (names xs : List (List ℕ)) (x : List ℕ) → is_among x names ≡ true → is_among x (grown names xs) ≡ true
+stays_among : (names xs : List (List ℕ)) (x : List ℕ) → is_among x names ≡ true → is_among x (names_with names xs) ≡ true
 stays_among names xs x h = grown_among xs names x ∙ or_first (is_among x names) (is_among x xs) h
 
-pub grown_known : (xs names : List (List ℕ)) → Known (grown names xs) xs
+pub grown_known : (xs names : List (List ℕ)) → Known (names_with names xs) xs
 grown_known [] names = refl
 grown_known (x ∷ xs) names =
     let first : List (List ℕ) = if is_among x names then names else names ++ x ∷ [] in
-    let a : is_among x (grown first xs) ≡ true = stays_among first xs x (here names x (is_among x names) refl) in
-    ap (λ z. z && list_all (λ y. is_among y (grown first xs)) xs) a ∙ grown_known xs first
+    let a : is_among x (names_with first xs) ≡ true = stays_among first xs x (here names x (is_among x names) refl) in
+    ap (λ z. z && list_all (λ y. is_among y (names_with first xs)) xs) a ∙ grown_known xs first
 
 known_parts : (names xs ys : List (List ℕ)) → Known names (xs ++ ys) → Known names xs × Known names ys
 known_parts names xs ys h = and_both (list_all (λ x. is_among x names) xs) (list_all (λ x. is_among x names) ys) (sym (list_all-append (λ x. is_among x names) xs ys) ∙ h)
@@ -231,19 +231,19 @@ abbrev at_label : Names_data → List ℕ → ℕ → List NodeTree → ℕ → 
 at_label old x b ns s acts p k w labels = standing (having old labels) x b ns (drafted (having old labels) s acts 0 0 []) (mode.AtParen (role_named old p) k (label_named (having old labels) w))
 
 -- the labels with this one
-labels_then : (old : Names_data) (ns : List NodeTree) (acts : List ActTree) (w : List ℕ) → grown old.labels (labels_of_nodes ns ++ (labels_of_acts acts ++ w ∷ [])) ≡ grown (grown old.labels (labels_of_nodes ns ++ labels_of_acts acts)) (w ∷ [])
-labels_then old ns acts w = ap (grown old.labels) (sym (append_assoc (labels_of_nodes ns) (labels_of_acts acts) (w ∷ []))) ∙ grown_append (labels_of_nodes ns ++ labels_of_acts acts) (w ∷ []) old.labels
+labels_then : (old : Names_data) (ns : List NodeTree) (acts : List ActTree) (w : List ℕ) → names_with old.labels (labels_of_nodes ns ++ (labels_of_acts acts ++ w ∷ [])) ≡ names_with (names_with old.labels (labels_of_nodes ns ++ labels_of_acts acts)) (w ∷ [])
+labels_then old ns acts w = ap (names_with old.labels) (sym (append_assoc (labels_of_nodes ns) (labels_of_acts acts) (w ∷ []))) ∙ grown_append (labels_of_nodes ns ++ labels_of_acts acts) (w ∷ []) old.labels
 
-old_label : (old : Names_data) (ns : List NodeTree) (acts : List ActTree) (w : List ℕ) → is_among w (grown old.labels (labels_of_nodes ns ++ labels_of_acts acts)) ≡ true → grown old.labels (labels_of_nodes ns ++ (labels_of_acts acts ++ w ∷ [])) ≡ grown old.labels (labels_of_nodes ns ++ labels_of_acts acts)
-old_label old ns acts w h = let labels : List (List ℕ) = grown old.labels (labels_of_nodes ns ++ labels_of_acts acts) in labels_then old ns acts w ∙ ap (λ z. if z then labels else labels ++ w ∷ []) h
+old_label : (old : Names_data) (ns : List NodeTree) (acts : List ActTree) (w : List ℕ) → is_among w (names_with old.labels (labels_of_nodes ns ++ labels_of_acts acts)) ≡ true → names_with old.labels (labels_of_nodes ns ++ (labels_of_acts acts ++ w ∷ [])) ≡ names_with old.labels (labels_of_nodes ns ++ labels_of_acts acts)
+old_label old ns acts w h = let labels : List (List ℕ) = names_with old.labels (labels_of_nodes ns ++ labels_of_acts acts) in labels_then old ns acts w ∙ ap (λ z. if z then labels else labels ++ w ∷ []) h
 
-new_label : (old : Names_data) (ns : List NodeTree) (acts : List ActTree) (w : List ℕ) → is_among w (grown old.labels (labels_of_nodes ns ++ labels_of_acts acts)) ≡ false → grown old.labels (labels_of_nodes ns ++ (labels_of_acts acts ++ w ∷ [])) ≡ grown old.labels (labels_of_nodes ns ++ labels_of_acts acts) ++ w ∷ []
-new_label old ns acts w h = let labels : List (List ℕ) = grown old.labels (labels_of_nodes ns ++ labels_of_acts acts) in labels_then old ns acts w ∙ ap (λ z. if z then labels else labels ++ w ∷ []) h
+new_label : (old : Names_data) (ns : List NodeTree) (acts : List ActTree) (w : List ℕ) → is_among w (names_with old.labels (labels_of_nodes ns ++ labels_of_acts acts)) ≡ false → names_with old.labels (labels_of_nodes ns ++ (labels_of_acts acts ++ w ∷ [])) ≡ names_with old.labels (labels_of_nodes ns ++ labels_of_acts acts) ++ w ∷ []
+new_label old ns acts w h = let labels : List (List ℕ) = names_with old.labels (labels_of_nodes ns ++ labels_of_acts acts) in labels_then old ns acts w ∙ ap (λ z. if z then labels else labels ++ w ∷ []) h
 
 abbrev numbered : ℕ → Label
 numbered n = record { 0 = n }
 
-new_label_stands : (old : Names_data) (x : List ℕ) (b : ℕ) (ns : List NodeTree) (s : ℕ) (acts : List ActTree) (p : List ℕ) (k : Kind) (w : List ℕ) (labels : List (List ℕ)) → labels ≡ grown old.labels (labels_of_nodes ns ++ labels_of_acts acts) → place_of w labels ≡ None
+new_label_stands : (old : Names_data) (x : List ℕ) (b : ℕ) (ns : List NodeTree) (s : ℕ) (acts : List ActTree) (p : List ℕ) (k : Kind) (w : List ℕ) (labels : List (List ℕ)) → labels ≡ names_with old.labels (labels_of_nodes ns ++ labels_of_acts acts) → place_of w labels ≡ None
     → standing (having old labels) x b ns (drafted (having old labels) s acts 0 0 []) (mode.AtParen (role_named old p) k (numbered (length labels))) ≡ record (at_label old x b ns s acts p k w (labels ++ w ∷ [])) { labels = labels }
 new_label_stands old x b ns s acts p k w labels e none =
     let known : Known labels (labels_of_nodes ns ++ labels_of_acts acts) = subst (λ (z : List (List ℕ)). Known z (labels_of_nodes ns ++ labels_of_acts acts)) (sym e) (grown_known (labels_of_nodes ns ++ labels_of_acts acts) old.labels) in
@@ -254,7 +254,7 @@ new_label_stands old x b ns s acts p k w labels e none =
     ∙ ap (λ z. shape (map (node_of (having old (labels ++ w ∷ []))) ns) z (numbered (length labels))) (sym (acts_kept old labels w acts parts.1))
     ∙ ap (λ z. shape (map (node_of (having old (labels ++ w ∷ []))) ns) (map (act_of (having old (labels ++ w ∷ []))) acts) z) number
 
-label_at : (old : Names_data) (x : List ℕ) (b : ℕ) (ns : List NodeTree) (s : ℕ) (acts : List ActTree) (p : List ℕ) (k : Kind) (w : List ℕ) (labels : List (List ℕ)) → grown old.labels (labels_of_nodes ns ++ (labels_of_acts acts ++ w ∷ [])) ≡ labels → at_label old x b ns s acts p k w labels ≡ stand old (in_nodes x b ns (in_act s acts (behind_label p k w)))
+label_at : (old : Names_data) (x : List ℕ) (b : ℕ) (ns : List NodeTree) (s : ℕ) (acts : List ActTree) (p : List ℕ) (k : Kind) (w : List ℕ) (labels : List (List ℕ)) → names_with old.labels (labels_of_nodes ns ++ (labels_of_acts acts ++ w ∷ [])) ≡ labels → at_label old x b ns s acts p k w labels ≡ stand old (in_nodes x b ns (in_act s acts (behind_label p k w)))
 label_at old x b ns s acts p k w labels e = ap (at_label old x b ns s acts p k w) (sym e)
 
 label_room : (old : Names_data) (x : List ℕ) (b : ℕ) (ns : List NodeTree) (s : ℕ) (acts : List ActTree) (p : List ℕ) (k : Kind) (w : List ℕ) (at : ℕ) (full : Bool) (d : Cut) (r : Reader_data) → r ≡ stand old d
@@ -262,17 +262,17 @@ label_room : (old : Names_data) (x : List ℕ) (b : ℕ) (ns : List NodeTree) (s
 label_room old x b ns s acts p k w at true d r e = refl
 label_room old x b ns s acts p k w at false d r e = ap good e
 
-label_told : (old : Names_data) (x : List ℕ) (b : ℕ) (ns : List NodeTree) (s : ℕ) (acts : List ActTree) (p : List ℕ) (k : Kind) (w : List ℕ) (at : ℕ) (o : Option ℕ) → place_of w (grown old.labels (labels_of_nodes ns ++ labels_of_acts acts)) ≡ o
-    → labelled_by o (role_named old p) k w at (stand old (in_nodes x b ns (in_act s acts (behind_mark p k)))) ≡ told old (Some (in_nodes x b ns (in_act s acts (behind_label p k w)))) (fault_of_label (grown old.labels (labels_of_nodes ns ++ labels_of_acts acts)) (Some w)) wanted.Label at
+label_told : (old : Names_data) (x : List ℕ) (b : ℕ) (ns : List NodeTree) (s : ℕ) (acts : List ActTree) (p : List ℕ) (k : Kind) (w : List ℕ) (at : ℕ) (o : Option ℕ) → place_of w (names_with old.labels (labels_of_nodes ns ++ labels_of_acts acts)) ≡ o
+    → feed_label_number o (role_named old p) k w at (stand old (in_nodes x b ns (in_act s acts (behind_mark p k)))) ≡ told old (Some (in_nodes x b ns (in_act s acts (behind_label p k w)))) (fault_of_label (names_with old.labels (labels_of_nodes ns ++ labels_of_acts acts)) (Some w)) wanted.Label at
 label_told old x b ns s acts p k w at (Some n) e =
-    let labels : List (List ℕ) = grown old.labels (labels_of_nodes ns ++ labels_of_acts acts) in
+    let labels : List (List ℕ) = names_with old.labels (labels_of_nodes ns ++ labels_of_acts acts) in
     let there : is_among w labels ≡ true = among labels w 0 n e in
     let d : Cut = in_nodes x b ns (in_act s acts (behind_label p k w)) in
     ap (λ z. good (standing (having old labels) x b ns (drafted (having old labels) s acts 0 0 []) (mode.AtParen (role_named old p) k (numbered (number_or z))))) (sym e)
     ∙ ap good (label_at old x b ns s acts p k w labels (old_label old ns acts w there))
     ∙ ap (λ z. told old (Some d) (if z then None else if nat_le MOST_LABELS (length labels) then Some kind.TooManyLabels else None) wanted.Label at) (sym there)
 label_told old x b ns s acts p k w at None e =
-    let labels : List (List ℕ) = grown old.labels (labels_of_nodes ns ++ labels_of_acts acts) in
+    let labels : List (List ℕ) = names_with old.labels (labels_of_nodes ns ++ labels_of_acts acts) in
     let absent : is_among w labels ≡ false = not_among labels w 0 e in
     let d : Cut = in_nodes x b ns (in_act s acts (behind_label p k w)) in
     let r : Reader_data = standing (having old labels) x b ns (drafted (having old labels) s acts 0 0 []) (mode.AtParen (role_named old p) k (numbered (length labels))) in
@@ -281,9 +281,9 @@ label_told old x b ns s acts p k w at None e =
     ∙ ap (λ z. told old (Some d) (if z then None else if nat_le MOST_LABELS (length labels) then Some kind.TooManyLabels else None) wanted.Label at) (sym absent)
 
 labels_told : (old : Names_data) (x : List ℕ) (b : ℕ) (ns : List NodeTree) (s : ℕ) (acts : List ActTree) (p : List ℕ) (k : Kind) (at : ℕ) (o : Option (List ℕ))
-    → feed_label (role_named old p) k o at (stand old (in_nodes x b ns (in_act s acts (behind_mark p k)))) ≡ told old (option_map (grown_to x b ns) (label_step s acts p k o)) (fault_of_label (grown old.labels (labels_of_nodes ns ++ labels_of_acts acts)) o) wanted.Label at
+    → feed_label (role_named old p) k o at (stand old (in_nodes x b ns (in_act s acts (behind_mark p k)))) ≡ told old (option_map (grown_to x b ns) (label_step s acts p k o)) (fault_of_label (names_with old.labels (labels_of_nodes ns ++ labels_of_acts acts)) o) wanted.Label at
 labels_told old x b ns s acts p k at None = refl
-labels_told old x b ns s acts p k at (Some w) = label_told old x b ns s acts p k w at (place_of w (grown old.labels (labels_of_nodes ns ++ labels_of_acts acts))) refl
+labels_told old x b ns s acts p k at (Some w) = label_told old x b ns s acts p k w at (place_of w (names_with old.labels (labels_of_nodes ns ++ labels_of_acts acts))) refl
 
 -- ---- roles
 
@@ -298,15 +298,15 @@ some_number n k h = cc
 
 own_told : (old : Names_data) (at : ℕ) (o : Option (List ℕ)) → feed_role o at (stand old at_role) ≡ told old (role_step o) (fault_of_role old o) wanted.Role at
 own_told old at None = refl
-own_told old at (Some w) = role_there old w at (at_bound_word w) wanted.Role (place_of w old.roles) (λ role. record (begin old) { role = role; mode = mode.AtBoundWord }) refl refl (played_by (place_of w old.roles) at (stand old at_role))
-    (λ n e. ap (λ z. played_by z at (stand old at_role)) e) (λ e. ap (λ z. played_by z at (stand old at_role)) e)
+own_told old at (Some w) = role_there old w at (at_bound_word w) wanted.Role (place_of w old.roles) (λ role. record (start_of_derivation old) { role = role; mode = mode.AtBoundWord }) refl refl (feed_derivation_role (place_of w old.roles) at (stand old at_role))
+    (λ n e. ap (λ z. feed_derivation_role z at (stand old at_role)) e) (λ e. ap (λ z. feed_derivation_role z at (stand old at_role)) e)
 
 peer_told : (old : Names_data) (x : List ℕ) (b : ℕ) (ns : List NodeTree) (s : ℕ) (acts : List ActTree) (at : ℕ) (c : Bool) (o : Option (List ℕ))
     → feed_act o c at (stand old (in_nodes x b ns (at_act s acts))) ≡ told old (option_map (grown_to x b ns) (act_step s acts o c)) (fault_of_role old o) (act_wanted acts) at
 peer_told old x b ns s acts at c (Some w) =
     let r : Reader_data = stand old (in_nodes x b ns (at_act s acts)) in
-    role_there old w at (in_nodes x b ns (in_act s acts (behind_peer w))) (act_wanted acts) (place_of w old.roles) (λ role. record r { mode = mode.AtMark role }) refl refl (met_by (place_of w old.roles) at r)
-    (λ n e. ap (λ z. met_by z at r) e) (λ e. ap (λ z. met_by z at r) e)
+    role_there old w at (in_nodes x b ns (in_act s acts (behind_peer w))) (act_wanted acts) (place_of w old.roles) (λ role. record r { mode = mode.AtMark role }) refl refl (feed_peer (place_of w old.roles) at r)
+    (λ n e. ap (λ z. feed_peer z at r) e) (λ e. ap (λ z. feed_peer z at r) e)
 peer_told old x b ns s [] at true None = refl
 peer_told old x b ns s [] at false None = refl
 peer_told old x b ns s (y ∷ ys) at true None = refl
@@ -360,7 +360,7 @@ mark_told old x b ns s acts p at None = refl
 mark_told old x b ns s acts p at (Some k) = refl
 
 sorted_told : (old : Names_data) (x : List ℕ) (b : ℕ) (ns : List NodeTree) (s : ℕ) (acts : List ActTree) (p : List ℕ) (k : Kind) (l : List ℕ) (at : ℕ) (m : Label) (o : Option Sort) → m ≡ label_named (with_labels old (labels_of_nodes ns ++ (labels_of_acts acts ++ l ∷ []))) l
-    → sorted_by o (role_named old p) k m at (stand old (in_nodes x b ns (in_act s acts (behind_paren p k l)))) ≡ told old (option_map (grown_to x b ns) (sorted_step s acts p k l o)) None wanted.SortOrCloseParen at
+    → feed_sort_word o (role_named old p) k m at (stand old (in_nodes x b ns (in_act s acts (behind_paren p k l)))) ≡ told old (option_map (grown_to x b ns) (sorted_step s acts p k l o)) None wanted.SortOrCloseParen at
 sorted_told old x b ns s acts p k l at m None e = refl
 sorted_told old x b ns s acts p k l at m (Some q) e = ap (λ z. in_mode (mode.CloseParen (role_named old p) k z q) (stand old (in_nodes x b ns (in_act s acts (behind_paren p k l))))) e
 

@@ -11,7 +11,7 @@ use Rattle.rs_model.specs.declared.limits.TheConstants.{MOST_LABELS, MOST_CANDID
 use Rattle.rs_model.specs.declared.machines.Act.{Act}
 use Rattle.rs_prefix.specs.declared.earliest.Kind.TheVariants as act
 use Rattle.rs_derive.specs.Data.{Derivation_data}
-use Rattle.rs_text.specs.Names.{grown, is_among, place_of, number_or}
+use Rattle.rs_text.specs.Names.{names_with, is_among, place_of, number_or}
 use Rattle.rs_text.proofs.Naming.{among, not_among}
 use Rattle.rs_text.proofs.Numbers.{place_below}
 use Rattle.rs_derivations.proofs.Standings.{grown_known as known_grown}
@@ -144,7 +144,7 @@ label_there (a ∷ acts) n q h e = elim (or_first (eqb q (label_of a)) (list_any
 
 -- ---- the whole
 
-grown_known : (old : Names_data) (labels : List (List ℕ)) → Known (grown old.labels labels) labels
+grown_known : (old : Names_data) (labels : List (List ℕ)) → Known (names_with old.labels labels) labels
 grown_known old labels = known_grown labels old.labels
 
 pub printable : (old : Names_data) (t : DerivationTree) → Fits old t → IsPrintable (names_of old t) (derivation_of (names_of old t) t)

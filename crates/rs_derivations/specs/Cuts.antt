@@ -6,7 +6,7 @@ use Rattle.rs_text.specs.Arms.{sort_text}
 use Rattle.rs_text.specs.Signs.{Sign, plain, number, word_sign, colon, comma, open_paren, open_bracket, close_bracket}
 use Rattle.rs_text.specs.declared.faults.Wanted.{Wanted}
 use Rattle.rs_text.specs.declared.faults.Wanted.TheVariants as wanted
-use Rattle.rs_derivations.specs.Lists.{separated}
+use Rattle.rs_derivations.specs.Lists.{list_with_separators}
 use Rattle.rs_derivations.specs.Spells.{IsBound, IsFormed}
 use Rattle.rs_derivations.specs.Trees.{ActTree, NodeTree, DerivationTree, mark_sign, act_signs, acts_signs, number_signs, numbers_signs, head_signs, nodes_signs, derivation_signs}
 
@@ -54,17 +54,17 @@ act_cut_signs (behind_paren p k l) = plain p ∷ mark_sign k ∷ word_sign l ∷
 act_cut_signs (behind_sort p k l s) = plain p ∷ mark_sign k ∷ word_sign l ∷ open_paren ∷ plain (sort_text s) ∷ []
 
 -- a list as far as the place of a further element: nothing, or elements with a comma behind each
-abbrev pub opened : {A : Type 0} → (A → List Sign) → List A → List Sign
-opened signs [] = []
-opened signs (x ∷ xs) = separated (comma ∷ []) signs (x ∷ xs) ++ comma ∷ []
+abbrev pub elements_with_commas : {A : Type 0} → (A → List Sign) → List A → List Sign
+elements_with_commas signs [] = []
+elements_with_commas signs (x ∷ xs) = list_with_separators (comma ∷ []) signs (x ∷ xs) ++ comma ∷ []
 
 -- a node as far as behind the "]" of its acts
-abbrev pub acts_closed : ℕ → ℕ → List ActTree → List Sign
-acts_closed n s acts = number n ∷ colon ∷ number s ∷ open_bracket ∷ (acts_signs acts ++ close_bracket ∷ [])
+abbrev pub node_behind_acts : ℕ → ℕ → List ActTree → List Sign
+node_behind_acts n s acts = number n ∷ colon ∷ number s ∷ open_bracket ∷ (acts_signs acts ++ close_bracket ∷ [])
 
 -- a node as far as behind the "[" of its nexts
-abbrev pub nexts_opened : ℕ → ℕ → List ActTree → ℕ → ℕ → List Sign
-nexts_opened n s acts a r = acts_closed n s acts ++ (number a ∷ plain (codes "rank") ∷ number r ∷ plain (codes "next") ∷ open_bracket ∷ [])
+abbrev pub node_before_nexts : ℕ → ℕ → List ActTree → ℕ → ℕ → List Sign
+node_before_nexts n s acts a r = node_behind_acts n s acts ++ (number a ∷ plain (codes "rank") ∷ number r ∷ plain (codes "next") ∷ open_bracket ∷ [])
 
 -- the tokens of the node with the number n before the place
 abbrev pub node_cut_signs : ℕ → NodeCut → List Sign
@@ -72,16 +72,16 @@ node_cut_signs n at_number = []
 node_cut_signs n at_colon = number n ∷ []
 node_cut_signs n at_state = number n ∷ colon ∷ []
 node_cut_signs n (at_acts s) = number n ∷ colon ∷ number s ∷ []
-node_cut_signs n (at_act s acts) = number n ∷ colon ∷ number s ∷ open_bracket ∷ opened act_signs acts
-node_cut_signs n (in_act s acts a) = number n ∷ colon ∷ number s ∷ open_bracket ∷ (opened act_signs acts ++ act_cut_signs a)
+node_cut_signs n (at_act s acts) = number n ∷ colon ∷ number s ∷ open_bracket ∷ elements_with_commas act_signs acts
+node_cut_signs n (in_act s acts a) = number n ∷ colon ∷ number s ∷ open_bracket ∷ (elements_with_commas act_signs acts ++ act_cut_signs a)
 node_cut_signs n (behind_act s x xs) = number n ∷ colon ∷ number s ∷ open_bracket ∷ acts_signs (x ∷ xs)
-node_cut_signs n (at_above s acts) = acts_closed n s acts
-node_cut_signs n (at_rank_word s acts a) = acts_closed n s acts ++ (number a ∷ [])
-node_cut_signs n (at_rank s acts a) = acts_closed n s acts ++ (number a ∷ plain (codes "rank") ∷ [])
-node_cut_signs n (at_next_word s acts a r) = acts_closed n s acts ++ (number a ∷ plain (codes "rank") ∷ number r ∷ [])
-node_cut_signs n (at_nexts s acts a r) = acts_closed n s acts ++ (number a ∷ plain (codes "rank") ∷ number r ∷ plain (codes "next") ∷ [])
-node_cut_signs n (at_next s acts a r next) = nexts_opened n s acts a r ++ opened number_signs next
-node_cut_signs n (behind_next s acts a r x xs) = nexts_opened n s acts a r ++ numbers_signs (x ∷ xs)
+node_cut_signs n (at_above s acts) = node_behind_acts n s acts
+node_cut_signs n (at_rank_word s acts a) = node_behind_acts n s acts ++ (number a ∷ [])
+node_cut_signs n (at_rank s acts a) = node_behind_acts n s acts ++ (number a ∷ plain (codes "rank") ∷ [])
+node_cut_signs n (at_next_word s acts a r) = node_behind_acts n s acts ++ (number a ∷ plain (codes "rank") ∷ number r ∷ [])
+node_cut_signs n (at_nexts s acts a r) = node_behind_acts n s acts ++ (number a ∷ plain (codes "rank") ∷ number r ∷ plain (codes "next") ∷ [])
+node_cut_signs n (at_next s acts a r next) = node_before_nexts n s acts a r ++ elements_with_commas number_signs next
+node_cut_signs n (behind_next s acts a r x xs) = node_before_nexts n s acts a r ++ numbers_signs (x ∷ xs)
 
 -- the tokens before the place
 abbrev pub cut_signs : Cut → List Sign

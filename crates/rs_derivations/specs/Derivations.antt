@@ -11,7 +11,7 @@ use Rattle.rs_prefix.specs.declared.earliest.Kind.{Kind}
 use Rattle.rs_prefix.specs.declared.earliest.Kind.TheVariants as act
 use Rattle.rs_derive.specs.Data.{DNode_data, Derivation_data}
 use Rattle.rs_text.specs.Arms.{sort_or_unit}
-use Rattle.rs_text.specs.Names.{place_of, grown, number_or}
+use Rattle.rs_text.specs.Names.{place_of, names_with, number_or}
 use Rattle.rs_derivations.specs.Trees.{ActTree, NodeTree, DerivationTree}
 
 -- the labels of acts, in order of text
@@ -40,7 +40,7 @@ peers_of_nodes nodes = flat_map peers_of_node nodes
 
 -- the names that were there, with the labels that are new behind them in order of their first places
 abbrev pub with_labels : Names_data → List (List ℕ) → Names_data
-with_labels old labels = record { roles = old.roles; labels = grown old.labels labels }
+with_labels old labels = record { roles = old.roles; labels = names_with old.labels labels }
 
 -- .. with the labels of a tree
 abbrev pub names_of : Names_data → DerivationTree → Names_data

@@ -8,7 +8,7 @@ use Rattle.rs_text.specs.declared.faults.TextKind.{TextKind}
 use Rattle.rs_text.specs.declared.faults.TextKind.TheVariants as kind
 use Rattle.rs_text.specs.Faults.{kind_of}
 use Rattle.rs_text.specs.FirstFaults.{IsWhole, FirstFaultBy}
-use Rattle.rs_text.specs.Names.{grown, is_among}
+use Rattle.rs_text.specs.Names.{names_with, is_among}
 use Rattle.rs_text.specs.Seen.{plain_text, word_text}
 use Rattle.rs_text.specs.Signs.{Sign, number, broken}
 use Rattle.rs_derivations.specs.Cuts.{NodeCut, at_number, at_act, in_act, behind_mark, Cut, at_role, in_nodes, at_end, cut_signs, wanted_of, IsPlace}
@@ -40,7 +40,7 @@ fault_of_node count (Some n) = if n == count then (if nat_le MOST_CANDIDATES cou
 abbrev pub fault_in_node : Names_data → List NodeTree → NodeCut → Sign → Option TextKind
 fault_in_node old nodes at_number t = fault_of_node (length nodes) (number_value t)
 fault_in_node old nodes (at_act s acts) t = fault_of_role old (plain_text t)
-fault_in_node old nodes (in_act s acts (behind_mark p k)) t = fault_of_label (grown old.labels (labels_of_nodes nodes ++ labels_of_acts acts)) (word_text t)
+fault_in_node old nodes (in_act s acts (behind_mark p k)) t = fault_of_label (names_with old.labels (labels_of_nodes nodes ++ labels_of_acts acts)) (word_text t)
 fault_in_node old nodes _ t = None
 
 -- the same at any place
@@ -54,14 +54,14 @@ abbrev pub Begins : List Sign → Type 0
 Begins signs = (tree : DerivationTree) × (rest : List Sign) × IsFormed tree × (derivation_signs tree ≡ signs ++ rest)
 
 -- the place is within the derivation, not behind it
-abbrev pub IsWithin : Cut → Type 0
-IsWithin (at_end t) = ⊥
-IsWithin _ = Unit {0}
+abbrev pub IsInDerivation : Cut → Type 0
+IsInDerivation (at_end t) = ⊥
+IsInDerivation _ = Unit {0}
 
 -- the tokens before it stand before a place of the grammar
 pub record StandsAt (before : List Sign) (place : Cut) : Type 0 where
   pub right : IsPlace place
-  pub within : IsWithin place
+  pub within : IsInDerivation place
   pub signs : cut_signs place ≡ before
 
 -- the tokens before it begin a derivation that goes on, and with it they begin none

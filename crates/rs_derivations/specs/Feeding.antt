@@ -102,8 +102,8 @@ abbrev pub no_node : DNode_data
 no_node = record { state = 0; pending = []; above = 0; rank = 0; next = [] }
 
 -- before the first token
-abbrev pub begin : Names_data → Reader_data
-begin old = record { roles = old.roles; labels = old.labels; role = record { 0 = 0 }; bound = 0; nodes = []; node = no_node; mode = mode.Derivation }
+abbrev pub start_of_derivation : Names_data → Reader_data
+start_of_derivation old = record { roles = old.roles; labels = old.labels; role = record { 0 = 0 }; bound = 0; nodes = []; node = no_node; mode = mode.Derivation }
 
 -- the reader goes on in that mode
 abbrev pub in_mode : Mode → Reader_data → Fed
@@ -114,14 +114,14 @@ abbrev pub passes : Bool → Wanted → Mode → ℕ → Reader_data → Fed
 passes right w m at r = if right then in_mode m r else expected w at
 
 -- the role of the derivation
-abbrev pub played_by : Option ℕ → ℕ → Reader_data → Fed
-played_by None at r = fault kind.UnknownRole at
-played_by (Some k) at r = Ok (record r { role = record { 0 = k }; mode = mode.AtBoundWord })
+abbrev pub feed_derivation_role : Option ℕ → ℕ → Reader_data → Fed
+feed_derivation_role None at r = fault kind.UnknownRole at
+feed_derivation_role (Some k) at r = Ok (record r { role = record { 0 = k }; mode = mode.AtBoundWord })
 
 -- .. by its name
 abbrev pub feed_role : Option (List ℕ) → ℕ → Reader_data → Fed
 feed_role None at r = expected wanted.Role at
-feed_role (Some word) at r = played_by (place_of word r.roles) at r
+feed_role (Some word) at r = feed_derivation_role (place_of word r.roles) at r
 
 -- the number of the bound
 abbrev pub feed_bound : Option ℕ → ℕ → Reader_data → Fed
@@ -139,13 +139,13 @@ feed_state None at r = expected wanted.Number at
 feed_state (Some n) at r = Ok (record r { node = record r.node { state = n }; mode = mode.AtActs })
 
 -- a further act, by its peer, or the end of the acts
-abbrev pub met_by : Option ℕ → ℕ → Reader_data → Fed
-met_by None at r = fault kind.UnknownRole at
-met_by (Some k) at r = in_mode (mode.AtMark (record { 0 = k })) r
+abbrev pub feed_peer : Option ℕ → ℕ → Reader_data → Fed
+feed_peer None at r = fault kind.UnknownRole at
+feed_peer (Some k) at r = in_mode (mode.AtMark (record { 0 = k })) r
 
 -- the peer's name of a further act, or the end of the acts
 abbrev pub feed_act : Option (List ℕ) → Bool → ℕ → Reader_data → Fed
-feed_act (Some word) closes at r = met_by (place_of word r.roles) at r
+feed_act (Some word) closes at r = feed_peer (place_of word r.roles) at r
 feed_act None closes at r = passes (closes && is_none_of r.node.pending) (act_wanted r.node.pending) mode.AtAbove at r
 
 -- the mark of an act
@@ -158,32 +158,32 @@ abbrev pub label_of_number : ℕ → Label
 label_of_number k = record { 0 = k }
 
 -- the label k, or a new one
-abbrev pub labelled_by : Option ℕ → Role → Kind → List ℕ → ℕ → Reader_data → Fed
-labelled_by (Some k) p m word at r = in_mode (mode.AtParen p m (label_of_number k)) r
-labelled_by None p m word at r = if nat_le MOST_LABELS (length r.labels) then fault kind.TooManyLabels at else Ok (record r { labels = r.labels ++ word ∷ []; mode = mode.AtParen p m (label_of_number (length r.labels)) })
+abbrev pub feed_label_number : Option ℕ → Role → Kind → List ℕ → ℕ → Reader_data → Fed
+feed_label_number (Some k) p m word at r = in_mode (mode.AtParen p m (label_of_number k)) r
+feed_label_number None p m word at r = if nat_le MOST_LABELS (length r.labels) then fault kind.TooManyLabels at else Ok (record r { labels = r.labels ++ word ∷ []; mode = mode.AtParen p m (label_of_number (length r.labels)) })
 
 -- the label of an act
 abbrev pub feed_label : Role → Kind → Option (List ℕ) → ℕ → Reader_data → Fed
 feed_label p m None at r = expected wanted.Label at
-feed_label p m (Some word) at r = labelled_by (place_of word r.labels) p m word at r
+feed_label p m (Some word) at r = feed_label_number (place_of word r.labels) p m word at r
 
 -- the act is pending
-abbrev pub pended : Role → Kind → Label → Sort → Reader_data → Fed
-pended p m l s r = Ok (record r { node = record r.node { pending = r.node.pending ++ act_of_kind m p l s ∷ [] }; mode = mode.BehindAct })
+abbrev pub feed_pending : Role → Kind → Label → Sort → Reader_data → Fed
+feed_pending p m l s r = Ok (record r { node = record r.node { pending = r.node.pending ++ act_of_kind m p l s ∷ [] }; mode = mode.BehindAct })
 
 -- the sort that a word names, where it names one
-abbrev pub sorted_by : Option Sort → Role → Kind → Label → ℕ → Reader_data → Fed
-sorted_by None p m l at r = expected wanted.SortOrCloseParen at
-sorted_by (Some s) p m l at r = in_mode (mode.CloseParen p m l s) r
+abbrev pub feed_sort_word : Option Sort → Role → Kind → Label → ℕ → Reader_data → Fed
+feed_sort_word None p m l at r = expected wanted.SortOrCloseParen at
+feed_sort_word (Some s) p m l at r = in_mode (mode.CloseParen p m l s) r
 
 -- the sort of an act, or the close parenthesis where there is none
 abbrev pub feed_sort : Role → Kind → Label → Option (List ℕ) → Bool → ℕ → Reader_data → Fed
-feed_sort p m l (Some word) closes at r = sorted_by (sort_named word) p m l at r
-feed_sort p m l None closes at r = if closes then pended p m l sort.Unit r else expected wanted.SortOrCloseParen at
+feed_sort p m l (Some word) closes at r = feed_sort_word (sort_named word) p m l at r
+feed_sort p m l None closes at r = if closes then feed_pending p m l sort.Unit r else expected wanted.SortOrCloseParen at
 
 -- the close parenthesis behind a sort
 abbrev pub feed_close_paren : Role → Kind → Label → Sort → Bool → ℕ → Reader_data → Fed
-feed_close_paren p m l s closes at r = if closes then pended p m l s r else expected wanted.CloseParen at
+feed_close_paren p m l s closes at r = if closes then feed_pending p m l s r else expected wanted.CloseParen at
 
 -- the comma before a further act, or the end of the acts
 abbrev pub feed_behind_act : Bool → Bool → ℕ → Reader_data → Fed
@@ -200,17 +200,17 @@ feed_rank None at r = expected wanted.Number at
 feed_rank (Some n) at r = Ok (record r { node = record r.node { rank = n }; mode = mode.AtNextWord })
 
 -- the node is read
-abbrev pub ended : Reader_data → Fed
-ended r = Ok (record r { nodes = r.nodes ++ r.node ∷ []; node = no_node; mode = mode.AtNode })
+abbrev pub feed_node_end : Reader_data → Fed
+feed_node_end r = Ok (record r { nodes = r.nodes ++ r.node ∷ []; node = no_node; mode = mode.AtNode })
 
 -- a further next, or the end of the node
 abbrev pub feed_next : Option ℕ → Bool → ℕ → Reader_data → Fed
 feed_next (Some n) closes at r = Ok (record r { node = record r.node { next = r.node.next ++ n ∷ [] }; mode = mode.BehindNext })
-feed_next None closes at r = if closes && is_none_of r.node.next then ended r else expected (next_wanted r.node.next) at
+feed_next None closes at r = if closes && is_none_of r.node.next then feed_node_end r else expected (next_wanted r.node.next) at
 
 -- the comma before a further next, or the end of the node
 abbrev pub feed_behind_next : Bool → Bool → ℕ → Reader_data → Fed
-feed_behind_next goes closes at r = if goes then in_mode mode.AtNext r else if closes then ended r else expected wanted.CommaOrCloseBracket at
+feed_behind_next goes closes at r = if goes then in_mode mode.AtNext r else if closes then feed_node_end r else expected wanted.CommaOrCloseBracket at
 
 -- one token: of a node from behind an act ..
 abbrev pub feed_rest : Mode → Sign → ℕ → Reader_data → Fed

@@ -6,7 +6,7 @@ use Rattle.rs_model.specs.declared.limits.TheConstants.{MOST_LABELS, MOST_BOUND,
 use Rattle.rs_derive.specs.Data.{Derivation_data}
 use Rattle.rs_text.specs.Lexemes.{Lexeme, signs_of}
 use Rattle.rs_text.specs.Tokens.{AreTokens}
-use Rattle.rs_text.specs.Names.{is_among, grown}
+use Rattle.rs_text.specs.Names.{is_among, names_with}
 use Rattle.rs_derivations.specs.Derivations.{derivation_of, labels_of_nodes, peers_of_nodes, names_of}
 use Rattle.rs_derivations.specs.Trees.{NodeTree, DerivationTree, derivation_signs}
 
@@ -27,7 +27,7 @@ AreKnown old roles = list_all (λ x. is_among x old.roles) roles ≡ true
 pub record Fits (old : Names_data) (t : DerivationTree) : Type 0 where
   pub formed : IsFormed t
   pub roles : AreKnown old (t.role ∷ peers_of_nodes t.nodes)
-  pub labels : length (grown old.labels (labels_of_nodes t.nodes)) ≤ MOST_LABELS
+  pub labels : length (names_with old.labels (labels_of_nodes t.nodes)) ≤ MOST_LABELS
   pub nodes : length t.nodes ≤ MOST_CANDIDATES
 
 -- the bytes from `at` on, read with the old names, spell this derivation with the new ones, and go on at `until`

@@ -5,7 +5,7 @@ use Rattle.std.specs.Fmt.{decimal}
 use Rattle.rs_prefix.specs.declared.earliest.Kind.{Kind}
 use Rattle.rs_prefix.specs.declared.earliest.Kind.TheVariants as act
 use Rattle.rs_text.specs.Shown.{shown_text}
-use Rattle.rs_derivations.specs.Lists.{separated}
+use Rattle.rs_derivations.specs.Lists.{list_with_separators}
 use Rattle.rs_derivations.specs.Trees.{ActTree, NodeTree, DerivationTree}
 
 -- ! sends, ? receives
@@ -19,11 +19,11 @@ act_text a = a.peer ++ (mark_text a.kind ++ (a.label ++ (codes "(" ++ (shown_tex
 
 -- a comma and a space stand between acts
 abbrev pub acts_text : List ActTree → List ℕ
-acts_text acts = separated (codes ", ") act_text acts
+acts_text acts = list_with_separators (codes ", ") act_text acts
 
 -- and between numbers
 abbrev pub numbers_text : List ℕ → List ℕ
-numbers_text numbers = separated (codes ", ") decimal numbers
+numbers_text numbers = list_with_separators (codes ", ") decimal numbers
 
 -- what stands behind the pending acts of a node
 abbrev pub rest_text : NodeTree → List ℕ

@@ -5,7 +5,7 @@ use Rattle.rs_prefix.specs.declared.earliest.Kind.{Kind}
 use Rattle.rs_prefix.specs.declared.earliest.Kind.TheVariants as act
 use Rattle.rs_text.specs.Arms.{sort_signs}
 use Rattle.rs_text.specs.Signs.{Sign, plain, number, word_sign, bang, question, colon, comma, open_brace, close_brace, open_paren, close_paren, open_bracket, close_bracket}
-use Rattle.rs_derivations.specs.Lists.{separated}
+use Rattle.rs_derivations.specs.Lists.{list_with_separators}
 
 -- a pending act: its peer, whether it sends or receives, its label, and its sort where one is shown
 pub record ActTree : Type 0 where
@@ -39,7 +39,7 @@ act_signs a = plain a.peer ∷ mark_sign a.kind ∷ word_sign a.label ∷ open_p
 
 -- commas stand between acts
 abbrev pub acts_signs : List ActTree → List Sign
-acts_signs acts = separated (comma ∷ []) act_signs acts
+acts_signs acts = list_with_separators (comma ∷ []) act_signs acts
 
 -- the token of a number
 abbrev pub number_signs : ℕ → List Sign
@@ -47,7 +47,7 @@ number_signs n = number n ∷ []
 
 -- and between numbers
 abbrev pub numbers_signs : List ℕ → List Sign
-numbers_signs numbers = separated (comma ∷ []) number_signs numbers
+numbers_signs numbers = list_with_separators (comma ∷ []) number_signs numbers
 
 -- behind the pending acts of a node: "]" NUM "rank" NUM "next" "[" numbers "]"
 abbrev pub rest_signs : NodeTree → List Sign

@@ -313,7 +313,7 @@ impl<'a> Reader<'a> {
     pub fn new(alloc: Global, roles: &'a [Name], labels: Vec<Name>) -> Reader<'a>
         requires roles { length roles.now ≤ MOST_ROLES }
         requires labels { length labels.items ≤ MOST_LABELS }
-        ensures { result ≡ spec.begin (record { roles = roles.now; labels = labels.items }) }
+        ensures { result ≡ spec.start_of_derivation (record { roles = roles.now; labels = labels.items }) }
     {
         Reader {
             alloc,
@@ -350,7 +350,7 @@ impl<'a> Reader<'a> {
     }
 
     fn played_by(&mut self, role: Option<Role>, at: usize) -> Result<(), Stop>
-        ensures { spec.Feeds result (spec.played_by (option_map (λ role. role.0) role) at self.old) self.old self.new }
+        ensures { spec.Feeds result (spec.feed_derivation_role (option_map (λ role. role.0) role) at self.old) self.old self.new }
     {
         let Some(role) = role else {
             return fault(TextKind::UnknownRole, at);
@@ -419,7 +419,7 @@ impl<'a> Reader<'a> {
     }
 
     fn met_by(&mut self, peer: Option<Role>, at: usize) -> Result<(), Stop>
-        ensures { spec.Feeds result (spec.met_by (option_map (λ role. role.0) peer) at self.old) self.old self.new }
+        ensures { spec.Feeds result (spec.feed_peer (option_map (λ role. role.0) peer) at self.old) self.old self.new }
     {
         let Some(peer) = peer else {
             return fault(TextKind::UnknownRole, at);
@@ -456,7 +456,7 @@ impl<'a> Reader<'a> {
         word: &[u8],
         at: usize,
     ) -> Result<(), Stop>
-        ensures { spec.Feeds result (spec.labelled_by (option_map (λ label. label.0) label) peer kind word.now at self.old) self.old self.new }
+        ensures { spec.Feeds result (spec.feed_label_number (option_map (λ label. label.0) label) peer kind word.now at self.old) self.old self.new }
     {
         let Some(label) = label else {
             return self.new_label(peer, kind, word, at);
@@ -466,7 +466,7 @@ impl<'a> Reader<'a> {
     }
 
     fn new_label(&mut self, peer: Role, kind: Kind, word: &[u8], at: usize) -> Result<(), Stop>
-        ensures { spec.Feeds result (spec.labelled_by None peer kind word.now at self.old) self.old self.new }
+        ensures { spec.Feeds result (spec.feed_label_number None peer kind word.now at self.old) self.old self.new }
     {
         let place = self.labels.len();
         if place >= MOST_LABELS {
@@ -500,7 +500,7 @@ impl<'a> Reader<'a> {
         label: Label,
         at: usize,
     ) -> Result<(), Stop>
-        ensures { spec.Feeds result (spec.sorted_by sort peer kind label at self.old) self.old self.new }
+        ensures { spec.Feeds result (spec.feed_sort_word sort peer kind label at self.old) self.old self.new }
     {
         let Some(sort) = sort else {
             return expected(Wanted::SortOrCloseParen, at);
@@ -516,7 +516,7 @@ impl<'a> Reader<'a> {
 
     /// The act is pending.
     fn pend(&mut self, peer: Role, kind: Kind, label: Label, sort: Sort) -> Result<(), Stop>
-        ensures ok { OnOk result (spec.pended peer kind label sort self.old ≡ Ok self.new) }
+        ensures ok { OnOk result (spec.feed_pending peer kind label sort self.old ≡ Ok self.new) }
         ensures err { IfErr result (λ e. e ≡ Stop.Memory) }
         ensures kept { OnErr result (names_read self.new ≡ names_read self.old) }
     {
@@ -577,7 +577,7 @@ impl<'a> Reader<'a> {
 
     /// The node is read.
     fn end_node(&mut self) -> Result<(), Stop>
-        ensures ok { OnOk result (spec.ended self.old ≡ Ok self.new) }
+        ensures ok { OnOk result (spec.feed_node_end self.old ≡ Ok self.new) }
         ensures err { IfErr result (λ e. e ≡ Stop.Memory) }
         ensures kept { OnErr result (names_read self.new ≡ names_read self.old) }
     {

@@ -20,10 +20,10 @@ use Rattle.rs_model.proofs.FirstFailed.{or_some}
 use Rattle.rs_derive.proofs.Order.{in_order}
 use Rattle.rs_derive.proofs.Rows.{Is, complete, follow_picks, served, sound}
 use Rattle.rs_derive.proofs.Whole.{is_named, named_is, starts_right}
-use Rattle.rs_derive.specs.Checks.{edge_fault, judged, length_fault, move_fault, names, node_fault, nodes_fault, nexts_fault, starts, state_fault}
+use Rattle.rs_derive.specs.Checks.{edge_fault, fault_of_edge, length_fault, move_fault, names, node_fault, nodes_fault, nexts_fault, starts, state_fault}
 use Rattle.rs_derive.specs.Data.{DNode_data, Derivation_data}
 use Rattle.rs_derive.specs.Derivations.{spot_of}
-use Rattle.rs_derive.specs.Due.{Chosen, Due, all_serve, both_at, due, due_at, ends, follows, guesses, paid, pays_receive, pays_send, receives, receives_past, sends, sends_both, sends_past, served_by, serves_some}
+use Rattle.rs_derive.specs.Due.{Chosen, Due, all_serve, both_at, due, due_at, ends, follows, guesses, due_behind_payment, pays_receive, due_of_send, receives, receives_past, sends, sends_both, sends_past, due_where_served, serves_some}
 use Rattle.rs_derive.specs.Faults.{Blames, Misnames, first_fault}
 use Rattle.rs_derive.specs.Moves.{Spot, arm_of, owing_receive, owing_send, spot}
 use Rattle.rs_derive.specs.declared.faults.DeriveFault.{DeriveFault}
@@ -61,7 +61,7 @@ guess_choice spots (suc p) ss r g i = absurd (none-some ss g)
 follow_choice : (p : Spot) (r : Role) (theirs : List Arm) → Choice (follows p r theirs)
 follow_choice p r theirs = λ n ss x g i. (map (λ b. owing_receive p r b) theirs, follow_picks p r theirs)
 
-paid_choice : (p : Spot) (place : ℕ) (a : Arm) → Choice (Some (paid p place a))
+paid_choice : (p : Spot) (place : ℕ) (a : Arm) → Choice (Some (due_behind_payment p place a))
 paid_choice p place a = λ n ss x g i. guess_choice _ n ss x g i
 
 ends_choice : (p : Spot) (t : Option State) → Choice (ends p.pending t)
@@ -80,17 +80,17 @@ past_choice p q arms (Some Done) = tt
 past_choice p q arms (Some (Puts r theirs)) = puts_choice p r arms theirs (eqb r.0 q.0)
 past_choice p q arms (Some (Takes r theirs)) = follow_choice p r theirs
 
-pays_choice : (p : Spot) (place : ℕ) (arms : List Arm) (o : Option Act) → Choice (pays_send p place arms o)
+pays_choice : (p : Spot) (place : ℕ) (arms : List Arm) (o : Option Act) → Choice (due_of_send p place arms o)
 pays_choice p place [] o = tt
 pays_choice p place (a ∷ b ∷ more) o = tt
 pays_choice p place (a ∷ []) None = tt
 pays_choice p place (a ∷ []) (Some (act.Takes r l so)) = tt
 pays_choice p place (a ∷ []) (Some (act.Puts r l so)) =
-    choice_if (eqb a.label.0 l.0 && serves a.sort so) (Some (paid p place a)) (λ e. paid_choice p place a)
+    choice_if (eqb a.label.0 l.0 && serves a.sort so) (Some (due_behind_payment p place a)) (λ e. paid_choice p place a)
 
-served_choice : (p : Spot) (place : ℕ) (o : Option Arm) (s : Sort) → Choice (served_by p place s o)
+served_choice : (p : Spot) (place : ℕ) (o : Option Arm) (s : Sort) → Choice (due_where_served p place s o)
 served_choice p place None s = tt
-served_choice p place (Some a) s = choice_if (serves s a.sort) (Some (paid p place a)) (λ e. paid_choice p place a)
+served_choice p place (Some a) s = choice_if (serves s a.sort) (Some (due_behind_payment p place a)) (λ e. paid_choice p place a)
 
 takes_choice : (p : Spot) (place : ℕ) (arms : List Arm) (o : Option Act) → Choice (pays_receive p place arms o)
 takes_choice p place arms None = tt
@@ -150,7 +150,7 @@ stayed : (b : Bool) (rank there : ℕ) (g f : DeriveFault) → leb rank there �
 stayed true rank there g f h e = (refl, refl, leb-true rank there h, same_Some g f e)
 stayed false rank there g f h e = absurd (none-some f e)
 
-judged_some : (keeps : Bool) (rank i k : ℕ) (b : Bool) (there : ℕ) (f : DeriveFault) → judged keeps rank i k b there ≡ Some f
+judged_some : (keeps : Bool) (rank i k : ℕ) (b : Bool) (there : ℕ) (f : DeriveFault) → fault_of_edge keeps rank i k b there ≡ Some f
     → ((b ≡ false) × (WrongNext i k ≡ f)) ⊎ ((b ≡ true) × (keeps ≡ true) × (rank ≤ there) × (Forgets i k ≡ f))
 judged_some keeps rank i k false there f e = inl (refl, same_Some (WrongNext i k) f e)
 judged_some false rank i k true there f e = absurd (none-some f e)

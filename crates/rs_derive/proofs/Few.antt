@@ -6,7 +6,7 @@ use Rattle.std.proofs.lemmas.Option.{none-some}
 use Rattle.std.specs.List.{IsDistinct, AllByRecursion, list_any}
 use Rattle.rs_model.specs.declared.graph.Arm.{Arm}
 use Rattle.rs_derive.proofs.Acts.{label_is}
-use Rattle.rs_derive.specs.Within.{IsOnce}
+use Rattle.rs_derive.specs.Within.{HasLabelsOnce}
 
 abbrev number_of : Arm → ℕ
 number_of a = a.label.0
@@ -21,7 +21,7 @@ apart [] a h = tt
 apart (b ∷ later) a h =
     (not_true (eqb a.label.0 b.label.0) (λ e. h zero b refl (label_is a.label b.label e)), apart later a (λ i c g. h (suc i) c g))
 
-distinct : (arms : List Arm) → IsOnce arms → IsDistinct eqb (map number_of arms)
+distinct : (arms : List Arm) → HasLabelsOnce arms → IsDistinct eqb (map number_of arms)
 unfolding IsDistinct
 distinct [] h = tt
 distinct (a ∷ later) h = (
@@ -54,9 +54,9 @@ length_taken zero arms h = refl
 length_taken (suc n) [] h = absurd (omega arith)
 length_taken (suc n) (a ∷ arms) h = ap suc (length_taken n arms (omega arith))
 
-pub few : (n : ℕ) (arms : List Arm) → IsOnce arms → n ≤ length arms → AreLabels arms n → n ≤ 2 ^ 16
+pub few : (n : ℕ) (arms : List Arm) → HasLabelsOnce arms → n ≤ length arms → AreLabels arms n → n ≤ 2 ^ 16
 few n arms once h labels =
-    let once' : IsOnce (take n arms) = λ i j a b g k e. once i j a b (get_taken n arms i a g).0 (get_taken n arms j b k).0 e in
+    let once' : HasLabelsOnce (take n arms) = λ i j a b g k e. once i j a b (get_taken n arms i a g).0 (get_taken n arms j b k).0 e in
     let below : (q : ℕ) → list_any (eqb q) (map number_of (take n arms)) ≡ true → q < 2 ^ 16 =
     λ q e. (let r = place_of q (take n arms) e in
     let k = get_taken n arms r.0 r.1 r.2 in

@@ -5,7 +5,7 @@ use Rattle.std.proofs.lemmas.Bool.{cases_order, eqb-true, eq-eqb, false≢true}
 use Rattle.std.proofs.lemmas.Option.{none-some, same_Some, slice_get-get_or}
 use Rattle.rs_model.specs.declared.graph.Arm.{Arm}
 use Rattle.rs_model.specs.FirstFailed.{or_later}
-use Rattle.rs_derive.specs.Checks.{edge_at, edge_fault, nexts_fault, counted}
+use Rattle.rs_derive.specs.Checks.{edge_at, edge_fault, nexts_fault, fault_of_count}
 use Rattle.rs_derive.specs.Data.{DNode_data}
 use Rattle.rs_derive.specs.Moves.{Spot}
 use Rattle.rs_derive.specs.declared.faults.DeriveFault.{DeriveFault}
@@ -118,7 +118,7 @@ at_least_one n m =
 
 pub at_count : (f : Arm → List Spot) (nodes : List DNode_data) (keeps : Bool) (rank i : ℕ) (arms : List Arm) (nexts : List ℕ) (p due : ℕ) (whole : Option DeriveFault)
     → p ≡ due → due ≡ min (length arms) (length nexts)
-    → nexts_fault nodes keeps rank i (map f (drop p arms)) (drop p nexts) p ≡ whole → counted i due (length arms) (length nexts) ≡ whole
+    → nexts_fault nodes keeps rank i (map f (drop p arms)) (drop p nexts) p ≡ whole → fault_of_count i due (length arms) (length nexts) ≡ whole
 at_count f nodes keeps rank i arms nexts p due whole pd m inv =
     let l : min (length arms) (length nexts) ≤ length arms = min-le_left (length arms) (length nexts) in
     let r : min (length arms) (length nexts) ≤ length nexts = min-le_right (length arms) (length nexts) in
@@ -126,4 +126,4 @@ at_count f nodes keeps rank i arms nexts p due whole pd m inv =
     let b : p ≤ length nexts = omega arith in
     let h : (length arms ≤ p) ⊎ (length nexts ≤ p) =
     ⊎_elim (λ k. inl (omega arith)) (λ k. inr (omega arith)) (at_least_one (length arms) (length nexts)) in
-    ap (λ k. counted i k (length arms) (length nexts)) (sym pd) ∙ counted_as f nodes keeps rank i arms nexts p (eqb (length arms) (length nexts)) refl a b h ∙ inv
+    ap (λ k. fault_of_count i k (length arms) (length nexts)) (sym pd) ∙ counted_as f nodes keeps rank i arms nexts p (eqb (length arms) (length nexts)) refl a b h ∙ inv

@@ -20,7 +20,7 @@ use Rattle.rs_prefix.specs.declared.earliest.Found.TheVariants.{At, Blocked, Abs
 use Rattle.rs_prefix.specs.declared.earliest.Kind.TheVariants.{Send, Receive}
 use Rattle.rs_derive.proofs.Acts.{label_is, role_is, sort_is}
 use Rattle.rs_derive.specs.Derivations.{KeepsItsHead}
-use Rattle.rs_derive.specs.Due.{Chosen, Due, all_serve, both_at, due, due_at, ends, guesses, paid, pays_receive, pays_send, receives, receives_past, sends, sends_both, sends_past, served_by, serves_some, stops}
+use Rattle.rs_derive.specs.Due.{Chosen, Due, all_serve, both_at, due, due_at, ends, guesses, due_behind_payment, pays_receive, due_of_send, receives, receives_past, sends, sends_both, sends_past, due_where_served, serves_some, stops}
 use Rattle.rs_derive.specs.Moves.{Both, HasMove, Stops, PaysSend, SendsBoth, Guesses, SendsAhead, PaysReceive, ReceivesAhead, Spot, arm_of, owing_receive, owing_send, spot}
 
 -- one of the spots that are due, for each next
@@ -96,7 +96,7 @@ complete sub above p makes rs (Stops st pe ab mk re) =
     rw (st, ab, pe, mk, re) record { d = record { keeps = false; nexts = [] }; is' = refl; agrees = none_agrees []; picks = tt }
 complete sub above p makes rs (PaysSend q arm place so st found at sv mk re) =
     rw (st, is p.pending Send q (At place) found, at, eq-eqb arm.label.0 arm.label.0 refl, serve arm.sort so sv, mk, re)
-    record { d = paid p place arm; is' = refl; agrees = at_agrees p.pending place (act.Puts q arm.label so) at; picks = ((zero, refl), tt) }
+    record { d = due_behind_payment p place arm; is' = refl; agrees = at_agrees p.pending place (act.Puts q arm.label so) at; picks = ((zero, refl), tt) }
 complete sub above p makes rs (SendsBoth q arms theirs st none ab mk both) =
     rw (st, is p.pending Send q Absent none, ab, eq-eqb q.0 q.0 refl, both_serve theirs p.pending arms rs both, mk)
     record {
@@ -123,7 +123,7 @@ complete sub above p makes rs (SendsAhead q r arms theirs st none ab mk re) =
     }
 complete sub above p makes rs (PaysReceive q arms place label so arm st found at ch sv mk re) =
     rw (st, is p.pending Receive q (At place) found, at, ch, serve so arm.sort sv, mk, re)
-    record { d = paid p place arm; is' = refl; agrees = at_agrees p.pending place (act.Takes q label so) at; picks = ((zero, refl), tt) }
+    record { d = due_behind_payment p place arm; is' = refl; agrees = at_agrees p.pending place (act.Takes q label so) at; picks = ((zero, refl), tt) }
 complete sub above p makes rs (ReceivesAhead q r arms theirs st none ab mk re) =
     rw (st, is p.pending Receive q Absent none, ab, mk, re)
     record {
@@ -253,7 +253,7 @@ sound_past sub above p q arms (Some (Takes r theirs)) gs none gt =
     λ rs h. record { makes = None; move = SendsAhead q r arms theirs gs none gt refl (follow_all p r theirs rs h); agrees = none_agrees p.pending }
 
 sound_pays : (sub above : Machine_data) (p : Spot) (q : Role) (arms : List Arm) (place : ℕ) (o : Option Act) → slice_get sub.states p.state ≡ Some (Puts q arms)
-    → IsFound p.pending Send q place → slice_get p.pending place ≡ o → Sound sub above p (pays_send p place arms o)
+    → IsFound p.pending Send q place → slice_get p.pending place ≡ o → Sound sub above p (due_of_send p place arms o)
 sound_pays sub above p q [] place o gs f g = tt
 sound_pays sub above p q (a ∷ b ∷ more) place o gs f g = tt
 sound_pays sub above p q (a ∷ []) place None gs f g = tt
@@ -280,7 +280,7 @@ sound_sends sub above p q arms t Absent gs gt f = sound_past sub above p q arms 
 
 sound_served : (sub above : Machine_data) (p : Spot) (q : Role) (arms : List Arm) (place : ℕ) (l : Label) (so : Sort) (o : Option Arm)
     → slice_get sub.states p.state ≡ Some (Takes q arms) → IsFound p.pending Receive q place
-    → slice_get p.pending place ≡ Some (act.Takes q l so) → arm_of arms l ≡ o → Sound sub above p (served_by p place so o)
+    → slice_get p.pending place ≡ Some (act.Takes q l so) → arm_of arms l ≡ o → Sound sub above p (due_where_served p place so o)
 sound_served sub above p q arms place l so None gs f at ch = tt
 sound_served sub above p q arms place l so (Some a) gs f at ch =
     sound_if sub above p (serves so a.sort) _

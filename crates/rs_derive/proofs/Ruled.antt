@@ -13,10 +13,10 @@ use Rattle.rs_prefix.specs.Search.{earliest}
 use Rattle.rs_prefix.specs.declared.earliest.Found.{Found}
 use Rattle.rs_prefix.specs.declared.earliest.Found.TheVariants.{At, Blocked, Absent}
 use Rattle.rs_prefix.specs.declared.earliest.Kind.TheVariants.{Send, Receive}
-use Rattle.rs_derive.specs.Due.{Due, all_serve, due_at, ends, pays_receive, pays_send, receives, receives_past, sends, sends_past, served_by}
+use Rattle.rs_derive.specs.Due.{Due, all_serve, due_at, ends, pays_receive, due_of_send, receives, receives_past, sends, sends_past, due_where_served}
 use Rattle.rs_derive.specs.Moves.{Spot, arm_of}
-use Rattle.rs_derive.specs.Rules.{Fits, arms_at, due_by, due_of, end_rule, pay_receive_rule, pay_send_rule, receive_past_rule, receive_rule, rule_at, send_past_rule, send_rule, served_rule}
-use Rattle.rs_derive.specs.Within.{IsOnce, IsOnceAt}
+use Rattle.rs_derive.specs.Rules.{RuleFits, arms_at, due_by, due_of, end_rule, pay_receive_rule, pay_send_rule, receive_past_rule, receive_rule, rule_at, send_past_rule, send_rule, served_rule}
+use Rattle.rs_derive.specs.Within.{HasLabelsOnce, IsOnceAt}
 use Rattle.rs_derive.specs.declared.rules.Rule.{Rule}
 use Rattle.rs_derive.specs.declared.rules.Rule.TheVariants.{Stops, Pays, SendsBoth, Guesses, Follows}
 
@@ -29,14 +29,14 @@ by_end p Done = by_test p [] [] (eqb (length p.pending) 0) Stops
 by_end p (Puts r theirs) = refl
 by_end p (Takes r theirs) = refl
 
-by_pay : (p : Spot) (theirs : List Arm) (place : ℕ) (arms : List Arm) (o : Option Act) → pays_send p place arms o ≡ due_of p arms theirs (pay_send_rule place arms o)
+by_pay : (p : Spot) (theirs : List Arm) (place : ℕ) (arms : List Arm) (o : Option Act) → due_of_send p place arms o ≡ due_of p arms theirs (pay_send_rule place arms o)
 by_pay p theirs place [] o = refl
 by_pay p theirs place (a ∷ b ∷ more) o = refl
 by_pay p theirs place (a ∷ []) None = refl
 by_pay p theirs place (a ∷ []) (Some (act.Takes r l so)) = refl
 by_pay p theirs place (a ∷ []) (Some (act.Puts r l so)) = by_test p (a ∷ []) theirs (eqb a.label.0 l.0 && serves a.sort so) (Pays place a)
 
-by_served : (p : Spot) (arms theirs : List Arm) (place : ℕ) (so : Sort) (o : Option Arm) → served_by p place so o ≡ due_of p arms theirs (served_rule place so o)
+by_served : (p : Spot) (arms theirs : List Arm) (place : ℕ) (so : Sort) (o : Option Arm) → due_where_served p place so o ≡ due_of p arms theirs (served_rule place so o)
 by_served p arms theirs place so None = refl
 by_served p arms theirs place so (Some a) = by_test p arms theirs (serves so a.sort) (Pays place a)
 
@@ -80,9 +80,9 @@ ruled p (Takes q arms) t = by_receive p arms t (earliest p.pending Receive q)
 
 abbrev FitsSome : List Act → List Arm → List Arm → Option Rule → Type 0
 FitsSome pending arms theirs None = Unit {0}
-FitsSome pending arms theirs (Some rule) = Fits pending arms theirs rule
+FitsSome pending arms theirs (Some rule) = RuleFits pending arms theirs rule
 
-fit_test : (pending : List Act) (arms theirs : List Arm) (b : Bool) (rule : Rule) → (b ≡ true → Fits pending arms theirs rule) → FitsSome pending arms theirs (cond b (Some rule) None)
+fit_test : (pending : List Act) (arms theirs : List Arm) (b : Bool) (rule : Rule) → (b ≡ true → RuleFits pending arms theirs rule) → FitsSome pending arms theirs (cond b (Some rule) None)
 fit_test pending arms theirs true rule h = h refl
 fit_test pending arms theirs false rule h = tt
 
@@ -139,14 +139,14 @@ fit_at pending Done t = fit_end pending t
 fit_at pending (Puts q arms) t = fit_send pending q arms t (earliest pending Send q)
 fit_at pending (Takes q arms) t = fit_receive pending arms t (earliest pending Receive q)
 
-pub fitting : (pending : List Act) (s t : State) (rule : Rule) → rule_at pending s t ≡ Some rule → Fits pending (arms_at s) (arms_at t) rule
+pub fitting : (pending : List Act) (s t : State) (rule : Rule) → rule_at pending s t ≡ Some rule → RuleFits pending (arms_at s) (arms_at t) rule
 fitting pending s t rule e = subst (λ (o : Option Rule). FitsSome pending (arms_at s) (arms_at t) o) e (fit_at pending s t)
 
-pub fits_some : (pending : List Act) (s t : State) (o : Option Rule) → o ≡ rule_at pending s t → IfSome o (λ rule. Fits pending (arms_at s) (arms_at t) rule)
+pub fits_some : (pending : List Act) (s t : State) (o : Option Rule) → o ≡ rule_at pending s t → IfSome o (λ rule. RuleFits pending (arms_at s) (arms_at t) rule)
 fits_some pending s t None e = tt
 fits_some pending s t (Some rule) e = fitting pending s t rule (sym e)
 
-pub once_arms : (s : State) (arms : List Arm) → IsOnceAt s → arms ≡ arms_at s → IsOnce arms
-once_arms Done arms h e = subst (λ (xs : List Arm). IsOnce xs) (sym e) (λ i j a b g k q. absurd (none-some a g))
-once_arms (Puts q arms') arms h e = subst (λ (xs : List Arm). IsOnce xs) (sym e) h
-once_arms (Takes q arms') arms h e = subst (λ (xs : List Arm). IsOnce xs) (sym e) h
+pub once_arms : (s : State) (arms : List Arm) → IsOnceAt s → arms ≡ arms_at s → HasLabelsOnce arms
+once_arms Done arms h e = subst (λ (xs : List Arm). HasLabelsOnce xs) (sym e) (λ i j a b g k q. absurd (none-some a g))
+once_arms (Puts q arms') arms h e = subst (λ (xs : List Arm). HasLabelsOnce xs) (sym e) h
+once_arms (Takes q arms') arms h e = subst (λ (xs : List Arm). HasLabelsOnce xs) (sym e) h

@@ -9,7 +9,7 @@ use Rattle.rs_model.proofs.FirstFailed.{or_none}
 use Rattle.rs_derive.proofs.Acts.{acts_are, acts_same}
 use Rattle.rs_derive.proofs.Order.{in_order}
 use Rattle.rs_derive.proofs.Rows.{Is, complete, sound}
-use Rattle.rs_derive.specs.Checks.{derive_fault, edge_fault, judged, length_fault, move_fault, names, node_fault, nodes_fault, nexts_fault, same_acts, same_spot, starts, state_fault}
+use Rattle.rs_derive.specs.Checks.{derive_fault, edge_fault, fault_of_edge, length_fault, move_fault, names, node_fault, nodes_fault, nexts_fault, same_acts, same_spot, starts, state_fault}
 use Rattle.rs_derive.specs.Data.{DNode_data, Derivation_data}
 use Rattle.rs_derive.specs.Derivations.{IsDerivation, Names, NodeFits, Remembers, spot_of}
 use Rattle.rs_derive.specs.Due.{Chosen, Due, due}
@@ -71,7 +71,7 @@ kept : (b : Bool) (rank there : ℕ) (f : DeriveFault) → leb rank there ≡ b 
 kept true rank there f h e = absurd (none-some f (sym e))
 kept false rank there f h e = leb-false rank there h
 
-judged_none : (keeps : Bool) (rank i k : ℕ) (b : Bool) (there : ℕ) → judged keeps rank i k b there ≡ None
+judged_none : (keeps : Bool) (rank i k : ℕ) (b : Bool) (there : ℕ) → fault_of_edge keeps rank i k b there ≡ None
     → (b ≡ true) × (keeps ≡ true → there < rank)
 judged_none keeps rank i k false there e = absurd (none-some (WrongNext i k) (sym e))
 judged_none false rank i k true there e = (refl, λ h. absurd (false≢true h))
@@ -111,7 +111,7 @@ nexts_none nodes keeps rank i (d ∷ ds) (j ∷ js) k e =
 
 -- and nexts that name results have no fault
 
-judged_right : (keeps : Bool) (rank i k there : ℕ) → (keeps ≡ true → there < rank) → judged keeps rank i k true there ≡ None
+judged_right : (keeps : Bool) (rank i k there : ℕ) → (keeps ≡ true → there < rank) → fault_of_edge keeps rank i k true there ≡ None
 judged_right false rank i k there h = refl
 judged_right true rank i k there h = rw (lt-leb rank there (h refl)) refl
 
@@ -119,7 +119,7 @@ edge_right : (keeps : Bool) (rank i k : ℕ) (d : List Spot) (o : Option DNode_d
     → (keeps ≡ true → m.rank < rank) → edge_fault keeps rank i k d o ≡ None
 edge_right keeps rank i k d o m r eo er h falls =
     ap (λ x. edge_fault keeps rank i k d x) eo
-    ∙ ap (λ b. judged keeps rank i k b m.rank) (is_named m d r er h)
+    ∙ ap (λ b. fault_of_edge keeps rank i k b m.rank) (is_named m d r er h)
     ∙ judged_right keeps rank i k m.rank falls
 
 nexts_right : (nodes : List DNode_data) (keeps : Bool) (rank i : ℕ) (ds : List (List Spot)) (js : List ℕ) (k : ℕ) (rs : List Spot) → Chosen ds rs

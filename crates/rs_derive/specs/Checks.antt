@@ -41,14 +41,14 @@ same_spot p q = (p.state == q.state) && ((p.above == q.above) && same_acts p.pen
 -- the spot that a target of an edge stands for
 
 -- what is owed behind the change, where these acts were owed
-abbrev pub changed : List Act → Change → List Act
-changed pending Same = pending
-changed pending (Without place) = without pending place
-changed pending (With x) = pending ++ x ∷ []
+abbrev pub owed_behind : List Act → Change → List Act
+owed_behind pending Same = pending
+owed_behind pending (Without place) = without pending place
+owed_behind pending (With x) = pending ++ x ∷ []
 
 -- the spot of a target, where these acts were owed
 abbrev pub target_spot : List Act → Target → Spot
-target_spot pending t = spot t.state (changed pending t.change) t.above
+target_spot pending t = spot t.state (owed_behind pending t.change) t.above
 
 -- faults
 
@@ -57,14 +57,14 @@ abbrev pub names : DNode_data → List Spot → Bool
 names m spots = list_any (λ r. same_spot (spot_of m) r) spots
 
 -- an edge leads to no spot that is due, or keeps its head and leads to no lower rank
-abbrev pub judged : Bool → ℕ → ℕ → ℕ → Bool → ℕ → Option DeriveFault
-judged keeps rank i k named there =
+abbrev pub fault_of_edge : Bool → ℕ → ℕ → ℕ → Bool → ℕ → Option DeriveFault
+fault_of_edge keeps rank i k named there =
     if named then (if keeps && nat_le rank there then Some (Forgets i k) else None) else Some (WrongNext i k)
 
 -- .. or it names no node
 abbrev pub edge_fault : Bool → ℕ → ℕ → ℕ → List Spot → Option DNode_data → Option DeriveFault
 edge_fault keeps rank i k spots None = Some (WrongNext i k)
-edge_fault keeps rank i k spots (Some m) = judged keeps rank i k (names m spots) m.rank
+edge_fault keeps rank i k spots (Some m) = fault_of_edge keeps rank i k (names m spots) m.rank
 
 -- the edge by that arm and that next
 abbrev pub edge_at : (Arm → List Spot) → List DNode_data → Bool → ℕ → ℕ → ℕ → Option Arm → Option ℕ → Option DeriveFault
@@ -78,8 +78,8 @@ spare i k [] = None
 spare i k (j ∷ js) = Some (WrongNext i k)
 
 -- there are more or fewer nexts than are due
-abbrev pub counted : ℕ → ℕ → ℕ → ℕ → Option DeriveFault
-counted i k due given = if due == given then None else Some (WrongNext i k)
+abbrev pub fault_of_count : ℕ → ℕ → ℕ → ℕ → Option DeriveFault
+fault_of_count i k due given = if due == given then None else Some (WrongNext i k)
 
 -- the first fault of node i's edges, from the one at place k on
 abbrev pub nexts_fault : List DNode_data → Bool → ℕ → ℕ → List (List Spot) → List ℕ → ℕ → Option DeriveFault

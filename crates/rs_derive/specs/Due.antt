@@ -29,23 +29,23 @@ abbrev pub stops : List Act → Option Due
 stops pending = if length pending == 0 then Some (record { keeps = false; nexts = [] }) else None
 
 -- the arm pays the act that is owed at the place
-abbrev pub paid : Spot → ℕ → Arm → Due
-paid p place a = record { keeps = nat_lt 0 place; nexts = (spot a.next (without p.pending place) p.above ∷ []) ∷ [] }
+abbrev pub due_behind_payment : Spot → ℕ → Arm → Due
+due_behind_payment p place a = record { keeps = nat_lt 0 place; nexts = (spot a.next (without p.pending place) p.above ∷ []) ∷ [] }
 
 -- the machine's only arm pays the send that is owed at the place
-abbrev pub pays_send : Spot → ℕ → List Arm → Option Act → Option Due
-pays_send p place (a ∷ []) (Some (act.Puts r l so)) =
-    if (a.label.0 == l.0) && serves a.sort so then Some (paid p place a) else None
-pays_send p place _ _ = None
+abbrev pub due_of_send : Spot → ℕ → List Arm → Option Act → Option Due
+due_of_send p place (a ∷ []) (Some (act.Puts r l so)) =
+    if (a.label.0 == l.0) && serves a.sort so then Some (due_behind_payment p place a) else None
+due_of_send p place _ _ = None
 
 -- that arm pays the receive that is owed at the place, where its sort is served
-abbrev pub served_by : Spot → ℕ → Sort → Option Arm → Option Due
-served_by p place so None = None
-served_by p place so (Some a) = if serves so a.sort then Some (paid p place a) else None
+abbrev pub due_where_served : Spot → ℕ → Sort → Option Arm → Option Due
+due_where_served p place so None = None
+due_where_served p place so (Some a) = if serves so a.sort then Some (due_behind_payment p place a) else None
 
 -- the arm with the label of the receive that is owed at the place pays it
 abbrev pub pays_receive : Spot → ℕ → List Arm → Option Act → Option Due
-pays_receive p place arms (Some (act.Takes r l so)) = served_by p place so (arm_of arms l)
+pays_receive p place arms (Some (act.Takes r l so)) = due_where_served p place so (arm_of arms l)
 pays_receive p place arms _ = None
 
 -- there is such an arm of the projection, and the machine's arm serves it
@@ -94,7 +94,7 @@ receives_past p _ = None
 
 -- the machine sends to q, and this is found of a send to q among what is owed
 abbrev pub sends : Spot → Role → List Arm → Option State → Found → Option Due
-sends p q arms t (At place) = pays_send p place arms (slice_get p.pending place)
+sends p q arms t (At place) = due_of_send p place arms (slice_get p.pending place)
 sends p q arms t (Blocked place) = None
 sends p q arms t Absent = sends_past p q arms t
 

@@ -12,7 +12,7 @@ use Rattle.rs_prefix.specs.Search.{earliest}
 use Rattle.rs_prefix.specs.declared.earliest.Found.{Found}
 use Rattle.rs_prefix.specs.declared.earliest.Found.TheVariants.{At, Blocked, Absent}
 use Rattle.rs_prefix.specs.declared.earliest.Kind.TheVariants.{Send, Receive}
-use Rattle.rs_derive.specs.Due.{Due, all_serve, both_at, paid}
+use Rattle.rs_derive.specs.Due.{Due, all_serve, both_at, due_behind_payment}
 use Rattle.rs_derive.specs.Moves.{Spot, arm_of, owing_receive, owing_send}
 use Rattle.rs_derive.specs.declared.rules.Rule.{Rule}
 use Rattle.rs_derive.specs.declared.rules.Rule.TheVariants.{Stops, Pays, SendsBoth, Guesses, Follows}
@@ -88,7 +88,7 @@ keeps_head pending _ = nat_lt 0 (length pending)
 -- what is due by the rule, where these are the arms of the machine and those of the projection
 abbrev pub nexts_by : Spot → List Arm → List Arm → Rule → List (List Spot)
 nexts_by p arms theirs Stops = []
-nexts_by p arms theirs (Pays place a) = (paid p place a).nexts
+nexts_by p arms theirs (Pays place a) = (due_behind_payment p place a).nexts
 nexts_by p arms theirs SendsBoth = map (λ a. both_at p.pending a (arm_of theirs a.label)) arms
 nexts_by p arms theirs (Guesses r) = map (λ b. owing_send p r b) theirs ∷ []
 nexts_by p arms theirs (Follows r) = map (λ b. owing_receive p r b ∷ []) theirs
@@ -103,7 +103,7 @@ due_of p arms theirs None = None
 due_of p arms theirs (Some rule) = Some (due_by p arms theirs rule)
 
 -- what a rule that applies tells: an act is owed at its place, and the projection has each arm of the machine
-abbrev pub Fits : List Act → List Arm → List Arm → Rule → Type 0
-Fits pending arms theirs (Pays place a) = place < length pending
-Fits pending arms theirs SendsBoth = all_serve theirs arms ≡ true
-Fits pending arms theirs _ = Unit {0}
+abbrev pub RuleFits : List Act → List Arm → List Arm → Rule → Type 0
+RuleFits pending arms theirs (Pays place a) = place < length pending
+RuleFits pending arms theirs SendsBoth = all_serve theirs arms ≡ true
+RuleFits pending arms theirs _ = Unit {0}

@@ -7,17 +7,17 @@ use Rattle.rs_derive.specs.declared.targets.Change.{Change}
 use Rattle.rs_derive.specs.declared.targets.Change.TheVariants.{Same, Without, With}
 
 -- where the change takes an act out of so many, there is one at its place
-abbrev pub IsWithin : ℕ → Change → Type 0
-IsWithin count Same = Unit {0}
-IsWithin count (Without place) = place < count
-IsWithin count (With x) = Unit {0}
+abbrev pub IsPlaceWithin : ℕ → Change → Type 0
+IsPlaceWithin count Same = Unit {0}
+IsPlaceWithin count (Without place) = place < count
+IsPlaceWithin count (With x) = Unit {0}
 
 -- no label stands at two arms
-abbrev pub IsOnce : List Arm → Type 0
-IsOnce arms = (i j : ℕ) (a b : Arm) → slice_get arms i ≡ Some a → slice_get arms j ≡ Some b → a.label ≡ b.label → i ≡ j
+abbrev pub HasLabelsOnce : List Arm → Type 0
+HasLabelsOnce arms = (i j : ℕ) (a b : Arm) → slice_get arms i ≡ Some a → slice_get arms j ≡ Some b → a.label ≡ b.label → i ≡ j
 
 -- at a state
 abbrev pub IsOnceAt : State → Type 0
 IsOnceAt Done = Unit {0}
-IsOnceAt (Puts q arms) = IsOnce arms
-IsOnceAt (Takes q arms) = IsOnce arms
+IsOnceAt (Puts q arms) = HasLabelsOnce arms
+IsOnceAt (Takes q arms) = HasLabelsOnce arms

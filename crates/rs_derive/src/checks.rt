@@ -4,8 +4,8 @@ ghost use Rattle.rs_derive.specs.Checks.{starts, derive_fault, node_fault, move_
 ghost use Rattle.rs_derive.specs.Derivations.{IsProper, IsDerivation, Remembers, spot_of};
 ghost use Rattle.rs_derive.specs.Due.{due, due_at};
 ghost use Rattle.rs_derive.specs.Faults.{first_fault};
-ghost use Rattle.rs_derive.specs.Rules.{Fits, due_by};
-ghost use Rattle.rs_derive.specs.Within.{IsOnce, IsOnceAt};
+ghost use Rattle.rs_derive.specs.Rules.{RuleFits, due_by};
+ghost use Rattle.rs_derive.specs.Within.{HasLabelsOnce, IsOnceAt};
 ghost use Rattle.rs_derive.specs.declared.targets.Change.TheVariants.{Without};
 
 use crate::nexts::{Source, both_fault, follow_fault, guess_fault, one_fault, spare_fault};
@@ -120,9 +120,9 @@ fn rule_fault(
     arms: &[Arm],
     theirs: &[Arm],
 ) -> Option<DeriveFault>
-    requires ours { IsOnce arms.now }
-    requires theirs { IsOnce theirs.now }
-    requires fits { Fits node.now.pending arms.now theirs.now rule }
+    requires ours { HasLabelsOnce arms.now }
+    requires theirs { HasLabelsOnce theirs.now }
+    requires fits { RuleFits node.now.pending arms.now theirs.now rule }
     ensures { result ≡ move_fault nodes.now number node.now (Some (due_by (spot_of node.now) arms.now theirs.now rule)) }
 {
     let source = Source {

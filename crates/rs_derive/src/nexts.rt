@@ -1,10 +1,10 @@
 ghost use Rattle.std.specs.Prelude.{◌≡◌, ◌<◌, ◌^◌, [], ◌∷◌, map, slice_get, length, Some};
 ghost use Rattle.rs_model.specs.declared.graph.Arm.{Arm};
-ghost use Rattle.rs_derive.specs.Checks.{judged, counted, edge_at, edge_fault, spare, nexts_fault, target_spot};
+ghost use Rattle.rs_derive.specs.Checks.{fault_of_edge, fault_of_count, edge_at, edge_fault, spare, nexts_fault, target_spot};
 ghost use Rattle.rs_derive.specs.Derivations.{spot_of};
 ghost use Rattle.rs_derive.specs.Due.{both_at};
 ghost use Rattle.rs_derive.specs.Moves.{arm_of, owing_send, owing_receive};
-ghost use Rattle.rs_derive.specs.Within.{IsWithin, IsOnce};
+ghost use Rattle.rs_derive.specs.Within.{IsPlaceWithin, HasLabelsOnce};
 ghost use Rattle.rs_derive.specs.declared.faults.DeriveFault.TheVariants.{WrongNext};
 
 use crate::rules::arm_of;
@@ -28,7 +28,7 @@ pub fn one_fault(
     node: &DNode,
     target: Target,
 ) -> Option<DeriveFault>
-    requires { IsWithin (length node.now.pending) target.change }
+    requires { IsPlaceWithin (length node.now.pending) target.change }
     ensures { result ≡ nexts_fault nodes.now source.keeps source.rank source.node ((target_spot node.now.pending target ∷ []) ∷ []) node.now.next 0 }
 {
     match node.next.as_slice() {
@@ -73,7 +73,7 @@ pub fn follow_fault(
     peer: Role,
     arms: &[Arm],
 ) -> Option<DeriveFault>
-    requires { IsOnce arms.now }
+    requires { HasLabelsOnce arms.now }
     ensures { result ≡ nexts_fault nodes.now source.keeps source.rank source.node (map (λ b. owing_receive (spot_of node.now) peer b ∷ []) arms.now) node.now.next 0 }
 {
     let due = arms.len().min(node.next.as_slice().len());
@@ -93,7 +93,7 @@ pub fn both_fault(
     arms: &[Arm],
     theirs: &[Arm],
 ) -> Option<DeriveFault>
-    requires { IsOnce arms.now }
+    requires { HasLabelsOnce arms.now }
     ensures { result ≡ nexts_fault nodes.now source.keeps source.rank source.node (map (λ a. both_at node.now.pending a (arm_of theirs.now a.label)) arms.now) node.now.next 0 }
 {
     let due = arms.len().min(node.next.as_slice().len());
@@ -154,7 +154,7 @@ fn made_fault(
 // Where passing that arm of the projection's receive leads to.
 fn owing(node: &DNode, peer: Role, arm: Arm) -> Target
     ensures spot { target_spot node.now.pending result ≡ owing_receive (spot_of node.now) peer arm }
-    ensures within { IsWithin (length node.now.pending) result.change }
+    ensures within { IsPlaceWithin (length node.now.pending) result.change }
     ensures label { arm.label.0 < 2 ^ 16 }
 {
     let act = Act::Takes {
@@ -178,7 +178,7 @@ fn edge_fault(
     node: &DNode,
     target: Target,
 ) -> Option<DeriveFault>
-    requires { IsWithin (length node.now.pending) target.change }
+    requires { IsPlaceWithin (length node.now.pending) target.change }
     ensures { result ≡ edge_fault source.keeps source.rank source.node number (target_spot node.now.pending target ∷ []) (slice_get nodes.now next) }
 {
     match nodes.get(next as usize) {
@@ -208,7 +208,7 @@ fn guessed_fault(
 
 #[inline(always)]
 fn judge(source: Source, arm: u32, named: bool, rank: u32) -> Option<DeriveFault>
-    ensures { result ≡ judged source.keeps source.rank source.node arm named rank }
+    ensures { result ≡ fault_of_edge source.keeps source.rank source.node arm named rank }
 {
     if !named {
         Some(wrong_next(source, arm))
@@ -224,7 +224,7 @@ fn judge(source: Source, arm: u32, named: bool, rank: u32) -> Option<DeriveFault
 
 // A next too many, or too few.
 fn count_fault(source: Source, arm: u32, arms: usize, nexts: usize) -> Option<DeriveFault>
-    ensures { result ≡ counted source.node arm arms nexts }
+    ensures { result ≡ fault_of_count source.node arm arms nexts }
 {
     if arms == nexts {
         None

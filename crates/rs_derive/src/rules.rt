@@ -3,7 +3,7 @@ ghost use Rattle.std.specs.Prelude.{◌≡◌, ◌<◌, ◌^◌, length, slice_g
 ghost use Rattle.rs_model.specs.Serving.{serves, sort_number};
 ghost use Rattle.rs_derive.specs.Due.{all_serve, due_at, serves_some};
 ghost use Rattle.rs_derive.specs.Moves.{Spot, arm_of};
-ghost use Rattle.rs_derive.specs.Rules.{Fits, arms_at, due_of, end_rule, keeps_head, pay_receive_rule, pay_send_rule, pushes, receive_rule, rule_at, send_past_rule, send_rule};
+ghost use Rattle.rs_derive.specs.Rules.{RuleFits, arms_at, due_of, end_rule, keeps_head, pay_receive_rule, pay_send_rule, pushes, receive_rule, rule_at, send_past_rule, send_rule};
 ghost use Rattle.rs_prefix.specs.Search.{earliest};
 ghost use Rattle.rs_prefix.specs.declared.earliest.Kind.TheVariants.{Send, Receive};
 
@@ -55,7 +55,7 @@ impl Rule {
 pub fn rule_at(pending: &Pending, state: &State, there: &State) -> Option<Rule>
     ensures is { result ≡ rule_at pending.now state.now there.now }
     ensures due { (p : Spot) → p.pending ≡ pending.now → due_at p (Some state.now) (Some there.now) ≡ due_of p (arms_at state.now) (arms_at there.now) result }
-    ensures fits { IfSome result (λ rule. Fits pending.now (arms_at state.now) (arms_at there.now) rule) }
+    ensures fits { IfSome result (λ rule. RuleFits pending.now (arms_at state.now) (arms_at there.now) rule) }
 {
     find_rule(pending, state, there)
 }

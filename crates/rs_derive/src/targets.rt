@@ -1,9 +1,9 @@
 ghost use Rattle.std.specs.Prelude.{◌≡◌, ◌↔◌, IsTrue, ◌<◌, ◌≤◌, ◌∷◌, ◌++◌, [], length, map};
 ghost use Rattle.rs_prefix.specs.Earliest.{without};
-ghost use Rattle.rs_derive.specs.Checks.{names, same_act, same_acts, same_spot, changed, target_spot};
+ghost use Rattle.rs_derive.specs.Checks.{names, same_act, same_acts, same_spot, owed_behind, target_spot};
 ghost use Rattle.rs_derive.specs.Derivations.{spot_of};
 ghost use Rattle.rs_derive.specs.Moves.{owing_send};
-ghost use Rattle.rs_derive.specs.Within.{IsWithin};
+ghost use Rattle.rs_derive.specs.Within.{IsPlaceWithin};
 
 use crate::DNode;
 use rs_model::{Act, Arm, Role};
@@ -30,7 +30,7 @@ pub struct Target {
 // Whether the node is where the edge leads from one with these pending acts.
 #[inline(always)]
 pub fn is_target(next: &DNode, pending: &[Act], target: Target) -> bool
-    requires { IsWithin (length pending.now) target.change }
+    requires { IsPlaceWithin (length pending.now) target.change }
     ensures { result ≡ same_spot (spot_of next.now) (target_spot pending.now target) }
 {
     next.state == target.state
@@ -68,8 +68,8 @@ fn is_owing_send(next: &DNode, node: &DNode, peer: Role, arm: Arm) -> bool
 
 #[inline(always)]
 fn is_changed(acts: &[Act], pending: &[Act], change: Change) -> bool
-    requires { IsWithin (length pending.now) change }
-    ensures { result ≡ same_acts acts.now (changed pending.now change) }
+    requires { IsPlaceWithin (length pending.now) change }
+    ensures { result ≡ same_acts acts.now (owed_behind pending.now change) }
 {
     match change {
         Change::Same => same_acts(acts, pending),

@@ -10,7 +10,7 @@ use Rattle.rs_derivations.specs.Spells.{SpellsDerivation}
 use Rattle.rs_derivations.specs.Texts.{bound_text, nodes_text}
 use Rattle.rs_derivations.specs.Trees.{DerivationTree}
 use Rattle.rs_derive.specs.Data.{Derivation_data}
-use Rattle.rs_documents.specs.Again.{CanBeReadAgain, HasAllLabels, derivation_by, labels_of_lines, labels_of_own, labels_of_text, machine_by, number_among, renumbered}
+use Rattle.rs_documents.specs.Again.{CanBeReadAgain, HasAllLabels, derivation_by, labels_of_lines, labels_of_own, labels_of_text, machine_by, number_among, document_by_labels}
 use Rattle.rs_documents.specs.Canonical.{AreCanonicalMachines, ArePrintable, AreShown, IsCanonicalDocument, derivations_text}
 use Rattle.rs_documents.specs.Data.{Document_data}
 use Rattle.rs_documents.specs.Documents.{SpellsDocument}
@@ -45,7 +45,7 @@ use Rattle.rs_model.specs.Data.{Machine_data, Names_data}
 use Rattle.rs_model.specs.declared.limits.TheConstants.{MOST_LABELS}
 use Rattle.rs_text.proofs.Naming.{grown_append, grown_differ}
 use Rattle.rs_text.specs.Lexing.{next_lexeme}
-use Rattle.rs_text.specs.Names.{grown, is_among, number_or, place_of, differ}
+use Rattle.rs_text.specs.Names.{names_with, is_among, number_or, place_of, differ}
 use Rattle.rs_text.specs.NamePlaces.{name_at}
 use Rattle.rs_text.specs.Signs.{Sign, plain, finish}
 use Rattle.rs_text.specs.Sound.{IsSound}
@@ -62,7 +62,7 @@ ends_protocols (plain word) text b = refl
 ends_protocols _ text b = absurd b
 
 -- labels that bring no new names are known
-all_known : (labels names : List (List ℕ)) → grown names labels ≡ names → AreAmong labels names
+all_known : (labels names : List (List ℕ)) → names_with names labels ≡ names → AreAmong labels names
 all_known labels names e l a = subst (λ (z : List (List ℕ)). is_among l z ≡ true) e (grown_new l labels names a)
 
 -- ---- machines
@@ -135,7 +135,7 @@ derivations_are_printed names (Some d ∷ derivations) sound printable small = (
 
 -- the labels of the protocol, of the machines' lines and of the derivations' ones
 abbrev first_of : (d : Document_data) (text : List ℕ) → IsCanonicalDocument d text → List (List ℕ)
-first_of d text c = grown [] (graphs.labels_of Talks c.protocol.tree.body)
+first_of d text c = names_with [] (graphs.labels_of Talks c.protocol.tree.body)
 
 abbrev lines_of : (d : Document_data) (text : List ℕ) → IsCanonicalDocument d text → List (List ℕ)
 lines_of d text c = labels_of_lines d.names d.machines c.back c.machines
@@ -143,7 +143,7 @@ lines_of d text c = labels_of_lines d.names d.machines c.back c.machines
 abbrev owns_of : Document_data → List (List ℕ)
 owns_of d = flat_map (labels_of_own d.names) d.derivations
 
-split_text : (d : Document_data) (text : List ℕ) (c : IsCanonicalDocument d text) → labels_of_text d text c ≡ grown (grown (first_of d text c) (lines_of d text c)) (owns_of d)
+split_text : (d : Document_data) (text : List ℕ) (c : IsCanonicalDocument d text) → labels_of_text d text c ≡ names_with (names_with (first_of d text c) (lines_of d text c)) (owns_of d)
 split_text d text c =
     grown_append (graphs.labels_of Talks c.protocol.tree.body) (lines_of d text c ++ owns_of d) [] ∙ grown_append (lines_of d text c) (owns_of d) (first_of d text c)
 
@@ -194,9 +194,9 @@ not_machine own (inr e) h = let clash : finish ≡ plain (codes "machine") = sym
 not_derivation : finish ≡ plain (codes "derivation") → ⊥
 not_derivation e = cc e
 
-by_parts : (d : Document_data) (text : List ℕ) → CanBeReadAgain d → (c : IsCanonicalDocument d text) (number : ℕ → ℕ) → length (grown (grown (first_of d text c) (lines_of d text c)) (owns_of d)) ≤ MOST_LABELS
-    → Renumbers number d.names.labels (grown (first_of d text c) (lines_of d text c)) (lines_of d text c) → Renumbers number d.names.labels (grown (grown (first_of d text c) (lines_of d text c)) (owns_of d)) (owns_of d)
-    → SpellsDocument text (doc_with d number (grown (grown (first_of d text c) (lines_of d text c)) (owns_of d)))
+by_parts : (d : Document_data) (text : List ℕ) → CanBeReadAgain d → (c : IsCanonicalDocument d text) (number : ℕ → ℕ) → length (names_with (names_with (first_of d text c) (lines_of d text c)) (owns_of d)) ≤ MOST_LABELS
+    → Renumbers number d.names.labels (names_with (first_of d text c) (lines_of d text c)) (lines_of d text c) → Renumbers number d.names.labels (names_with (names_with (first_of d text c) (lines_of d text c)) (owns_of d)) (owns_of d)
+    → SpellsDocument text (doc_with d number (names_with (names_with (first_of d text c) (lines_of d text c)) (owns_of d)))
 by_parts d text r c number few machine_numbers derivation_numbers =
     let names : Names_data = d.names in
     let sound = r.shown.sound in
@@ -224,12 +224,12 @@ by_parts d text r c number few machine_numbers derivation_numbers =
     let next3 = begun finish text at3 [] refl here3 in
     let ended : bodies.ends_a_name Talks (next_lexeme text at1).sign ≡ true = ap (bodies.ends_a_name Talks) next1.stands ∙ ends_protocols begins1.own (back ++ tail) begins1.begins in
     let first_names : Names_data = record { roles = names.roles; labels = first } in
-    let mid_names : Names_data = record { roles = names.roles; labels = grown first lines } in
+    let mid_names : Names_data = record { roles = names.roles; labels = names_with first lines } in
     let protocol : SpellsProtocol text 0 first_names d.protocol at1
     = subst (λ (z : ℕ). SpellsProtocol text 0 first_names d.protocol z) next1.from (front_again names d.protocol front r.shown.shaped sound r.shown.enough c.protocol text (back ++ tail) here0 ended) in
-    let mid_few = longer owns (grown first lines) in
+    let mid_few = longer owns (names_with first lines) in
     let row1 : Row Machine_data = row_of mid_names (map (option_map (machine_by number)) d.machines) at2 in
-    let row2 : Row Derivation_data = row_of (record { roles = names.roles; labels = grown (grown first lines) owns }) (map (option_map (derivation_by number)) d.derivations) at3 in
+    let row2 : Row Derivation_data = row_of (record { roles = names.roles; labels = names_with (names_with first lines) owns }) (map (option_map (derivation_by number)) d.derivations) at3 in
     let goes1 : GoesOn machine_parts text at1 first_names (no_parts names.roles) (good row1)
     = all_go_again machine_parts of_machines machine_by names number d.machines back lines machines text at1 first_names tail begins2.own here1 begins2' (not_machine begins2.own begins2.is) refl (omega (arith, few, mid_few)) machine_numbers r.machines in
     let goes2 : GoesOn derivation_parts text at2 mid_names (no_parts names.roles) (good row2)
@@ -245,7 +245,7 @@ by_parts d text r c number few machine_numbers derivation_numbers =
       ends = next3.stands;
     }
 
-pub read_again : (d : Document_data) (text : List ℕ) → CanBeReadAgain d → (c : IsCanonicalDocument d text) → SpellsDocument text (renumbered d (labels_of_text d text c))
+pub read_again : (d : Document_data) (text : List ℕ) → CanBeReadAgain d → (c : IsCanonicalDocument d text) → SpellsDocument text (document_by_labels d (labels_of_text d text c))
 read_again d text r c =
     let all : List (List ℕ) = labels_of_text d text c in
     let names : List (List ℕ) = d.names.labels in
@@ -255,10 +255,10 @@ read_again d text r c =
     let owns : List (List ℕ) = owns_of d in
     let k = parts_known d text r c in
     let split = split_text d text c in
-    let few : length (grown (grown first lines) owns) ≤ MOST_LABELS = subst (λ (z : List (List ℕ)). length z ≤ MOST_LABELS) split (text_few d text r c k) in
-    let numbers : (l : List ℕ) → is_among l names ≡ true → number (number_or (place_of l names)) ≡ number_or (place_of l (grown (grown first lines) owns))
+    let few : length (names_with (names_with first lines) owns) ≤ MOST_LABELS = subst (λ (z : List (List ℕ)). length z ≤ MOST_LABELS) split (text_few d text r c k) in
+    let numbers : (l : List ℕ) → is_among l names ≡ true → number (number_or (place_of l names)) ≡ number_or (place_of l (names_with (names_with first lines) owns))
     = λ l a. number_known names all l a ∙ ap (λ (z : List (List ℕ)). number_or (place_of l z)) split in
-    let spelt = by_parts d text r c number few (λ l a. numbers l (k.machines l a) ∙ number_kept (grown first lines) owns l (grown_new l lines first a)) (λ l a. numbers l (k.derivations l a)) in
+    let spelt = by_parts d text r c number few (λ l a. numbers l (k.machines l a) ∙ number_kept (names_with first lines) owns l (grown_new l lines first a)) (λ l a. numbers l (k.derivations l a)) in
     subst (λ (z : List (List ℕ)). SpellsDocument text (doc_with d number z)) (sym split) spelt
 
 -- ---- and printed again
@@ -287,7 +287,7 @@ derivations_printed_again names others number (Some d ∷ derivations) f =
     ap (λ (z : List ℕ). z ++ derivations_text names derivations) (sym (derivation_printed_again names others d number (λ k a. f k (front_among (name_at names.labels k) mine more a))))
     ∙ ap (λ (z : List ℕ). canonical_text (record { roles = names.roles; labels = others }) (derivation_by number d) ++ z) (derivations_printed_again names others number derivations (λ k a. f k (back_among (name_at names.labels k) mine more a)))
 
-printed_again : (d : Document_data) (text : List ℕ) → CanBeReadAgain d → (c : IsCanonicalDocument d text) → IsCanonicalDocument (renumbered d (labels_of_text d text c)) text
+printed_again : (d : Document_data) (text : List ℕ) → CanBeReadAgain d → (c : IsCanonicalDocument d text) → IsCanonicalDocument (document_by_labels d (labels_of_text d text c)) text
 printed_again d text r c =
     let all : List (List ℕ) = labels_of_text d text c in
     let names : Names_data = d.names in
@@ -295,7 +295,7 @@ printed_again d text r c =
     let first : List (List ℕ) = first_of d text c in
     let lines : List (List ℕ) = lines_of d text c in
     let owns : List (List ℕ) = owns_of d in
-    let split : all ≡ grown first (lines ++ owns) = grown_append (graphs.labels_of Talks c.protocol.tree.body) (lines ++ owns) [] in
+    let split : all ≡ names_with first (lines ++ owns) = grown_append (graphs.labels_of Talks c.protocol.tree.body) (lines ++ owns) [] in
     let there : AreAmong (lines ++ owns) all = λ l a. subst (λ (z : List (List ℕ)). is_among l z ≡ true) (sym split) (grown_new l (lines ++ owns) first a) in
     let protocol = front_printed_again names d.protocol c.front r.shown.shaped r.shown.sound r.shown.enough c.protocol (lines ++ owns) in
     let moves : Moves number names.labels all lines
@@ -312,7 +312,7 @@ printed_again d text r c =
 -- what is read from it is printed as it
 pub as_itself : (d e : Document_data) (text : List ℕ) → CanBeReadAgain d → IsCanonicalDocument d text → SpellsDocument text e → IsCanonicalDocument e text
 as_itself d e text r c h =
-    let same : renumbered d (labels_of_text d text c) ≡ e = one_document text (renumbered d (labels_of_text d text c)) e (read_again d text r c) h in
+    let same : document_by_labels d (labels_of_text d text c) ≡ e = one_document text (document_by_labels d (labels_of_text d text c)) e (read_again d text r c) h in
     subst (λ (z : Document_data). IsCanonicalDocument z text) same (printed_again d text r c)
 
 -- ---- where the labels stand in order
@@ -321,7 +321,7 @@ machine_stays : (names : Names_data) (machine : Machine_data) (line : List ℕ) 
 machine_stays names machine line number sound shaped enough c f =
     let labels : List (List ℕ) = graphs.labels_of Acts c.tree.body in
     let w : IsReadable names machine c.tree = readable names machine c.tree shaped sound enough c.canonical in
-    let same : grown names.labels labels ≡ names.labels = ap (λ (z : Names_data). z.labels) w.names_are in
+    let same : names_with names.labels labels ≡ names.labels = ap (λ (z : Names_data). z.labels) w.names_are in
     machine_again names names machine c.tree number w.spells w.names_are refl (λ l a. f l a ∙ ap (λ (z : List (List ℕ)). number_or (place_of l z)) (sym same)) ∙ w.spells
 
 machines_stay : (names : Names_data) (number : ℕ → ℕ) (machines : List (Option Machine_data)) (text : List ℕ) → IsSound names → AreShown names machines → (lines : AreCanonicalMachines names machines text) → Renumbers number names.labels names.labels (labels_of_lines names machines text lines)
@@ -345,7 +345,7 @@ derivations_stay names number (Some d ∷ derivations) sound printable f =
     ap (λ (z : Derivation_data). Some z ∷ map (option_map (derivation_by number)) derivations) (derivation_again names names d number is refl (λ l a. f l (front_among l mine more a)) ∙ is)
     ∙ ap (λ (z : List (Option Derivation_data)). Some d ∷ z) (derivations_stay names number derivations sound (λ k x e. printable (suc k) x e) (λ l a. f l (back_among l mine more a)))
 
-stays : (d : Document_data) (text : List ℕ) → CanBeReadAgain d → IsCanonicalDocument d text → renumbered d d.names.labels ≡ d
+stays : (d : Document_data) (text : List ℕ) → CanBeReadAgain d → IsCanonicalDocument d text → document_by_labels d d.names.labels ≡ d
 stays d text r c =
     let labels : List (List ℕ) = d.names.labels in
     let number : ℕ → ℕ = number_among labels labels in
@@ -358,13 +358,13 @@ stays d text r c =
 
 pub read_as_itself : (d : Document_data) (text : List ℕ) → CanBeReadAgain d → (c : IsCanonicalDocument d text) → d.names.labels ≡ labels_of_text d text c → SpellsDocument text d
 read_as_itself d text r c e =
-    subst (λ (z : Document_data). SpellsDocument text z) (stays d text r c) (subst (λ (z : List (List ℕ)). SpellsDocument text (renumbered d z)) (sym e) (read_again d text r c))
+    subst (λ (z : Document_data). SpellsDocument text z) (stays d text r c) (subst (λ (z : List (List ℕ)). SpellsDocument text (document_by_labels d z)) (sym e) (read_again d text r c))
 
-pub own_stay : (d : Document_data) → CanBeReadAgain d → renumbered d d.names.labels ≡ d
+pub own_stay : (d : Document_data) → CanBeReadAgain d → document_by_labels d d.names.labels ≡ d
 own_stay d r = let text = some_text d r.shown in stays d text.0 r text.1
 
 -- labels that are known bring no new ones
-grown_same : (xs names : List (List ℕ)) → AreAmong xs names → grown names xs ≡ names
+grown_same : (xs names : List (List ℕ)) → AreAmong xs names → names_with names xs ≡ names
 grown_same [] names h = refl
 grown_same (x ∷ xs) names h = rw (h x (first_among x xs)) (grown_same xs names (λ l a. h l (later_among l x xs a)))
 
@@ -374,8 +374,8 @@ in_order d text r c all =
     let owns : List (List ℕ) = owns_of d in
     let k = parts_known d text r c in
     let first = all_are_first d.names d.protocol c.front r.shown.shaped r.shown.sound r.shown.enough c.protocol all in
-    let split : labels_of_text d text c ≡ grown (first_of d text c) (lines ++ owns) = grown_append (graphs.labels_of Talks c.protocol.tree.body) (lines ++ owns) [] in
-    sym (split ∙ ap (λ (z : List (List ℕ)). grown z (lines ++ owns)) first ∙ grown_same (lines ++ owns) d.names.labels (λ l a. either_among l lines owns (is_among l d.names.labels ≡ true) a (k.machines l) (k.derivations l)))
+    let split : labels_of_text d text c ≡ names_with (first_of d text c) (lines ++ owns) = grown_append (graphs.labels_of Talks c.protocol.tree.body) (lines ++ owns) [] in
+    sym (split ∙ ap (λ (z : List (List ℕ)). names_with z (lines ++ owns)) first ∙ grown_same (lines ++ owns) d.names.labels (λ l a. either_among l lines owns (is_among l d.names.labels ≡ true) a (k.machines l) (k.derivations l)))
 
 pub read_as_itself_by_protocol : (d : Document_data) (text : List ℕ) → CanBeReadAgain d → HasAllLabels d.names d.protocol → IsCanonicalDocument d text → SpellsDocument text d
 read_as_itself_by_protocol d text r all c = read_as_itself d text r c (in_order d text r c all)

@@ -6,7 +6,7 @@ use Rattle.rs_global.specs.Trees.{roles_of}
 use Rattle.rs_machines.specs.Spells.{SpellsMachine}
 use Rattle.rs_model.specs.Data.{Names_data, Protocol_data, Machine_data}
 use Rattle.rs_model.specs.declared.limits.TheConstants.{MOST_LABELS}
-use Rattle.rs_text.specs.Names.{grown, is_among}
+use Rattle.rs_text.specs.Names.{names_with, is_among}
 use Rattle.rs_bodies.specs.declared.dialects.Dialect.TheVariants.{Talks, Acts}
 use Rattle.rs_bodies.specs.Scenes.{first_scene}
 
@@ -14,7 +14,7 @@ longer_if : (b : Bool) (names : List (List ℕ)) (x : List ℕ) → length names
 longer_if true names x = omega arith
 longer_if false names x = let e = length-append names (x ∷ []) in omega (arith, e)
 
-pub longer : (ls names : List (List ℕ)) → length names ≤ length (grown names ls)
+pub longer : (ls names : List (List ℕ)) → length names ≤ length (names_with names ls)
 longer [] names = omega arith
 longer (x ∷ ls) names =
     let a = longer_if (is_among x names) names x in

@@ -5,7 +5,7 @@ use Rattle.rs_global.specs.Canonical.{IsCanonicalText}
 use Rattle.rs_documents.specs.Parts.{no_parts}
 use Rattle.rs_model.specs.Data.{Names_data, Protocol_data, Machine_data}
 use Rattle.rs_machines.specs.Canonical.{IsCanonicalMachineText}
-use Rattle.rs_documents.specs.Canonical.{AreCanonicalMachines, AreShown, IsCanonicalDocument, derivations_text, IsShown, IsShownBehind, IsLineBehind}
+use Rattle.rs_documents.specs.Canonical.{AreCanonicalMachines, AreShown, IsCanonicalDocument, derivations_text, CanBePrinted, IsShownBehind, IsLineBehind}
 
 abbrev IsLine : Names_data → Option Machine_data → List ℕ → Type 0
 IsLine names None line = line ≡ []
@@ -42,13 +42,13 @@ next_behind names machines k own old mid new lt e h l =
     let all : take k machines ++ own ∷ [] ≡ take (k + 1) machines = ap (λ z. take k machines ++ z ∷ []) e ∙ sym (take_next machines k own lt) ∙ ap (λ z. take z machines) (sym one) in
     subst (λ (z : List (Option Machine_data)). IsShownBehind names z old new) all (one_behind names (take k machines) own old mid new h l)
 
-shown_at : (names : Names_data) (machines : List (Option Machine_data)) (k : ℕ) (d : Option Machine_data) → k < length machines → AreShown names machines → IsShown names (slice_index_or machines k d)
+shown_at : (names : Names_data) (machines : List (Option Machine_data)) (k : ℕ) (d : Option Machine_data) → k < length machines → AreShown names machines → CanBePrinted names (slice_index_or machines k d)
 shown_at names [] k d lt h = absurd (omega arith)
 shown_at names (x ∷ xs) zero d lt h = h.0
 shown_at names (x ∷ xs) (suc k) d lt h = shown_at names xs k d (omega arith) h.1
 
-pub own_shown : (names : Names_data) (machines : List (Option Machine_data)) (k : ℕ) (own : Option Machine_data) → k < length machines → own ≡ slice_index_or machines k own → AreShown names machines → IsShown names own
-own_shown names machines k own lt e h = subst (IsShown names) (sym e) (shown_at names machines k own lt h)
+pub own_shown : (names : Names_data) (machines : List (Option Machine_data)) (k : ℕ) (own : Option Machine_data) → k < length machines → own ≡ slice_index_or machines k own → AreShown names machines → CanBePrinted names own
+own_shown names machines k own lt e h = subst (CanBePrinted names) (sym e) (shown_at names machines k own lt h)
 
 -- .. and the derivations behind them
 pub printed : (names : Names_data) (protocol : Protocol_data) (machines : List (Option Machine_data)) (derivations : List (Option Derivation_data)) (front mid all : List ℕ) → IsCanonicalText names protocol front → IsShownBehind names machines front mid

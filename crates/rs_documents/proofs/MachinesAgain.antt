@@ -7,7 +7,7 @@ use Rattle.rs_documents.proofs.FewLabels.{longer}
 use Rattle.rs_documents.proofs.MoreNames.{first_among, later_among, front_among, back_among, room}
 use Rattle.rs_documents.specs.Again.{arm_by, state_by, machine_by}
 use Rattle.rs_machines.specs.Canonical.{IsCanonicalMachineText}
-use Rattle.rs_machines.specs.Machines.{act_of, done_of, machine_of, names_of, state_of, states_of}
+use Rattle.rs_machines.specs.Machines.{act_of, end_states, machine_of, names_of, state_of, states_of}
 use Rattle.rs_machines.specs.Spells.{Fits}
 use Rattle.rs_machines.specs.Trees.{MachineTree}
 use Rattle.rs_bodies.specs.declared.dialects.Mark.{Mark}
@@ -21,7 +21,7 @@ use Rattle.rs_model.specs.declared.values.Sort.{Sort}
 use Rattle.rs_text.proofs.Basics.{both, two_true}
 use Rattle.rs_text.proofs.Naming.{grown_append}
 use Rattle.rs_text.specs.Arms.{sort_or_unit}
-use Rattle.rs_text.specs.Names.{Bound, grown, is_among, number_or, place_of}
+use Rattle.rs_text.specs.Names.{Bound, names_with, is_among, number_or, place_of}
 use Rattle.rs_bodies.specs.declared.dialects.Dialect.TheVariants.{Acts}
 use Rattle.rs_bodies.specs.Canonical.{Draws}
 use Rattle.rs_bodies.specs.declared.places.Place.{Place}
@@ -36,7 +36,7 @@ use Rattle.rs_bodies.specs.Dialects.{with_mark}
 -- ---- within the limits, with other labels before it
 
 mutual
-  body_again : (t : Body Acts) (s : Scene) (ls : List (List ℕ)) → body_fits Acts t s ≡ true → length (grown ls (labels_of Acts t)) ≤ 256 → body_fits Acts t (record s { labels = ls }) ≡ true
+  body_again : (t : Body Acts) (s : Scene) (ls : List (List ℕ)) → body_fits Acts t s ≡ true → length (names_with ls (labels_of Acts t)) ≤ 256 → body_fits Acts t (record s { labels = ls }) ≡ true
   body_again ends s ls h few = refl
   body_again (again x) s ls h few = h
   body_again (binds x b) s ls h few =
@@ -47,26 +47,26 @@ mutual
       let q = both (is_among x s.roles && nat_lt s.acts 256) (has_room_for l s) p.0 in
       two_true (is_among x s.roles && nat_lt s.acts 256 && has_room_for l (record s { labels = ls })) (body_fits Acts b (with_label l (in_act (record s { labels = ls }))))
       (two_true (is_among x s.roles && nat_lt s.acts 256) (has_room_for l (record s { labels = ls })) q.0 (room l (labels_of Acts b) ls few))
-      (body_again b (with_label l (in_act s)) (grown ls (l ∷ [])) p.1 few)
+      (body_again b (with_label l (in_act s)) (names_with ls (l ∷ [])) p.1 few)
   body_again (offers x (with_mark m) arms) s ls h few =
       let p = both (is_among x s.roles && nat_lt s.acts 256 && nat_lt s.depth 200) (arms_fit Acts arms (in_braces s)) h in
       two_true (is_among x s.roles && nat_lt s.acts 256 && nat_lt s.depth 200) (arms_fit Acts arms (in_braces (record s { labels = ls }))) p.0 (arms_again arms (in_braces s) ls p.1 few)
 
-  arms_again : (arms : Branches Acts) (s : Scene) (ls : List (List ℕ)) → arms_fit Acts arms s ≡ true → length (grown ls (labels_of_arms Acts arms)) ≤ 256 → arms_fit Acts arms (record s { labels = ls }) ≡ true
+  arms_again : (arms : Branches Acts) (s : Scene) (ls : List (List ℕ)) → arms_fit Acts arms s ≡ true → length (names_with ls (labels_of_arms Acts arms)) ≤ 256 → arms_fit Acts arms (record s { labels = ls }) ≡ true
   arms_again (one l sort b) s ls h few =
       let p = both (has_room_for l s) (body_fits Acts b (with_label l s)) h in
-      two_true (has_room_for l (record s { labels = ls })) (body_fits Acts b (with_label l (record s { labels = ls }))) (room l (labels_of Acts b) ls few) (body_again b (with_label l s) (grown ls (l ∷ [])) p.1 few)
+      two_true (has_room_for l (record s { labels = ls })) (body_fits Acts b (with_label l (record s { labels = ls }))) (room l (labels_of Acts b) ls few) (body_again b (with_label l s) (names_with ls (l ∷ [])) p.1 few)
   arms_again (more l sort b arms) s ls h few =
       let p = both (has_room_for l s && body_fits Acts b (with_label l s)) (arms_fit Acts arms (behind Acts b (with_label l s))) h in
       let q = both (has_room_for l s) (body_fits Acts b (with_label l s)) p.0 in
-      let here : List (List ℕ) = grown ls (l ∷ []) in
-      let all : length (grown (grown here (labels_of Acts b)) (labels_of_arms Acts arms)) ≤ 256 = subst (λ (z : List (List ℕ)). length z ≤ 256) (grown_append (labels_of Acts b) (labels_of_arms Acts arms) here) few in
-      let part = longer (labels_of_arms Acts arms) (grown here (labels_of Acts b)) in
+      let here : List (List ℕ) = names_with ls (l ∷ []) in
+      let all : length (names_with (names_with here (labels_of Acts b)) (labels_of_arms Acts arms)) ≤ 256 = subst (λ (z : List (List ℕ)). length z ≤ 256) (grown_append (labels_of Acts b) (labels_of_arms Acts arms) here) few in
+      let part = longer (labels_of_arms Acts arms) (names_with here (labels_of Acts b)) in
       two_true (has_room_for l (record s { labels = ls }) && body_fits Acts b (with_label l (record s { labels = ls }))) (arms_fit Acts arms (behind Acts b (with_label l (record s { labels = ls }))))
       (two_true (has_room_for l (record s { labels = ls })) (body_fits Acts b (with_label l (record s { labels = ls }))) (room l (labels_of Acts b ++ labels_of_arms Acts arms) ls few) (body_again b (with_label l s) here q.1 (omega (arith, all, part))))
-      (arms_again arms (behind Acts b (with_label l s)) (grown here (labels_of Acts b)) p.1 all)
+      (arms_again arms (behind Acts b (with_label l s)) (names_with here (labels_of Acts b)) p.1 all)
 
-pub fits_again : (old names : Names_data) (t : MachineTree) → Fits names t → old.roles ≡ names.roles → length (grown old.labels (labels_of Acts t.body)) ≤ 256 → Fits old t
+pub fits_again : (old names : Names_data) (t : MachineTree) → Fits names t → old.roles ≡ names.roles → length (names_with old.labels (labels_of Acts t.body)) ≤ 256 → Fits old t
 fits_again old names t f roles few = record {
   role = subst (λ (z : List (List ℕ)). is_among t.role z ≡ true) (sym roles) f.role;
   body = subst (λ (z : List (List ℕ)). body_fits Acts t.body (record { roles = z; bound = []; depth = 0; acts = 0; labels = old.labels }) ≡ true) (sym roles) (body_again t.body (first_scene names.roles names.labels) old.labels f.body few);
@@ -134,7 +134,7 @@ mutual
       ∙ ap (λ (z : List State). states_from (numbers roles those last) b bound k ++ z)
       (read_states_in arms number roles these those last bound j (λ x h. f x (later_among x l (labels_of Acts b ++ labels_of_arms Acts arms) (back_among x (labels_of Acts b) (labels_of_arms Acts arms) h))))
 
-done_is : (number : ℕ → ℕ) (b : Bool) → map (state_by number) (done_of b) ≡ done_of b
+done_is : (number : ℕ → ℕ) (b : Bool) → map (state_by number) (end_states b) ≡ end_states b
 done_is number true = refl
 done_is number false = refl
 
@@ -142,25 +142,25 @@ done_is number false = refl
 abbrev machine_with : (roles labels : List (List ℕ)) → MachineTree → Machine_data
 machine_with roles labels t = record {
   role = record { 0 = number_or (place_of t.role roles) };
-  states = states_of (numbers roles labels (acts_in Acts t.body)) t.body ++ done_of (has_end Acts t.body);
+  states = states_of (numbers roles labels (acts_in Acts t.body)) t.body ++ end_states (has_end Acts t.body);
   start = first_of Acts t.body [] 0 (acts_in Acts t.body);
 }
 
 read_machine : (t : MachineTree) (number : ℕ → ℕ) (roles these those : List (List ℕ)) → Renumbers number these those (labels_of Acts t.body) → machine_by number (machine_with roles these t) ≡ machine_with roles those t
 read_machine t number roles these those f =
     let last : ℕ = acts_in Acts t.body in
-    let states : map (state_by number) (states_of (numbers roles these last) t.body ++ done_of (has_end Acts t.body)) ≡ states_of (numbers roles those last) t.body ++ done_of (has_end Acts t.body)
-    = map-append (state_by number) (states_of (numbers roles these last) t.body) (done_of (has_end Acts t.body))
-    ∙ ap (λ (z : List State). z ++ map (state_by number) (done_of (has_end Acts t.body))) (read_states t.body number roles these those last [] 0 f)
+    let states : map (state_by number) (states_of (numbers roles these last) t.body ++ end_states (has_end Acts t.body)) ≡ states_of (numbers roles those last) t.body ++ end_states (has_end Acts t.body)
+    = map-append (state_by number) (states_of (numbers roles these last) t.body) (end_states (has_end Acts t.body))
+    ∙ ap (λ (z : List State). z ++ map (state_by number) (end_states (has_end Acts t.body))) (read_states t.body number roles these those last [] 0 f)
     ∙ ap (λ (z : List State). states_of (numbers roles those last) t.body ++ z) (done_is number (has_end Acts t.body)) in
     ap (λ (z : List State). record { role = record { 0 = number_or (place_of t.role roles) }; states = z; start = first_of Acts t.body [] 0 last }) states
 
-pub machine_again : (old names : Names_data) (machine : Machine_data) (t : MachineTree) (number : ℕ → ℕ) → machine_of names t ≡ machine → names_of names t ≡ names → old.roles ≡ names.roles → Renumbers number names.labels (grown old.labels (labels_of Acts t.body)) (labels_of Acts t.body)
+pub machine_again : (old names : Names_data) (machine : Machine_data) (t : MachineTree) (number : ℕ → ℕ) → machine_of names t ≡ machine → names_of names t ≡ names → old.roles ≡ names.roles → Renumbers number names.labels (names_with old.labels (labels_of Acts t.body)) (labels_of Acts t.body)
     → machine_by number machine ≡ machine_of old t
 machine_again old names machine t number is same roles f =
-    let labels : grown names.labels (labels_of Acts t.body) ≡ names.labels = ap (λ (z : Names_data). z.labels) same in
+    let labels : names_with names.labels (labels_of Acts t.body) ≡ names.labels = ap (λ (z : Names_data). z.labels) same in
     let own : machine ≡ machine_with names.roles names.labels t = sym is ∙ ap (λ (z : List (List ℕ)). machine_with names.roles z t) labels in
-    ap (machine_by number) own ∙ read_machine t number names.roles names.labels (grown old.labels (labels_of Acts t.body)) f ∙ ap (λ (z : List (List ℕ)). machine_with z (grown old.labels (labels_of Acts t.body)) t) (sym roles)
+    ap (machine_by number) own ∙ read_machine t number names.roles names.labels (names_with old.labels (labels_of Acts t.body)) f ∙ ap (λ (z : List (List ℕ)). machine_with z (names_with old.labels (labels_of Acts t.body)) t) (sym roles)
 
 -- ---- and it is drawn as it was
 

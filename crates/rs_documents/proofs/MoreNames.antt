@@ -9,7 +9,7 @@ use Rattle.rs_documents.proofs.FewLabels.{longer}
 use Rattle.rs_text.proofs.Basics.{or_first, or_end}
 use Rattle.rs_text.proofs.Gaps.{true_or_false}
 use Rattle.rs_text.proofs.Naming.{bytes_same, differ_rest, grown_among, grown_stays, place_stands, placed_by}
-use Rattle.rs_text.specs.Names.{grown, is_among, number_or, place_of, differ}
+use Rattle.rs_text.specs.Names.{names_with, is_among, number_or, place_of, differ}
 use Rattle.rs_text.specs.NamePlaces.{name_at, text_or_none}
 
 -- each of these names is one of those
@@ -36,13 +36,13 @@ pub either_among : (x : List ℕ) (xs ys : List (List ℕ)) (P : Type 0) → is_
 either_among x xs ys P h f g = or_either (is_among x xs) (is_among x ys) P (sym (list_any-append (λ z. bytes_eq z x) xs ys) ∙ h) f g
 
 -- what is in grown names was there or is new
-pub grown_either : (x : List ℕ) (xs names : List (List ℕ)) (P : Type 0) → is_among x (grown names xs) ≡ true → (is_among x names ≡ true → P) → (is_among x xs ≡ true → P) → P
+pub grown_either : (x : List ℕ) (xs names : List (List ℕ)) (P : Type 0) → is_among x (names_with names xs) ≡ true → (is_among x names ≡ true → P) → (is_among x xs ≡ true → P) → P
 grown_either x xs names P h f g = or_either (is_among x names) (is_among x xs) P (sym (grown_among xs names x) ∙ h) f g
 
-pub grown_old : (x : List ℕ) (xs names : List (List ℕ)) → is_among x names ≡ true → is_among x (grown names xs) ≡ true
+pub grown_old : (x : List ℕ) (xs names : List (List ℕ)) → is_among x names ≡ true → is_among x (names_with names xs) ≡ true
 grown_old x xs names h = grown_among xs names x ∙ or_first (is_among x names) (is_among x xs) h
 
-pub grown_new : (x : List ℕ) (xs names : List (List ℕ)) → is_among x xs ≡ true → is_among x (grown names xs) ≡ true
+pub grown_new : (x : List ℕ) (xs names : List (List ℕ)) → is_among x xs ≡ true → is_among x (names_with names xs) ≡ true
 grown_new x xs names h = grown_among xs names x ∙ or_end (is_among x names) (is_among x xs) h
 
 -- ---- how many there are
@@ -83,7 +83,7 @@ no_more (x ∷ xs) ys d h =
     omega (arith, rest, size)
 
 -- where they stay few there is room for the next one
-pub room : (l : List ℕ) (more ls : List (List ℕ)) → length (grown ls (l ∷ more)) ≤ 256 → (is_among l ls || nat_lt (length ls) 256) ≡ true
+pub room : (l : List ℕ) (more ls : List (List ℕ)) → length (names_with ls (l ∷ more)) ≤ 256 → (is_among l ls || nat_lt (length ls) 256) ≡ true
 room l more ls h = elim (true_or_false (is_among l ls)) [
   | inl e ↦ rw e refl
   | inr e ↦ (let g = rw e at h in let m = longer more (ls ++ l ∷ []) in let k : length (ls ++ l ∷ []) ≡ length ls + 1 = length-append ls (l ∷ []) in rw e (lt-ltb (length ls) 256 (omega (arith, g, m, k))))
@@ -107,7 +107,7 @@ pub number_at : (names others : List (List ℕ)) (l : List ℕ) (i : ℕ) → sl
 number_at names others l i e = ap (λ (o : Option (List ℕ)). number_or (place_of (text_or_none o) others)) e
 
 -- further names change no number
-pub number_kept : (names more : List (List ℕ)) (l : List ℕ) → is_among l names ≡ true → number_or (place_of l (grown names more)) ≡ number_or (place_of l names)
+pub number_kept : (names more : List (List ℕ)) (l : List ℕ) → is_among l names ≡ true → number_or (place_of l (names_with names more)) ≡ number_or (place_of l names)
 number_kept names more l h =
     let p = placed_by (place_of l names) l names refl h in
     ap number_or (grown_stays more names l p.0 p.1) ∙ sym (ap number_or p.1)

@@ -3,7 +3,7 @@ use Rattle.std.proofs.Common.{◌≡◌, ◌⊎◌, ℕ, ◌≤◌, List, length
 use Rattle.rs_derive.specs.Data.{Derivation_data}
 use Rattle.rs_documents.specs.Data.{Document_data}
 use Rattle.rs_documents.specs.Documents.{SpellsFront, SpellsParts, SpellsDocument, fault_behind, wanted_behind, FirstFault, InProtocol, InMachines, InDerivations, BehindParts}
-use Rattle.rs_documents.specs.Parts.{StandsAt, no_parts, Row, GoesOn, machine_parts, derivation_parts}
+use Rattle.rs_documents.specs.Parts.{NextTokenIs, no_parts, Row, GoesOn, machine_parts, derivation_parts}
 use Rattle.rs_documents.proofs.FewLabels.{protocol_few}
 use Rattle.rs_documents.proofs.PartKinds.{of_machines, of_derivations, protocol_within}
 use Rattle.rs_documents.proofs.Parts.{good, keeps_few, keeps_within, one_row, size_of_none, some_row}
@@ -143,7 +143,7 @@ no_fault bytes d k at h (InDerivations b q other t g) = no_derivation_fault byte
 no_fault bytes d k at h (BehindParts q other rest t g) =
     let same = one_parts bytes d.protocol q _ other _ rest h.parts t in
     let ends : h.end ≡ rest.until = ap (λ (r : Row Derivation_data). r.until) same.2 in
-    let finished : (next_lexeme bytes rest.until).sign ≡ finish = subst (λ (z : ℕ). StandsAt bytes z finish) ends h.ends in
+    let finished : (next_lexeme bytes rest.until).sign ≡ finish = subst (λ (z : ℕ). NextTokenIs bytes z finish) ends h.ends in
     let clash : None ≡ Some k = sym (ap (fault_behind (wanted_behind other.until rest.until)) finished) ∙ g in
     cc
 
@@ -173,7 +173,7 @@ abbrev SpeltOrFaulty : List ℕ → Type 0
 SpeltOrFaulty bytes = ((d : Document_data) × SpellsDocument bytes d) ⊎ ((kind : TextKind) × (at : ℕ) × FirstFault bytes kind at)
 
 -- the document of its parts
-pub document_is : (bytes : List ℕ) (p : Protocol_data) (front : Row Machine_data) (back : Row Derivation_data) → SpellsParts bytes p front back → StandsAt bytes back.until finish
+pub document_is : (bytes : List ℕ) (p : Protocol_data) (front : Row Machine_data) (back : Row Derivation_data) → SpellsParts bytes p front back → NextTokenIs bytes back.until finish
     → SpellsDocument bytes (record { names = back.names; protocol = p; machines = front.parts; derivations = back.parts })
 document_is bytes p front back h e = record { next = front.until; before = front.names; end = back.until; parts = h; ends = e }
 

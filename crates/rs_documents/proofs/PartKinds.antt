@@ -1,7 +1,7 @@
 -- What is known of machines and of derivations, as parts of a text.
 use Rattle.std.proofs.Common.{◌≡◌, ℕ, ◌+◌, ◌<◌, ◌≤◌, List, [], ◌∷◌, ◌++◌, length, Bool, true, false, refl, sym, ap, subst, ◌∙◌, arith}
 use Rattle.std.specs.Prelude.{codes, ◌&&◌}
-use Rattle.rs_documents.specs.Parts.{StandsAt, machine_parts, derivation_parts}
+use Rattle.rs_documents.specs.Parts.{NextTokenIs, machine_parts, derivation_parts}
 use Rattle.rs_documents.proofs.FewLabels.{longer, machine_few}
 use Rattle.rs_documents.proofs.Parts.{IsKind, RoleStands, among_place, first_sign, second_sign}
 use Rattle.rs_model.specs.Data.{Names_data, Protocol_data, Machine_data}
@@ -52,7 +52,7 @@ protocol_within bytes names protocol until s = subst (λ (n : ℕ). n ≤ length
 machine_within : (bytes : List ℕ) (at : ℕ) (old new : Names_data) (machine : Machine_data) (until : ℕ) → at ≤ length bytes → SpellsMachine bytes at old new machine until → until ≤ length bytes
 machine_within bytes at old new machine until le s = subst (λ (n : ℕ). n ≤ length bytes) (sym s.goes_on) (lexed_within bytes s.lexemes at s.behind s.others le (are_lexed bytes (s.lexemes ++ s.behind ∷ s.others) at s.tokens))
 
-pub machine_begins : (bytes : List ℕ) (at : ℕ) (old new : Names_data) (machine : Machine_data) (until : ℕ) → SpellsMachine bytes at old new machine until → StandsAt bytes at (plain (codes "machine"))
+pub machine_begins : (bytes : List ℕ) (at : ℕ) (old new : Names_data) (machine : Machine_data) (until : ℕ) → SpellsMachine bytes at old new machine until → NextTokenIs bytes at (plain (codes "machine"))
 machine_begins bytes at old new machine until s = first_sign bytes at s.lexemes (s.behind ∷ s.others) (plain (codes "machine")) (plain s.tree.role ∷ colon ∷ body_signs Acts s.tree.body) s.spelt (are_lexed bytes (s.lexemes ++ s.behind ∷ s.others) at s.tokens)
 
 pub machine_role : (bytes : List ℕ) (at : ℕ) (old new : Names_data) (machine : Machine_data) (until : ℕ) → SpellsMachine bytes at old new machine until → RoleStands bytes at old machine.role
@@ -96,7 +96,7 @@ first_known false b e = absurd cc
 derivation_within : (bytes : List ℕ) (at : ℕ) (old new : Names_data) (derivation : Derivation_data) (until : ℕ) → at ≤ length bytes → SpellsDerivation bytes at old new derivation until → until ≤ length bytes
 derivation_within bytes at old new derivation until le s = subst (λ (n : ℕ). n ≤ length bytes) (sym s.goes_on) (lexed_within bytes s.lexemes at s.behind s.others le (are_lexed bytes (s.lexemes ++ s.behind ∷ s.others) at s.tokens))
 
-derivation_begins : (bytes : List ℕ) (at : ℕ) (old new : Names_data) (derivation : Derivation_data) (until : ℕ) → SpellsDerivation bytes at old new derivation until → StandsAt bytes at (plain (codes "derivation"))
+derivation_begins : (bytes : List ℕ) (at : ℕ) (old new : Names_data) (derivation : Derivation_data) (until : ℕ) → SpellsDerivation bytes at old new derivation until → NextTokenIs bytes at (plain (codes "derivation"))
 derivation_begins bytes at old new derivation until s = first_sign bytes at s.lexemes (s.behind ∷ s.others) (plain (codes "derivation")) _ s.spelt (are_lexed bytes (s.lexemes ++ s.behind ∷ s.others) at s.tokens)
 
 derivation_role : (bytes : List ℕ) (at : ℕ) (old new : Names_data) (derivation : Derivation_data) (until : ℕ) → SpellsDerivation bytes at old new derivation until → RoleStands bytes at old derivation.role

@@ -3,7 +3,7 @@ use Rattle.std.proofs.Common.{◌≡◌, ◌⊎◌, ℕ, zero, suc, ◌+◌, ◌
 use Rattle.std.specs.Prelude.{◌||◌}
 use Rattle.std.specs.Str.{bytes_eq}
 use Rattle.std.proofs.lemmas.Slice.Eq.{bytes_eq-Decides}
-use Rattle.rs_documents.specs.Parts.{PartKind, StandsAt, no_parts, with_part, IsTwice, Row, GoesOn, Stops, Repeats, Fails, Adds}
+use Rattle.rs_documents.specs.Parts.{PartKind, NextTokenIs, no_parts, with_part, IsTwice, Row, GoesOn, Stops, Repeats, Fails, Adds}
 use Rattle.rs_documents.specs.Reading.{is_word, is_held, place_named, twice_by, twice_of, AllHave, StandInPlace, AreGood, AreHeld, free_in, LeadsBack, IsAdded}
 use Rattle.rs_model.specs.Data.{Names_data}
 use Rattle.rs_model.specs.declared.graph.Role.{Role}
@@ -107,7 +107,7 @@ same_twice : {A : Type 0} (bytes : List ℕ) (names : Names_data) (parts : List 
 same_twice bytes names parts at a b h k = let same : Some a ≡ Some b = sym (twice_found bytes names parts at a h) ∙ twice_found bytes names parts at b k in cc
 
 -- the first two tokens
-pub first_sign : (bytes : List ℕ) (at : ℕ) (ls rest : List Lexeme) (a : Sign) (more : List Sign) → signs_of ls ≡ a ∷ more → Lexed bytes at (ls ++ rest) → StandsAt bytes at a
+pub first_sign : (bytes : List ℕ) (at : ℕ) (ls rest : List Lexeme) (a : Sign) (more : List Sign) → signs_of ls ≡ a ∷ more → Lexed bytes at (ls ++ rest) → NextTokenIs bytes at a
 first_sign bytes at [] rest a more e h = absurd cc
 first_sign bytes at (x ∷ xs) rest a more e h = let first : x.sign ≡ a = cc in sym (ap (λ z. z.sign) h.0) ∙ first
 
@@ -138,7 +138,7 @@ get_there {A} (x ∷ xs) (suc k) lt e = get_there xs k (omega arith) e
 pub record RoleStands (bytes : List ℕ) (at : ℕ) (names : Names_data) (role : Role) : Type 0 where
   pub name : List ℕ
   pub place : ℕ
-  pub word : StandsAt bytes (next_lexeme bytes at).until (plain name)
+  pub word : NextTokenIs bytes (next_lexeme bytes at).until (plain name)
   pub known : place_of name names.roles ≡ Some place
   pub few : place < length names.roles
   pub is : role.0 ≡ place
@@ -228,7 +228,7 @@ abbrev SpeltOrFaulty : {A : Type 0} → PartKind A → Names_data → List ℕ �
 SpeltOrFaulty {A} kind old bytes at = ((new : Names_data) × (part : A) × (until : ℕ) × kind.Spells bytes at old new part until) ⊎ ((k : TextKind) × (offset : ℕ) × kind.Fails old bytes at k offset)
 
 pub record IsKind {A : Type 0} (kind : PartKind A) : Type 0 where
-  pub begins : (bytes : List ℕ) (at : ℕ) (old new : Names_data) (part : A) (until : ℕ) → kind.Spells bytes at old new part until → StandsAt bytes at (plain kind.word)
+  pub begins : (bytes : List ℕ) (at : ℕ) (old new : Names_data) (part : A) (until : ℕ) → kind.Spells bytes at old new part until → NextTokenIs bytes at (plain kind.word)
   pub role : (bytes : List ℕ) (at : ℕ) (old new : Names_data) (part : A) (until : ℕ) → kind.Spells bytes at old new part until → RoleStands bytes at old (kind.role_of part)
   pub roles : (bytes : List ℕ) (at : ℕ) (old new : Names_data) (part : A) (until : ℕ) → kind.Spells bytes at old new part until → new.roles ≡ old.roles
   pub labels : (bytes : List ℕ) (at : ℕ) (old new : Names_data) (part : A) (until : ℕ) → kind.Spells bytes at old new part until → length old.labels ≤ length new.labels
@@ -285,7 +285,7 @@ abbrev Again : {A : Type 0} → PartKind A → List ℕ → ℕ → Type 0
 Again {A} kind bytes n = (at : ℕ) (names : Names_data) (parts : List (Option A)) → free_in parts < n → at ≤ length bytes → length parts ≡ length names.roles → length names.labels ≤ MOST_LABELS → SomeRow kind bytes at names parts
 
 by_role : {A : Type 0} (kind : PartKind A) (i : IsKind kind) (n : ℕ) (bytes : List ℕ) (at : ℕ) (names : Names_data) (parts : List (Option A)) → Again kind bytes n → free_in parts < suc n → at ≤ length bytes → length parts ≡ length names.roles → length names.labels ≤ MOST_LABELS
-    → StandsAt bytes at (plain kind.word) → (o : Option ℕ) → twice_of names parts (second_of bytes at) ≡ o → SomeRow kind bytes at names parts
+    → NextTokenIs bytes at (plain kind.word) → (o : Option ℕ) → twice_of names parts (second_of bytes at) ≡ o → SomeRow kind bytes at names parts
 by_role kind i n bytes at names parts again lt le size few word (Some second) e = record { row = fault_of fault.NameTwice second; is = Repeats at second names parts word (twice_is bytes names parts at second e) }
 by_role {A} kind i n bytes at names parts again lt le size few word None e = elim (i.either bytes at names few le) [
   | inl h ↦
@@ -372,7 +372,7 @@ stops kind bytes names parts at e = Stops at names parts (word_isnt kind.word (n
 
 -- a part that was read stands among the others, and the text goes on behind it
 pub added : {A : Type 0} (kind : PartKind A) (i : IsKind kind) (P : A → Type 0) (bytes : List ℕ) (at : ℕ) (names new : Names_data) (parts : List (Option A)) (part : A) (next : ℕ) → AreGood names → AreHeld kind.role_of P names.roles parts
-    → StandsAt bytes at (plain kind.word) → twice_of names parts (second_of bytes at) ≡ None → kind.Spells bytes at names new part next → IsSound new → new.roles ≡ names.roles → length new.labels ≤ MOST_LABELS → P part → next ≤ length bytes
+    → NextTokenIs bytes at (plain kind.word) → twice_of names parts (second_of bytes at) ≡ None → kind.Spells bytes at names new part next → IsSound new → new.roles ≡ names.roles → length new.labels ≤ MOST_LABELS → P part → next ≤ length bytes
     → IsAdded kind P bytes (row_of names parts at) (row_of new (with_part kind parts part) next)
 added kind i P bytes at names new parts part next good held word once spells sound roles labels has within =
     let never = none_twice bytes names parts at once in
@@ -394,21 +394,21 @@ added kind i P bytes at names new parts part next good held word once spells sou
       roles = roles;
     }
 
-pub repeats : {A : Type 0} (kind : PartKind A) (bytes : List ℕ) (at : ℕ) (names : Names_data) (parts : List (Option A)) (second : ℕ) → StandsAt bytes at (plain kind.word) → twice_of names parts (second_of bytes at) ≡ Some second
+pub repeats : {A : Type 0} (kind : PartKind A) (bytes : List ℕ) (at : ℕ) (names : Names_data) (parts : List (Option A)) (second : ℕ) → NextTokenIs bytes at (plain kind.word) → twice_of names parts (second_of bytes at) ≡ Some second
     → GoesOn kind bytes at names parts (fault_of fault.NameTwice second)
 repeats kind bytes at names parts second word e = Repeats at second names parts word (twice_is bytes names parts at second e)
 
-pub fails : {A : Type 0} (kind : PartKind A) (bytes : List ℕ) (at : ℕ) (names : Names_data) (parts : List (Option A)) (e : TextFault) → StandsAt bytes at (plain kind.word) → twice_of names parts (second_of bytes at) ≡ None
+pub fails : {A : Type 0} (kind : PartKind A) (bytes : List ℕ) (at : ℕ) (names : Names_data) (parts : List (Option A)) (e : TextFault) → NextTokenIs bytes at (plain kind.word) → twice_of names parts (second_of bytes at) ≡ None
     → (e.kind ≡ fault.NoMemory) ⊎ kind.Fails names bytes at e.kind e.at → (e.kind ≡ fault.NoMemory) ⊎ GoesOn kind bytes at names parts (Err e)
 fails kind bytes at names parts e word once (inl memory) = inl memory
 fails kind bytes at names parts e word once (inr h) = inr (Fails at e.at names parts e.kind word (none_twice bytes names parts at once) h)
 
-pub repeats_by : {A : Type 0} (kind : PartKind A) (bytes : List ℕ) (at : ℕ) (names : Names_data) (parts : List (Option A)) (second : ℕ) → StandsAt bytes at (plain kind.word) → twice_of names parts (second_of bytes at) ≡ Some second
+pub repeats_by : {A : Type 0} (kind : PartKind A) (bytes : List ℕ) (at : ℕ) (names : Names_data) (parts : List (Option A)) (second : ℕ) → NextTokenIs bytes at (plain kind.word) → twice_of names parts (second_of bytes at) ≡ Some second
     → (fault.NameTwice ≡ fault.NoMemory) ⊎ GoesOn kind bytes at names parts (fault_of fault.NameTwice second)
 repeats_by kind bytes at names parts second word e = inr (repeats kind bytes at names parts second word e)
 
 pub added_by : {A : Type 0} (kind : PartKind A) (i : IsKind kind) (P : A → Type 0) (bytes : List ℕ) (at : ℕ) (names new : Names_data) (parts later : List (Option A)) (part : A) (next : ℕ) → later ≡ with_part kind parts part → AreGood names
-    → AreHeld kind.role_of P names.roles parts → StandsAt bytes at (plain kind.word) → twice_of names parts (second_of bytes at) ≡ None → kind.Spells bytes at names new part next → IsSound new → new.roles ≡ names.roles → length new.labels ≤ MOST_LABELS
+    → AreHeld kind.role_of P names.roles parts → NextTokenIs bytes at (plain kind.word) → twice_of names parts (second_of bytes at) ≡ None → kind.Spells bytes at names new part next → IsSound new → new.roles ≡ names.roles → length new.labels ≤ MOST_LABELS
     → P part → next ≤ length bytes → IsAdded kind P bytes (row_of names parts at) (row_of new later next)
 added_by {A} kind i P bytes at names new parts later part next e good held word once spells sound roles labels has within =
     subst (λ (z : List (Option A)). IsAdded kind P bytes (row_of names parts at) (row_of new z next)) (sym e) (added kind i P bytes at names new parts part next good held word once spells sound roles labels has within)

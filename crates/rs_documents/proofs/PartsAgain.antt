@@ -3,7 +3,7 @@ use Rattle.std.proofs.Common.{◌≡◌, ℕ, suc, ◌+◌, ◌≤◌, List, [],
 use Rattle.std.proofs.lemmas.List.{drop-drop}
 use Rattle.std.proofs.Math.Seq.{drop-append_seam}
 use Rattle.rs_documents.specs.Again.{StandInPlaces}
-use Rattle.rs_documents.specs.Parts.{PartKind, StandsAt, IsTwice, Row, GoesOn, Stops, Adds, no_parts, with_part}
+use Rattle.rs_documents.specs.Parts.{PartKind, NextTokenIs, IsTwice, Row, GoesOn, Stops, Adds, no_parts, with_part}
 use Rattle.rs_documents.proofs.FewLabels.{longer}
 use Rattle.rs_documents.proofs.MachinesAgain.{Renumbers}
 use Rattle.rs_documents.proofs.MoreNames.{AreAmong, front_among, back_among, either_among, grown_new, number_kept}
@@ -14,7 +14,7 @@ use Rattle.rs_model.specs.declared.limits.TheConstants.{MOST_LABELS}
 use Rattle.rs_text.proofs.Naming.{grown_append}
 use Rattle.rs_text.proofs.Written.{role_is_plain, role_is_word, token_next, word_token}
 use Rattle.rs_text.specs.Lexing.{next_lexeme}
-use Rattle.rs_text.specs.Names.{grown, is_among, number_or, place_of}
+use Rattle.rs_text.specs.Names.{names_with, is_among, number_or, place_of}
 use Rattle.rs_text.specs.Signs.{Sign, plain, finish}
 use Rattle.rs_text.specs.Tokens.{IsToken}
 use Rattle.rs_text.specs.Words.{is_role_word}
@@ -27,7 +27,7 @@ Begins _ text = ⊥
 
 -- the next token has the sign, and stands at once
 pub record IsNextAtOnce (bytes : List ℕ) (at : ℕ) (sign : Sign) : Type 0 where
-  pub stands : StandsAt bytes at sign
+  pub stands : NextTokenIs bytes at sign
   pub from : (next_lexeme bytes at).from ≡ at
 
 pub begun : (sign : Sign) (bytes : List ℕ) (at : ℕ) (text : List ℕ) → Begins sign text → drop at bytes ≡ text → IsNextAtOnce bytes at sign
@@ -42,7 +42,7 @@ begun (plain word) bytes at text b parts =
 begun _ bytes at text b parts = absurd b
 
 abbrev grown_names : Names_data → List (List ℕ) → Names_data
-grown_names old labels = record { roles = old.roles; labels = grown old.labels labels }
+grown_names old labels = record { roles = old.roles; labels = names_with old.labels labels }
 
 -- a printed part: its labels are known, it begins with its word, and wherever it stands it is read with older names, as the
 -- part with other numbers for its labels
@@ -50,9 +50,9 @@ pub record IsPrinted {A : Type 0} (kind : PartKind A) (by : (ℕ → ℕ) → A 
   pub known : AreAmong labels names.labels
   pub begins : Begins (plain kind.word) text
   pub role : (number : ℕ → ℕ) → kind.role_of (by number part) ≡ kind.role_of part
-  pub reads : (bytes : List ℕ) (at : ℕ) (old : Names_data) (behind : List ℕ) (sign : Sign) (number : ℕ → ℕ) → drop at bytes ≡ text ++ behind → Begins sign behind → StandsAt bytes (at + length text) sign → old.roles ≡ names.roles
-      → length (grown old.labels labels) ≤ MOST_LABELS → Renumbers number names.labels (grown old.labels labels) labels
-      → kind.Spells bytes at old (record { roles = old.roles; labels = grown old.labels labels }) (by number part) (next_lexeme bytes (at + length text)).from
+  pub reads : (bytes : List ℕ) (at : ℕ) (old : Names_data) (behind : List ℕ) (sign : Sign) (number : ℕ → ℕ) → drop at bytes ≡ text ++ behind → Begins sign behind → NextTokenIs bytes (at + length text) sign → old.roles ≡ names.roles
+      → length (names_with old.labels labels) ≤ MOST_LABELS → Renumbers number names.labels (names_with old.labels labels) labels
+      → kind.Spells bytes at old (record { roles = old.roles; labels = names_with old.labels labels }) (by number part) (next_lexeme bytes (at + length text)).from
 
 -- the parts that are there, one behind the other, and their labels in order
 abbrev pub ArePrinted : {A : Type 0} → PartKind A → ((ℕ → ℕ) → A → A) → Names_data → List (Option A) → List ℕ → List (List ℕ) → Type 0
@@ -114,7 +114,7 @@ behind_text bytes at text behind parts = rw (← drop-drop (length text) at byte
 abbrev row : {A : Type 0} → ((ℕ → ℕ) → A → A) → (ℕ → ℕ) → Names_data → List (List ℕ) → (done rest : List (Option A)) → ℕ → Row A
 row by number old labels done rest until = row_of (grown_names old labels) (done ++ map (option_map (by number)) rest) until
 
-none_goes : {A : Type 0} (kind : PartKind A) (by : (ℕ → ℕ) → A → A) (number : ℕ → ℕ) (bytes : List ℕ) (at : ℕ) (old : Names_data) (done : List (Option A)) (text : List ℕ) → text ≡ [] → (StandsAt bytes at (plain kind.word) → ⊥)
+none_goes : {A : Type 0} (kind : PartKind A) (by : (ℕ → ℕ) → A → A) (number : ℕ → ℕ) (bytes : List ℕ) (at : ℕ) (old : Names_data) (done : List (Option A)) (text : List ℕ) → text ≡ [] → (NextTokenIs bytes at (plain kind.word) → ⊥)
     → GoesOn kind bytes at old (done ++ []) (good (row by number old [] done [] (at + length text)))
 none_goes {A} kind by number bytes at old done text e never =
     let here : at ≡ at + length text = (let size : length text ≡ 0 = ap length e in omega (arith, size)) in
@@ -130,7 +130,7 @@ free_here kind i bytes at next old new done rest part s place second t =
 
 pub goes_again : {A : Type 0} (kind : PartKind A) (i : IsKind kind) (by : (ℕ → ℕ) → A → A) (names : Names_data) (number : ℕ → ℕ) (rest : List (Option A)) (text : List ℕ) (labels : List (List ℕ)) → ArePrinted kind by names rest text labels
     → (bytes : List ℕ) (at : ℕ) (old : Names_data) (done : List (Option A)) (behind : List ℕ) (sign : Sign) → drop at bytes ≡ text ++ behind → Begins sign behind → (sign ≡ plain kind.word → ⊥) → old.roles ≡ names.roles
-    → length (grown old.labels labels) ≤ MOST_LABELS → Renumbers number names.labels (grown old.labels labels) labels
+    → length (names_with old.labels labels) ≤ MOST_LABELS → Renumbers number names.labels (names_with old.labels labels) labels
     → StandFrom kind (length done) rest → GoesOn kind bytes at old (done ++ nones rest) (good (row by number old labels done rest (at + length text)))
 goes_again {A} kind i by names number [] text labels h bytes at old done behind sign parts b never roles few f placed =
     let here : drop at bytes ≡ behind = parts ∙ ap (λ (z : List ℕ). z ++ behind) h.0 in
@@ -147,17 +147,17 @@ goes_again {A} kind i by names number (Some part ∷ rest) text labels h bytes a
     let more : List (List ℕ) = h.3 in
     let own : IsPrinted kind by names part line mine = h.4 in
     let new : Names_data = grown_names old mine in
-    let split : grown old.labels labels ≡ grown (grown old.labels mine) more = ap (grown old.labels) h.7 ∙ grown_append mine more old.labels in
-    let numbered : Renumbers number names.labels (grown (grown old.labels mine) more) (mine ++ more)
+    let split : names_with old.labels labels ≡ names_with (names_with old.labels mine) more = ap (names_with old.labels) h.7 ∙ grown_append mine more old.labels in
+    let numbered : Renumbers number names.labels (names_with (names_with old.labels mine) more) (mine ++ more)
     = λ l a. f l (subst (λ (z : List (List ℕ)). is_among l z ≡ true) (sym h.7) a) ∙ ap (λ (z : List (List ℕ)). number_or (place_of l z)) split in
     let here : drop at bytes ≡ line ++ (later ++ behind) = parts ∙ ap (λ (z : List ℕ). z ++ behind) h.6 ∙ append_assoc line later behind in
     let there : drop (at + length line) bytes ≡ later ++ behind = behind_text bytes at line (later ++ behind) here in
     let s = printed_begins kind by names rest later more behind sign h.5 b in
     let next = begun s.own bytes (at + length line) (later ++ behind) s.begins there in
-    let all : length (grown (grown old.labels mine) more) ≤ MOST_LABELS = subst (λ (z : List (List ℕ)). length z ≤ MOST_LABELS) split few in
-    let part_few = longer more (grown old.labels mine) in
+    let all : length (names_with (names_with old.labels mine) more) ≤ MOST_LABELS = subst (λ (z : List (List ℕ)). length z ≤ MOST_LABELS) split few in
+    let part_few = longer more (names_with old.labels mine) in
     let spells' = own.reads bytes at old (later ++ behind) s.own number here s.begins next.stands roles (omega (arith, all, part_few))
-    (λ l a. numbered l (front_among l mine more a) ∙ number_kept (grown old.labels mine) more l (grown_new l mine old.labels a)) in
+    (λ l a. numbered l (front_among l mine more a) ∙ number_kept (names_with old.labels mine) more l (grown_new l mine old.labels a)) in
     let spells : kind.Spells bytes at old new (by number part) (at + length line) = subst (λ (z : ℕ). kind.Spells bytes at old new (by number part) z) next.from spells' in
     let first : (kind.role_of part).0 ≡ length done + 0 = placed 0 part refl in
     let place : (kind.role_of (by number part)).0 ≡ length done = ap (λ (z : Role). z.0) (own.role number) ∙ omega (arith, first) in
@@ -186,8 +186,8 @@ nones_are {A} (x ∷ xs) (y ∷ ys) e = ap (λ (z : List (Option A)). None ∷ z
 
 pub all_go_again : {A : Type 0} (kind : PartKind A) (i : IsKind kind) (by : (ℕ → ℕ) → A → A) (names : Names_data) (number : ℕ → ℕ) (all : List (Option A)) (text : List ℕ) (labels : List (List ℕ)) → ArePrinted kind by names all text labels
     → (bytes : List ℕ) (at : ℕ) (old : Names_data) (behind : List ℕ) (sign : Sign) → drop at bytes ≡ text ++ behind → Begins sign behind → (sign ≡ plain kind.word → ⊥) → old.roles ≡ names.roles
-    → length (grown old.labels labels) ≤ MOST_LABELS → Renumbers number names.labels (grown old.labels labels) labels → StandInPlaces kind old.roles all
-    → GoesOn kind bytes at old (no_parts old.roles) (good (row_of (record { roles = old.roles; labels = grown old.labels labels }) (map (option_map (by number)) all) (at + length text)))
+    → length (names_with old.labels labels) ≤ MOST_LABELS → Renumbers number names.labels (names_with old.labels labels) labels → StandInPlaces kind old.roles all
+    → GoesOn kind bytes at old (no_parts old.roles) (good (row_of (record { roles = old.roles; labels = names_with old.labels labels }) (map (option_map (by number)) all) (at + length text)))
 all_go_again {A} kind i by names number all text labels h bytes at old behind sign parts b never roles few f placed =
     subst (λ (z : List (Option A)). GoesOn kind bytes at old z (good (row_of (grown_names old labels) (map (option_map (by number)) all) (at + length text)))) (nones_are all old.roles placed.one_each)
     (goes_again kind i by names number all text labels h bytes at old [] behind sign parts b never roles few f (λ k part e. placed.in_place k part e ∙ omega arith))

@@ -3,7 +3,7 @@ use Rattle.std.proofs.Common.{◌≡◌, ◌⊎◌, ℕ, ◌≤◌, ◌+◌, Lis
 use Rattle.rs_derive.specs.Data.{Derivation_data}
 use Rattle.rs_documents.specs.Documents.{SpellsFront, SpellsParts, SpellsDocument, fault_behind, wanted_behind, FirstFault, InProtocol, InMachines, InDerivations, BehindParts}
 use Rattle.rs_documents.specs.Parts.{GoesOn, machine_parts, derivation_parts, no_parts}
-use Rattle.rs_documents.specs.Reading.{AreGood, DerivationsAreHeld, IsReady, MachinesAreHeld}
+use Rattle.rs_documents.specs.Reading.{AreGood, DerivationsAreHeld, DocumentIsReady, MachinesAreHeld}
 use Rattle.rs_documents.proofs.OneDocument.{document_is, nothing_behind}
 use Rattle.rs_documents.proofs.Parts.{good, row_of}
 use Rattle.rs_global.specs.Faults as of_protocols
@@ -53,7 +53,7 @@ pub whole : (bytes : List ℕ) (p : Protocol_data) (names new : Names_data) (mac
 whole bytes p names new machines derivations next end s e = document_is bytes p (row_of names machines next) (row_of new derivations end) s (nothing_behind _ _ e)
 
 pub ready : (p : Protocol_data) (names new : Names_data) (machines : List (Option Machine_data)) (derivations : List (Option Derivation_data)) → MachinesAreHeld names.roles machines → AreGood new → DerivationsAreHeld new.roles derivations → new.roles ≡ names.roles
-    → length p.nodes ≤ MOST_TALKS + 1 → IsReady (record { names = new; protocol = p; machines = machines; derivations = derivations })
+    → length p.nodes ≤ MOST_TALKS + 1 → DocumentIsReady (record { names = new; protocol = p; machines = machines; derivations = derivations })
 ready p names new machines derivations h g d roles nodes =
     let held : MachinesAreHeld new.roles machines = subst (λ (r : List (List ℕ)). MachinesAreHeld r machines) (sym roles) h in
     record { sound = g.sound; two = g.two; roles = g.roles; labels = g.labels; one_each = held.one_each; short = held.all; in_place = held.in_place; nodes = nodes; derivations = d }

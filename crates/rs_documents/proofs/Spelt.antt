@@ -4,7 +4,7 @@ use Rattle.std.specs.Prelude.{codes}
 use Rattle.rs_derive.specs.Data.{Derivation_data}
 use Rattle.rs_documents.specs.Data.{Document_data}
 use Rattle.rs_documents.specs.Documents.{SpellsDocument}
-use Rattle.rs_documents.specs.Parts.{StandsAt, Row, GoesOn, Stops, Repeats, Fails, Adds, machine_parts, derivation_parts, no_parts}
+use Rattle.rs_documents.specs.Parts.{NextTokenIs, Row, GoesOn, Stops, Repeats, Fails, Adds, machine_parts, derivation_parts, no_parts}
 use Rattle.rs_documents.specs.Spells.{HasNoMachineBehind, MachinesBehind, NoMore, OneMore, SpellsMachines, no_machines, with_machine}
 use Rattle.rs_documents.proofs.FewLabels.{protocol_few}
 use Rattle.rs_documents.proofs.PartKinds.{machine_begins, machine_role, of_machines}
@@ -20,11 +20,11 @@ use Rattle.rs_text.specs.declared.faults.TextFault.{TextFault}
 
 -- where derivations, or nothing, stand behind the offset, no machine does
 nothing_more : (bytes : List ℕ) (at : ℕ) (names : Names_data) (parts : List (Option Derivation_data)) (what : Result (Row Derivation_data) TextFault) (row : Row Derivation_data) → GoesOn derivation_parts bytes at names parts what → what ≡ good row
-    → StandsAt bytes row.until finish → HasNoMachineBehind bytes at
+    → NextTokenIs bytes row.until finish → HasNoMachineBehind bytes at
 nothing_more bytes at names parts what row (Stops a n m e) is ends =
     let same : row_of names parts at ≡ row = cc in
     let here : at ≡ row.until = ap (λ (r : Row Derivation_data). r.until) same in
-    (next_lexeme bytes at, next_is_next bytes at, inl (subst (λ (z : ℕ). StandsAt bytes z finish) (sym here) ends))
+    (next_lexeme bytes at, next_is_next bytes at, inl (subst (λ (z : ℕ). NextTokenIs bytes z finish) (sym here) ends))
 nothing_more bytes at names parts what row (Repeats a u n m e z) is ends = absurd cc
 nothing_more bytes at names parts what row (Fails a u n m j e z r) is ends = absurd cc
 nothing_more bytes at names parts what row (Adds a next n new m part w e z s g) is ends = (next_lexeme bytes at, next_is_next bytes at, inr e)
@@ -54,7 +54,7 @@ spelt_machines bytes d h =
 
 -- ---- there is one list of machines
 
-no_machine_there : (bytes : List ℕ) (at : ℕ) → HasNoMachineBehind bytes at → StandsAt bytes at (plain (codes "machine")) → ⊥
+no_machine_there : (bytes : List ℕ) (at : ℕ) → HasNoMachineBehind bytes at → NextTokenIs bytes at (plain (codes "machine")) → ⊥
 no_machine_there bytes at h word =
     let sign : h.0.sign ≡ plain (codes "machine") = ap (λ (l : Lexeme). l.sign) (one_next bytes at h.0 h.1) ∙ word in
     elim h.2 [

@@ -34,7 +34,7 @@ use Rattle.rs_text.proofs.Written.{role_is_word}
 use Rattle.rs_text.specs.Arms.{arm_signs}
 use Rattle.rs_text.specs.Lexemes.{Lexeme, is_last, signs_of}
 use Rattle.rs_text.specs.Lexing.{Lexed}
-use Rattle.rs_text.specs.Names.{grown, differ}
+use Rattle.rs_text.specs.Names.{names_with, differ}
 use Rattle.rs_text.specs.Signs.{Sign, plain, word_sign, rec_word, end_word, open_paren, close_paren, dot, comma}
 use Rattle.rs_text.specs.Signs as signs
 use Rattle.rs_text.specs.Sound.{IsSound}
@@ -136,13 +136,13 @@ mutual
       (words_both (labels_of Acts b) (labels_of_arms Acts arms) (body_words b (front_good (body_signs Acts b) (comma ∷ branch_signs Acts arms) rest)) (arms_words arms (tail_good comma (branch_signs Acts arms) (back_good (body_signs Acts b) (comma ∷ branch_signs Acts arms) rest))))
 
 -- sound names stay so with further labels that are words
-sound_grown : (old : Names_data) (labels : List (List ℕ)) → IsSound old → AreWords labels → IsSound (record { roles = old.roles; labels = grown old.labels labels })
+sound_grown : (old : Names_data) (labels : List (List ℕ)) → IsSound old → AreWords labels → IsSound (record { roles = old.roles; labels = names_with old.labels labels })
 sound_grown old labels sound words =
     let s = sound_parts old sound in
-    (decides_sound (record { roles = old.roles; labels = grown old.labels labels })).0
-    (two_true (differ old.roles && list_all is_role_word old.roles) (differ (grown old.labels labels) && list_all is_word (grown old.labels labels))
+    (decides_sound (record { roles = old.roles; labels = names_with old.labels labels })).0
+    (two_true (differ old.roles && list_all is_role_word old.roles) (differ (names_with old.labels labels) && list_all is_word (names_with old.labels labels))
     (two_true (differ old.roles) (list_all is_role_word old.roles) s.roles_differ s.roles_are_words)
-    (two_true (differ (grown old.labels labels)) (list_all is_word (grown old.labels labels)) (grown_differ labels old.labels s.labels_differ) (grown_all is_word labels old.labels s.labels_are_words words)))
+    (two_true (differ (names_with old.labels labels)) (list_all is_word (names_with old.labels labels)) (grown_differ labels old.labels s.labels_differ) (grown_all is_word labels old.labels s.labels_are_words words)))
 
 machine_sound : (bytes : List ℕ) (at : ℕ) (old new : Names_data) (machine : Machine_data) (until : ℕ) → SpellsMachine bytes at old new machine until → IsSound old → IsSound new
 machine_sound bytes at old new machine until s sound =

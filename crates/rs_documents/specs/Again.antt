@@ -19,7 +19,7 @@ use Rattle.rs_model.specs.declared.machines.Act.{Act}
 use Rattle.rs_model.specs.declared.machines.Act.TheVariants as act
 use Rattle.rs_model.specs.declared.machines.State.{State}
 use Rattle.rs_model.specs.declared.machines.State.TheVariants as state
-use Rattle.rs_text.specs.Names.{grown, number_or, place_of}
+use Rattle.rs_text.specs.Names.{names_with, number_or, place_of}
 use Rattle.rs_text.specs.NamePlaces.{name_at}
 use Rattle.rs_documents.specs.Canonical.{AreCanonicalMachines, CanBeShown, IsCanonicalDocument}
 use Rattle.rs_documents.specs.Data.{Document_data}
@@ -52,7 +52,7 @@ labels_of_own names (Some derivation) = labels_of_nodes (tree_of names derivatio
 -- .. and of the whole text, each once, in order of first places
 abbrev pub labels_of_text : (d : Document_data) (text : List ℕ) → IsCanonicalDocument d text → List (List ℕ)
 labels_of_text d text canonical =
-    grown [] (graphs.labels_of Talks canonical.protocol.tree.body ++ (labels_of_lines d.names d.machines canonical.back canonical.machines ++ flat_map (labels_of_own d.names) d.derivations))
+    names_with [] (graphs.labels_of Talks canonical.protocol.tree.body ++ (labels_of_lines d.names d.machines canonical.back canonical.machines ++ flat_map (labels_of_own d.names) d.derivations))
 
 -- the number, among other labels, of the label that has this number
 abbrev pub number_among : (labels others : List (List ℕ)) → ℕ → ℕ
@@ -91,8 +91,8 @@ derivation_by number derivation = record { role = derivation.role; bound = deriv
 
 -- the document with these labels: each label of a machine or a derivation has the number that its name has among them.
 -- The protocol stays as it is
-abbrev pub renumbered : Document_data → List (List ℕ) → Document_data
-renumbered d labels = record {
+abbrev pub document_by_labels : Document_data → List (List ℕ) → Document_data
+document_by_labels d labels = record {
   names = record { roles = d.names.roles; labels = labels };
   protocol = d.protocol;
   machines = map (option_map (machine_by (number_among d.names.labels labels))) d.machines;

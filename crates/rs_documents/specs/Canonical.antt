@@ -37,14 +37,14 @@ pub record IsCanonicalDocument (d : Document_data) (text : List ℕ) : Type 0 wh
   pub is : text ≡ front ++ (back ++ derivations_text d.names d.derivations)
 
 -- the machine, where it is there, can be printed by these names
-abbrev pub IsShown : Names_data → Option Machine_data → Type 0
-IsShown names None = Unit {0}
-IsShown names (Some machine) = IsMachineTextShaped machine × AreEnoughFor names machine
+abbrev pub CanBePrinted : Names_data → Option Machine_data → Type 0
+CanBePrinted names None = Unit {0}
+CanBePrinted names (Some machine) = IsMachineTextShaped machine × AreEnoughFor names machine
 
 -- .. so can all of them
 abbrev pub AreShown : Names_data → List (Option Machine_data) → Type 0
 AreShown names [] = Unit {0}
-AreShown names (own ∷ machines) = IsShown names own × AreShown names machines
+AreShown names (own ∷ machines) = CanBePrinted names own × AreShown names machines
 
 -- the derivations that are there can be printed by these names
 abbrev pub ArePrintable : Names_data → List (Option Derivation_data) → Type 0

@@ -1,7 +1,7 @@
 -- Believed: what a text spells as a document, and its first fault.
 use Rattle.std.specs.Prelude.{◌≡◌, ℕ, List, Option, Some, None, Ok, Err, ◌==◌, if◌then◌else◌}
 use Rattle.rs_documents.specs.Data.{Document_data}
-use Rattle.rs_documents.specs.Parts.{StandsAt, no_parts, Row, GoesOn, machine_parts, derivation_parts}
+use Rattle.rs_documents.specs.Parts.{NextTokenIs, no_parts, Row, GoesOn, machine_parts, derivation_parts}
 use Rattle.rs_derive.specs.Data.{Derivation_data}
 use Rattle.rs_global.specs.Faults as of_protocols
 use Rattle.rs_global.specs.Spells.{SpellsProtocol}
@@ -32,7 +32,7 @@ pub record SpellsDocument (bytes : List ℕ) (d : Document_data) : Type 0 where
   pub before : Names_data
   pub end : ℕ
   pub parts : SpellsParts bytes d.protocol (record { names = before; parts = d.machines; until = next }) (record { names = d.names; parts = d.derivations; until = end })
-  pub ends : StandsAt bytes end finish
+  pub ends : NextTokenIs bytes end finish
 
 -- the fault of a token behind all parts: it isn't the end
 abbrev pub fault_behind : Wanted → Sign → Option TextKind

@@ -41,8 +41,8 @@ derivation_parts = record {
 }
 
 -- the next token at the offset
-abbrev pub StandsAt : List ℕ → ℕ → Sign → Type 0
-StandsAt bytes at sign = (next_lexeme bytes at).sign ≡ sign
+abbrev pub NextTokenIs : List ℕ → ℕ → Sign → Type 0
+NextTokenIs bytes at sign = (next_lexeme bytes at).sign ≡ sign
 
 -- no role has a part
 abbrev pub no_parts : {A : Type 0} → List (List ℕ) → List (Option A)
@@ -55,7 +55,7 @@ with_part kind parts part = slice_set parts (kind.role_of part).0 (Some part)
 -- the second token of what begins at the offset is a role that has a part already; it stands at `second`
 pub record IsTwice {A : Type 0} (bytes : List ℕ) (names : Names_data) (parts : List (Option A)) (at second : ℕ) : Type 0 where
   pub name : List ℕ
-  pub word : StandsAt bytes (next_lexeme bytes at).until (plain name)
+  pub word : NextTokenIs bytes (next_lexeme bytes at).until (plain name)
   pub place : ℕ
   pub role : place_of name names.roles ≡ Some place
   pub part : A
@@ -71,16 +71,16 @@ pub record Row (A : Type 0) : Type 0 where
 -- what comes of the parts that stand behind the offset, with the names and the parts so far
 pub data GoesOn {A : Type 0} (kind : PartKind A) (bytes : List ℕ) : (at : ℕ) → Names_data → List (Option A) → Result (Row A) TextFault → Type 0 where
   -- no part stands there any more
-  Stops : (at : ℕ) (names : Names_data) (parts : List (Option A)) → (StandsAt bytes at (plain kind.word) → ⊥)
+  Stops : (at : ℕ) (names : Names_data) (parts : List (Option A)) → (NextTokenIs bytes at (plain kind.word) → ⊥)
       → GoesOn kind bytes at names parts (Ok (record { names = names; parts = parts; until = at }))
   -- a part of a role that has one
-  Repeats : (at second : ℕ) (names : Names_data) (parts : List (Option A)) → StandsAt bytes at (plain kind.word) → IsTwice bytes names parts at second
+  Repeats : (at second : ℕ) (names : Names_data) (parts : List (Option A)) → NextTokenIs bytes at (plain kind.word) → IsTwice bytes names parts at second
       → GoesOn kind bytes at names parts (Err (record { kind = fault.NameTwice; at = second }))
   -- a part at fault
-  Fails : (at offset : ℕ) (names : Names_data) (parts : List (Option A)) (k : TextKind) → StandsAt bytes at (plain kind.word)
+  Fails : (at offset : ℕ) (names : Names_data) (parts : List (Option A)) (k : TextKind) → NextTokenIs bytes at (plain kind.word)
       → ((second : ℕ) → IsTwice bytes names parts at second → ⊥) → kind.Fails names bytes at k offset
       → GoesOn kind bytes at names parts (Err (record { kind = k; at = offset }))
   -- a part, and what stands behind it
-  Adds : (at next : ℕ) (names new : Names_data) (parts : List (Option A)) (part : A) (row : Result (Row A) TextFault) → StandsAt bytes at (plain kind.word)
+  Adds : (at next : ℕ) (names new : Names_data) (parts : List (Option A)) (part : A) (row : Result (Row A) TextFault) → NextTokenIs bytes at (plain kind.word)
       → ((second : ℕ) → IsTwice bytes names parts at second → ⊥) → kind.Spells bytes at names new part next
       → GoesOn kind bytes next new (with_part kind parts part) row → GoesOn kind bytes at names parts row

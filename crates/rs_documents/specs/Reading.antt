@@ -90,7 +90,7 @@ abbrev pub DerivationsAreHeld : List (List ℕ) → List (Option Derivation_data
 DerivationsAreHeld roles derivations = AreHeld (λ (derivation : Derivation_data). derivation.role) IsBounded roles derivations
 
 -- what a document that was read has, whatever it spells
-pub record IsReady (d : Document_data) : Type 0 where
+pub record DocumentIsReady (d : Document_data) : Type 0 where
   pub sound : IsSound d.names
   pub two : 2 ≤ length d.names.roles
   pub roles : length d.names.roles ≤ MOST_ROLES

@@ -1,9 +1,9 @@
 //! Documents: a protocol, and machines and derivations for some of its roles.
 
 ghost use Rattle.rs_documents.specs.Documents.{FirstFault, SpellsDocument, fault_behind, wanted_behind};
-ghost use Rattle.rs_documents.specs.Parts.{GoesOn, Row, StandsAt, derivation_parts, machine_parts, no_parts, with_part};
+ghost use Rattle.rs_documents.specs.Parts.{GoesOn, Row, NextTokenIs, derivation_parts, machine_parts, no_parts, with_part};
 ghost use Rattle.rs_documents.specs.Reading as spec;
-ghost use Rattle.rs_documents.specs.Reading.{AreGood, DerivationsAreHeld, IsAdded, IsBounded, IsReady, IsShort, MachinesAreHeld, role_at};
+ghost use Rattle.rs_documents.specs.Reading.{AreGood, DerivationsAreHeld, IsAdded, IsBounded, DocumentIsReady, IsShort, MachinesAreHeld, role_at};
 ghost use Rattle.rs_text.specs.Lexing.{next_lexeme};
 ghost use Rattle.rs_text.specs.Signs.{plain};
 ghost use Rattle.rs_text.specs.declared.faults.TextKind.TheVariants as kind;
@@ -126,7 +126,7 @@ fn add_machine(
     requires within { at ≤ length bytes.now }
     requires names { AreGood names.old }
     requires held { MachinesAreHeld names.old.roles machines.old.items }
-    requires machine { StandsAt bytes.now at (plain (codes "machine")) }
+    requires machine { NextTokenIs bytes.now at (plain (codes "machine")) }
     ensures ok { IfOk result (λ next. IsAdded machine_parts IsShort bytes.now (record { names = names.old; parts = machines.old.items; until = at }) (record { names = names.new; parts = machines.new.items; until = next })) }
     ensures err { IfErr result (λ e. (e.kind ≡ kind.NoMemory) ⊎ GoesOn machine_parts bytes.now at names.old machines.old.items (Err e)) }
     ensures place { IfErr result (λ e. e.at ≤ length bytes.now) }
@@ -157,7 +157,7 @@ fn add_derivation(
     requires within { at ≤ length bytes.now }
     requires names { AreGood names.old }
     requires held { DerivationsAreHeld names.old.roles derivations.old.items }
-    requires derivation { StandsAt bytes.now at (plain (codes "derivation")) }
+    requires derivation { NextTokenIs bytes.now at (plain (codes "derivation")) }
     ensures ok { IfOk result (λ next. IsAdded derivation_parts IsBounded bytes.now (record { names = names.old; parts = derivations.old.items; until = at }) (record { names = names.new; parts = derivations.new.items; until = next })) }
     ensures err { IfErr result (λ e. (e.kind ≡ kind.NoMemory) ⊎ GoesOn derivation_parts bytes.now at names.old derivations.old.items (Err e)) }
     ensures place { IfErr result (λ e. e.at ≤ length bytes.now) }
@@ -276,7 +276,7 @@ fn wanted_behind(machines: usize, derivations: usize) -> Wanted
 pub fn read_document(alloc: Global, bytes: &[u8]) -> Result<Document, TextFault>
     ensures ok { IfOk result (SpellsDocument bytes.now) }
     ensures err { IfErr result (λ e. (e.kind ≡ kind.NoMemory) ⊎ FirstFault bytes.now e.kind e.at) }
-    ensures ready { IfOk result IsReady }
+    ensures ready { IfOk result DocumentIsReady }
     ensures place { IfErr result (λ e. e.at ≤ length bytes.now) }
 {
     let (mut names, protocol, until) = match read_protocol(alloc, bytes, 0) {

@@ -1,7 +1,7 @@
 //! Laws about the definitions: each function does nothing, and its contract is the law.
 
 ghost use Rattle.std.specs.Prelude.{◌≡◌, ◌⊎◌, ℕ, List, Option};
-ghost use Rattle.rs_documents.specs.Again.{CanBeReadAgain, HasAllLabels, labels_of_text, renumbered};
+ghost use Rattle.rs_documents.specs.Again.{CanBeReadAgain, HasAllLabels, labels_of_text, document_by_labels};
 ghost use Rattle.rs_documents.specs.Canonical.{CanBeShown, IsCanonicalDocument};
 ghost use Rattle.rs_documents.specs.Data.{Document_data};
 ghost use Rattle.rs_documents.specs.Documents.{FirstFault, SpellsDocument};
@@ -56,7 +56,7 @@ pub fn spelt_documents_can_be_read_again()
 
 /// .. for of what can be read again, that text spells the document, with its labels in the order of their first places ..
 pub fn canonical_text_is_read_again()
-    ensures { (d : Document_data) (text : List ℕ) → CanBeReadAgain d → (canonical : IsCanonicalDocument d text) → SpellsDocument text (renumbered d (labels_of_text d text canonical)) }
+    ensures { (d : Document_data) (text : List ℕ) → CanBeReadAgain d → (canonical : IsCanonicalDocument d text) → SpellsDocument text (document_by_labels d (labels_of_text d text canonical)) }
 {}
 
 /// .. and what it spells has this same canonical text.
@@ -76,5 +76,5 @@ pub fn labels_of_the_protocol_keep_their_numbers()
 
 /// A document has its own labels: with these nothing is renumbered.
 pub fn own_labels_renumber_nothing()
-    ensures { (d : Document_data) → CanBeReadAgain d → renumbered d d.names.labels ≡ d }
+    ensures { (d : Document_data) → CanBeReadAgain d → document_by_labels d d.names.labels ≡ d }
 {}

@@ -2,7 +2,7 @@
 
 ghost use Rattle.std.specs.Prelude.{◌≡◌, ◌≤◌, ◌++◌, length, IfOk, IfSome, OnOk};
 ghost use Rattle.rs_derivations.specs.Printable.{IsPrintable};
-ghost use Rattle.rs_documents.specs.Canonical.{ArePrintable, AreShown, CanBeShown, derivations_text, own_text, IsCanonicalDocument, IsLineBehind, IsMachineBehind, IsShown, IsShownBehind};
+ghost use Rattle.rs_documents.specs.Canonical.{ArePrintable, AreShown, CanBeShown, derivations_text, own_text, IsCanonicalDocument, IsLineBehind, IsMachineBehind, CanBePrinted, IsShownBehind};
 ghost use Rattle.rs_global.specs.Canonical.{IsTextShaped};
 ghost use Rattle.rs_global.specs.Enough.{AreEnough};
 ghost use Rattle.rs_machines.specs.Canonical.{IsMachineTextShaped};
@@ -27,7 +27,7 @@ fn push_own(
     own: &Option<Machine>,
 ) -> Result<(), NoMemory>
     requires sound { IsSound names.now }
-    requires shown { IsShown names.now own.now }
+    requires shown { CanBePrinted names.now own.now }
     ensures { OnOk result (IsLineBehind names.now own.now text.old text.new) }
 {
     match own {

@@ -6,7 +6,7 @@ use Rattle.std.specs.Option.{option_map}
 use Rattle.rs_model.specs.Data.{Machine_data}
 use Rattle.rs_model.specs.declared.graph.Role.{Role}
 use Rattle.rs_model.specs.declared.machines.State.TheVariants.{Done}
-use Rattle.rs_core.specs.Actors.{Behaviour, Choice, Keeps, Plays, PlaysFrom}
+use Rattle.rs_core.specs.Actors.{Behaviour, Choice, KeepsChoice, Plays, PlaysFrom}
 use Rattle.rs_core.specs.Choices.{AreWellFormed}
 use Rattle.rs_core.specs.Configurations.{Configuration, state_at, state_of}
 use Rattle.rs_core.specs.Histories.{History, entry_of, transcript_of}
@@ -154,7 +154,7 @@ module _ {A : Type 0} (b : Behaviour A) (session : Rings_data) where
         actor = x;
         runs = one.1;
         plays = subst (λ (h : History). PlaysFrom b one.0 one.0.start x h (state_in all.view r) x) (sym (first_acts all actors members r f low)) (at, refl);
-        keeps = subst (λ (o : Option Choice). Keeps b one.0 (state_in all.view r) x o m.actor) (sym new.kept) same;
+        keeps = subst (λ (o : Option Choice). KeepsChoice b one.0 (state_in all.view r) x o m.actor) (sym new.kept) same;
       }
 
   -- at the end

@@ -12,7 +12,7 @@ use Rattle.rs_core.specs.Configurations.{state_at}
 use Rattle.rs_core.specs.declared.messages.Message.{Message}
 use Rattle.rs_core.specs.Histories.{Action, Sent, Got, History}
 use Rattle.rs_core.specs.Actors.{Choice, Behaviour, PlaysAction, PlaysFrom}
-use Rattle.rs_core.specs.Plain.{Moment, HasRoom, IsFull, offered, BySend, ByReceive, HasEnded, Waits, FindsFull, IsAtLimit, LimitedTurn, Turns, Ending, Ended, Stopped, Stuck, PlainFrom, AllDone, Stops, NoneMoves, GoesOn, IsPlain}
+use Rattle.rs_core.specs.Plain.{Moment, HasRoom, IsFull, offer_of, BySend, ByReceive, HasEnded, Waits, FindsFull, IsAtLimit, LimitedTurn, Turns, Ending, Ended, Stopped, Stuck, PlainFrom, AllDone, Stops, NoneMoves, GoesOn, IsPlain}
 use Rattle.rs_core.proofs.Items.{put_at, put_at-same, put_at-other}
 use Rattle.rs_core.proofs.Moves.{after_send, after_receive, send-step, receive-step}
 use Rattle.rs_core.proofs.Nexts.{find}
@@ -52,22 +52,22 @@ module _ {A : Type 0} (b : Behaviour A) where
   unfolding send-step
   can-send ms actors limit capacity p l m peer arms given s is st less =
       let g = s.going p m is in
-      let choice : Choice = (offered b (l.actor p) (l.kept p) arms).0 in
-      let now : A = (offered b (l.actor p) (l.kept p) arms).1 in
-      let o = offer-is b m (l.at.at p) g.before (l.actor p) (offered b (l.actor p) (l.kept p) arms).1 (l.kept p) peer arms (offered b (l.actor p) (l.kept p) arms).0 g.keeps st refl in
+      let choice : Choice = (offer_of b (l.actor p) (l.kept p) arms).0 in
+      let now : A = (offer_of b (l.actor p) (l.kept p) arms).1 in
+      let o = offer-is b m (l.at.at p) g.before (l.actor p) (offer_of b (l.actor p) (l.kept p) arms).1 (l.kept p) peer arms (offer_of b (l.actor p) (l.kept p) arms).0 g.keeps st refl in
       let fits = (given.wf.fits p m is).puts (l.at.at p) peer arms st in
       let good = given.well g.before arms fits.some in
-      let picks : slice_get arms (offered b (l.actor p) (l.kept p) arms).0.0 ≡ Some good.0 = ap (λ (z : Choice). slice_get arms z.0) (sym o.0) ∙ good.1 in
+      let picks : slice_get arms (offer_of b (l.actor p) (l.kept p) arms).0.0 ≡ Some good.0 = ap (λ (z : Choice). slice_get arms z.0) (sym o.0) ∙ good.1 in
       let P : Choice → Type 0 = λ z. HasSort z.1 good.0.sort in
       let has = subst P o.0 good.2 in
       elim (room-or-full capacity (l.at.queue p peer.0)) [
-        | inl some ↦ sending ms limit capacity p l peer arms good.0 (offered b (l.actor p) (l.kept p) arms).0 (offered b (l.actor p) (l.kept p) arms).1 (state-of ms l.at p m (Puts peer arms) is st) picks has refl less some
-        | inr none ↦ keeping ms limit capacity p l peer arms (offered b (l.actor p) (l.kept p) arms).0 (offered b (l.actor p) (l.kept p) arms).1 (state-of ms l.at p m (Puts peer arms) is st) refl less none
+        | inl some ↦ sending ms limit capacity p l peer arms good.0 (offer_of b (l.actor p) (l.kept p) arms).0 (offer_of b (l.actor p) (l.kept p) arms).1 (state-of ms l.at p m (Puts peer arms) is st) picks has refl less some
+        | inr none ↦ keeping ms limit capacity p l peer arms (offer_of b (l.actor p) (l.kept p) arms).0 (offer_of b (l.actor p) (l.kept p) arms).1 (state-of ms l.at p m (Puts peer arms) is st) refl less none
       ]
     where
       sending : (ms : List Machine_data) (limit : ℕ) (capacity : Option ℕ) (p : ℕ) (l : Moment A) (peer : Role) (arms : List Arm) (arm : Arm) (choice : Choice) (now : A)
           → state_at ms l.at p ≡ Some (Puts peer arms) → slice_get arms choice.0 ≡ Some arm → HasSort choice.1 arm.sort
-          → offered b (l.actor p) (l.kept p) arms ≡ (choice, now) → length (l.history p) < limit → HasRoom capacity (l.at.queue p peer.0) → CanTurn ms limit capacity p l
+          → offer_of b (l.actor p) (l.kept p) arms ≡ (choice, now) → length (l.history p) < limit → HasRoom capacity (l.at.queue p peer.0) → CanTurn ms limit capacity p l
       sending ms limit capacity p l peer arms arm choice now puts picks has offers less some =
           let k : Moment A = record {
             at = after_send l.at p peer arm choice.1;
@@ -97,7 +97,7 @@ module _ {A : Type 0} (b : Behaviour A) where
           )
 
       keeping : (ms : List Machine_data) (limit : ℕ) (capacity : Option ℕ) (p : ℕ) (l : Moment A) (peer : Role) (arms : List Arm) (choice : Choice) (now : A)
-          → state_at ms l.at p ≡ Some (Puts peer arms) → offered b (l.actor p) (l.kept p) arms ≡ (choice, now) → length (l.history p) < limit
+          → state_at ms l.at p ≡ Some (Puts peer arms) → offer_of b (l.actor p) (l.kept p) arms ≡ (choice, now) → length (l.history p) < limit
           → IsFull capacity (l.at.queue p peer.0) → CanTurn ms limit capacity p l
       keeping ms limit capacity p l peer arms choice now puts offers less none =
           let k : Moment A = record { at = l.at; history = l.history; actor = put_at l.actor p now; kept = put_at l.kept p (Some choice) } in (

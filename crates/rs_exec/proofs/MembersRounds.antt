@@ -27,7 +27,7 @@ use Rattle.rs_rings.specs.Passes.{Pass_data, Rings_data}
 use Rattle.rs_rings.specs.Views.{history_in, part_of, state_in}
 use Rattle.rs_rings.specs.declared.views.Part.{Part}
 use Rattle.rs_rings.specs.declared.views.View.{View}
-use Rattle.rs_exec.specs.Members.{AreMembers, ArePlaying, AreTogether, HasTurned, IsMember, IsReady, IsSomewhere, KeepsHold, core_of, player_of, players_of, standing_in, turned_by}
+use Rattle.rs_exec.specs.Members.{AreMembers, ArePlaying, AreTogether, HasTurned, IsMember, MemberIsReady, IsSomewhere, KeepsHold, core_of, player_of, players_of, standing_in, turn_kind_of}
 use Rattle.rs_exec.specs.Rounds.{AllDone, FinishTells, HasPlayedOut, IsHalted, end_by}
 use Rattle.rs_exec.specs.Tasks.{PlaysStage}
 use Rattle.rs_exec.specs.declared.members.Member.{Member}
@@ -65,7 +65,7 @@ module _ {A : Type 0} (b : Behaviour A) (session : Rings_data) where
   abbrev ms : List Machine_data
   ms = session.machines
 
-  pub ready_at : (limit : ℕ) (all : Pass_data) (members : List (Member A)) (r : ℕ) (m : Member A) → AreTogether session all members → AreReady limit (core_of ms all.view) (players_of members) → slice_get members r ≡ Some m → IsReady session all r m
+  pub ready_at : (limit : ℕ) (all : Pass_data) (members : List (Member A)) (r : ℕ) (m : Member A) → AreTogether session all members → AreReady limit (core_of ms all.view) (players_of members) → slice_get members r ≡ Some m → MemberIsReady session all r m
   ready_at limit all members r m together ready is =
       let low : r < length ms = (let h = slice_get_within members r m is in let e = together.stand.many in omega (arith, e)) in
       record {
@@ -112,12 +112,12 @@ module _ {A : Type 0} (b : Behaviour A) (session : Rings_data) where
 
   -- one turn more of a round
   pub round_on : (limit : ℕ) (v0 v w : View) (members0 members : List (Member A)) (i n : ℕ) (before acted after : Bool) (old new : Member A) (t : Went)
-      → SoFar b limit (Some session.capacity) (core_of ms v0) (players_of members0) (core_of ms v) (players_of members) i before → slice_get members i ≡ Some old → Acted (turned_by t) acted
-      → TurnTells b limit (Some session.capacity) (core_of ms v) (player_of old) i (core_of ms w) (player_of new) (turned_by t) → n ≡ suc i → (before || acted) ≡ after
+      → SoFar b limit (Some session.capacity) (core_of ms v0) (players_of members0) (core_of ms v) (players_of members) i before → slice_get members i ≡ Some old → Acted (turn_kind_of t) acted
+      → TurnTells b limit (Some session.capacity) (core_of ms v) (player_of old) i (core_of ms w) (player_of new) (turn_kind_of t) → n ≡ suc i → (before || acted) ≡ after
       → SoFar b limit (Some session.capacity) (core_of ms v0) (players_of members0) (core_of ms w) (players_of (slice_set members i new)) n after
   round_on limit v0 v w members0 members i n before acted after old new t so is was tells e flag =
       subst (λ (l : List (PlayerOf A)). SoFar b limit (Some session.capacity) (core_of ms v0) (players_of members0) (core_of ms w) l n after) (sym (players_set members i new))
-      (sofar-on b limit (Some session.capacity) (core_of ms v0) (players_of members0) (core_of ms v) (core_of ms w) (players_of members) i n before acted after (player_of old) (player_of new) (turned_by t) so (players_at members i old is) was tells e flag)
+      (sofar-on b limit (Some session.capacity) (core_of ms v0) (players_of members0) (core_of ms v) (core_of ms w) (players_of members) i n before acted after (player_of old) (player_of new) (turn_kind_of t) so (players_at members i old is) was tells e flag)
 
   -- a role that is at its limit ends the round
   pub round_stops : (limit : ℕ) (v0 v w : View) (members0 members : List (Member A)) (i : ℕ) (moved : Bool) (old new : Member A)

@@ -9,27 +9,27 @@ use Rattle.rs_model.specs.declared.graph.Role.{Role}
 use Rattle.rs_model.specs.declared.machines.State.{State}
 use Rattle.rs_model.specs.declared.machines.State.TheVariants.{Puts, Takes}
 use Rattle.rs_model.specs.declared.values.Value.{Value}
-use Rattle.rs_core.specs.Actors.{Behaviour, Choice, ChoosesWell, Keeps, PlaysAction, PlaysFrom}
+use Rattle.rs_core.specs.Actors.{Behaviour, Choice, ChoosesWell, KeepsChoice, PlaysAction, PlaysFrom}
 use Rattle.rs_core.specs.Choices.{AreWellFormed}
 use Rattle.rs_core.specs.Configurations.{state_of}
 use Rattle.rs_core.specs.Histories.{Action, Sent, Got, History, entry_of, transcript_of}
-use Rattle.rs_core.specs.Plain.{HasRoom, IsFull, offered}
+use Rattle.rs_core.specs.Plain.{HasRoom, IsFull, offer_of}
 use Rattle.rs_core.specs.Turns.{HasSent, HasGot, KeepsWell, TurnTells, label_of}
 use Rattle.rs_core.specs.declared.transcripts.Entry.{Entry}
 use Rattle.rs_core.specs.declared.transcripts.Entry.TheVariants as entry
 use Rattle.rs_core.proofs.Stands.{here-is}
 use Rattle.rs_slots.specs.declared.parcels.Parcel.{Parcel}
-use Rattle.rs_rings.specs.Acts.{MayPut, MayTake, numbered, sent_act, got_act, parcels_sent, parcels_got}
-use Rattle.rs_rings.specs.Passes.{Rings_data, IsPut, IsTaken, IsEmpty}
+use Rattle.rs_rings.specs.Acts.{MayPut, MayTake, role_of_number, sent_act, got_act, parcels_sent, parcels_got}
+use Rattle.rs_rings.specs.Passes.{Rings_data, IsPut, ParcelIsTaken, IsEmpty}
 use Rattle.rs_rings.specs.Passes as passes
-use Rattle.rs_rings.specs.Views.{SpeaksFor, history_in, part_of, state_in, looked_head, looked_tail}
+use Rattle.rs_rings.specs.Views.{SpeaksFor, history_in, part_of, state_in, part_with_room, part_with_parcel}
 use Rattle.rs_rings.specs.declared.views.Part.{Part}
 use Rattle.rs_rings.specs.declared.views.View.{View}
 use Rattle.rs_rings.proofs.Arms.{put_once, take_once}
 use Rattle.rs_session.proofs.Beginning.{state_there}
 use Rattle.rs_session.proofs.HandedIn.{map_last}
 use Rattle.rs_session.proofs.OneRole.{arm_of_label}
-use Rattle.rs_exec.specs.Members.{HasTurned, IsMember, IsSomewhere, core_of, player_of, standing_in, turned_by}
+use Rattle.rs_exec.specs.Members.{HasTurned, IsMember, IsSomewhere, core_of, player_of, standing_in, turn_kind_of}
 use Rattle.rs_exec.specs.Tasks.{PlaysStage}
 use Rattle.rs_exec.specs.declared.members.Member.{Member}
 use Rattle.rs_exec.specs.declared.members.Went.{Went}
@@ -66,7 +66,7 @@ module _ {A : Type 0} (b : Behaviour A) (session : Rings_data) where
 
   -- who played what a role did plays it with a send more
   plays_sent : (x : A) (v w : View) (r : ℕ) (kept kept' : Option Choice) (y y' : A) (peer : Role) (arms : List Arm) (place : ℕ) (value : Value) (arm : Arm) → state_of (slice_get ms r) (state_in v r) ≡ Some (Puts peer arms)
-      → slice_get arms place ≡ Some arm → state_in w r ≡ arm.next → history_in w r ≡ history_in v r ++ Sent peer arm.label value ∷ [] → offered b y kept arms ≡ ((place, value), y') → kept' ≡ None
+      → slice_get arms place ≡ Some arm → state_in w r ≡ arm.next → history_in w r ≡ history_in v r ++ Sent peer arm.label value ∷ [] → offer_of b y kept arms ≡ ((place, value), y') → kept' ≡ None
       → PlaysStage session b x (standing_in session v r) kept y → PlaysStage session b x (standing_in session w r) kept' y'
   plays_sent x v w r kept kept' y y' peer arms place value arm stands picks goes acts offers none so =
       let m = so.machine in
@@ -88,7 +88,7 @@ module _ {A : Type 0} (b : Behaviour A) (session : Rings_data) where
         actor = y';
         runs = so.runs;
         plays = subst (λ (z : History × ℕ). PlaysFrom b m m.start x z.0 z.1 y') (λ i. (sym acts i, sym goes i)) (plays_more b m m.start x (history_in v r) (state_in v r) so.actor (Sent peer arm.label value) arm.next y' so.plays act);
-        keeps = subst (λ (k : Option Choice). Keeps b m (state_in w r) y' k y') (sym none) refl;
+        keeps = subst (λ (k : Option Choice). KeepsChoice b m (state_in w r) y' k y') (sym none) refl;
       }
 
   -- .. with a receive more
@@ -114,25 +114,25 @@ module _ {A : Type 0} (b : Behaviour A) (session : Rings_data) where
         actor = y';
         runs = so.runs;
         plays = subst (λ (z : History × ℕ). PlaysFrom b m m.start x z.0 z.1 y') (λ i. (sym acts i, sym goes i)) (plays_more b m m.start x (history_in v r) (state_in v r) so.actor (Got peer arm.label value) arm.next y' so.plays act);
-        keeps = subst (λ (k : Option Choice). Keeps b m (state_in w r) y' k y') (sym (same ∙ none.none)) refl;
+        keeps = subst (λ (k : Option Choice). KeepsChoice b m (state_in w r) y' k y') (sym (same ∙ none.none)) refl;
       }
 
   -- .. where its choice is kept
   plays_kept : (x : A) (v w : View) (r : ℕ) (kept kept' : Option Choice) (y y' : A) (peer : Role) (arms : List Arm) (place : ℕ) (value : Value) → state_of (slice_get ms r) (state_in v r) ≡ Some (Puts peer arms)
-      → state_in w r ≡ state_in v r → history_in w r ≡ history_in v r → offered b y kept arms ≡ ((place, value), y') → kept' ≡ Some (place, value)
+      → state_in w r ≡ state_in v r → history_in w r ≡ history_in v r → offer_of b y kept arms ≡ ((place, value), y') → kept' ≡ Some (place, value)
       → PlaysStage session b x (standing_in session v r) kept y → PlaysStage session b x (standing_in session w r) kept' y'
   plays_kept x v w r kept kept' y y' peer arms place value stands stays acts offers keeps so =
       let m = so.machine in
       let puts = in_machine v r m (Puts peer arms) so.runs stands in
       let choice : Choice = (place, value) in
       let c = chose b m (state_in v r) so.actor kept y peer arms choice y' so.keeps puts offers in
-      let keeps' : Keeps b m (state_in v r) so.actor (Some choice) y' = (peer, arms, puts, c.chooses, c.asked) in
+      let keeps' : KeepsChoice b m (state_in v r) so.actor (Some choice) y' = (peer, arms, puts, c.chooses, c.asked) in
       record {
         machine = m;
         actor = so.actor;
         runs = so.runs;
         plays = subst (λ (z : History × ℕ). PlaysFrom b m m.start x z.0 z.1 so.actor) (λ i. (sym acts i, sym stays i)) so.plays;
-        keeps = subst (λ (z : ℕ × Option Choice). Keeps b m z.0 so.actor z.1 y') (λ i. (sym stays i, sym keeps i)) keeps';
+        keeps = subst (λ (z : ℕ × Option Choice). KeepsChoice b m z.0 so.actor z.1 y') (λ i. (sym stays i, sym keeps i)) keeps';
       }
 
   -- .. where nothing was done
@@ -143,7 +143,7 @@ module _ {A : Type 0} (b : Behaviour A) (session : Rings_data) where
     actor = so.actor;
     runs = so.runs;
     plays = subst (λ (z : History × ℕ). PlaysFrom b so.machine so.machine.start x z.0 z.1 so.actor) (λ i. (sym acts i, sym stays i)) so.plays;
-    keeps = subst (λ (z : ℕ). Keeps b so.machine z so.actor kept y) (sym stays) so.keeps;
+    keeps = subst (λ (z : ℕ). KeepsChoice b so.machine z so.actor kept y) (sym stays) so.keeps;
   }
 
   -- what a role offers is an arm that is there, and a value of its sort
@@ -156,10 +156,10 @@ module _ {A : Type 0} (b : Behaviour A) (session : Rings_data) where
   some_arms v r peer arms wf stands = let at = here-is (slice_get ms r) (state_in v r) (Puts peer arms) stands in ((wf.fits r at.0 at.1).puts (state_in v r) peer arms at.2).some
 
   pub offered_well : ChoosesWell b → (v : View) (r : ℕ) (m : Member A) (peer : Role) (arms : List Arm) (place : ℕ) (value : Value) (y : A) → r < length ms → AreWellFormed ms → KeepsWell (core_of ms v) r (player_of m)
-      → state_of (slice_get ms r) (state_in v r) ≡ Some (Puts peer arms) → offered b m.actor m.kept arms ≡ ((place, value), y) → WellOffered arms place value
+      → state_of (slice_get ms r) (state_in v r) ≡ Some (Puts peer arms) → offer_of b m.actor m.kept arms ≡ ((place, value), y) → WellOffered arms place value
   offered_well well v r m peer arms place value y there wf keeps stands is = by m.kept refl is
     where
-      by : (kept : Option Choice) → m.kept ≡ kept → offered b m.actor kept arms ≡ ((place, value), y) → WellOffered arms place value
+      by : (kept : Option Choice) → m.kept ≡ kept → offer_of b m.actor kept arms ≡ ((place, value), y) → WellOffered arms place value
       by None e o =
           let same : b.chooses m.actor arms ≡ (place, value) = ap (λ (z : Choice × A). z.0) o in
           let w = well m.actor arms (some_arms v r peer arms wf stands) in
@@ -187,7 +187,7 @@ module _ {A : Type 0} (b : Behaviour A) (session : Rings_data) where
 
   -- a turn of role r below its limit, and what it leaves
   pub record TurnedSo (r : ℕ) (v w : View) (old new : Member A) (t : Went) : Type 0 where
-    pub tells : (limit : ℕ) → length old.entries.items < limit → TurnTells b limit (Some session.capacity) (core_of ms v) (player_of old) r (core_of ms w) (player_of new) (turned_by t)
+    pub tells : (limit : ℕ) → length old.entries.items < limit → TurnTells b limit (Some session.capacity) (core_of ms v) (player_of old) r (core_of ms w) (player_of new) (turn_kind_of t)
     pub turned : HasTurned b session r v w old new
 
   grown_entries : (h h' : History) (a : Action) (e : Entry) (items items' : List Entry) → items ≡ transcript_of h → h' ≡ h ++ a ∷ [] → items' ≡ items ++ e ∷ [] → e ≡ entry_of a → items' ≡ transcript_of h'
@@ -195,13 +195,13 @@ module _ {A : Type 0} (b : Behaviour A) (session : Rings_data) where
 
   pub sent_turn : (r : ℕ) (v w : View) (old new : Member A) (peer : Role) (arms : List Arm) (place : ℕ) (value : Value) (arm : Arm) → AreWellFormed ms → ((y : ℕ) → y < length ms → SpeaksFor v y) → r < length ms → IsMember v r old
       → state_of (slice_get ms r) (state_in v r) ≡ Some (Puts peer arms) → slice_get arms place ≡ Some arm → HasSort value arm.sort → IsPut ms session.capacity r peer.0 (record { label = arm.label; value = value }) v w
-      → offered b old.actor old.kept arms ≡ ((place, value), new.actor) → new.kept ≡ None → new.entries.items ≡ old.entries.items ++ entry.Sent peer arm.label ∷ [] → new.state ≡ arm.next → TurnedSo r v w old new went.Moved
+      → offer_of b old.actor old.kept arms ≡ ((place, value), new.actor) → new.kept ≡ None → new.entries.items ≡ old.entries.items ++ entry.Sent peer arm.label ∷ [] → new.state ≡ arm.next → TurnedSo r v w old new went.Moved
   sent_turn r v w old new peer arms place value arm wf speaks there member stands picks has put offers kept entries state =
       let s : ℕ = state_in v r in
       let x : Parcel = record { label = arm.label; value = value } in
       let at = here-is (slice_get ms r) s (Puts peer arms) stands in
       let fit = (wf.fits r at.0 at.1).puts s peer arms at.2 in
-      let apart : r ≢ peer.0 = λ e. fit.other (ap numbered (sym e ∙ sym (wf.role r at.0 at.1))) in
+      let apart : r ≢ peer.0 = λ e. fit.other (ap role_of_number (sym e ∙ sym (wf.role r at.0 at.1))) in
       let may : MayPut ms r peer.0 s x arm.next = record { arms = arms; place = place; arm = arm; puts = stands; picks = picks; same_label = refl; has_sort = has; goes = refl } in
       let goes : state_in w r ≡ arm.next = ap (λ (z : Part). z.state) put.changed.part ∙ put_once ms r peer.0 s x put.next arm.next wf put.may may in
       let acts : history_in w r ≡ history_in v r ++ sent_act peer.0 x ∷ [] = ap (λ (z : Part). z.history) put.changed.part in
@@ -234,13 +234,13 @@ module _ {A : Type 0} (b : Behaviour A) (session : Rings_data) where
       }
 
   pub full_turn : (r : ℕ) (v w : View) (old new : Member A) (peer : Role) (arms : List Arm) (place : ℕ) (value : Value) (arm : Arm) (sent taken : ℕ) (back : Parcel) → AreWellFormed ms → ((y : ℕ) → y < length ms → SpeaksFor v y) → r < length ms → IsMember v r old
-      → state_of (slice_get ms r) (state_in v r) ≡ Some (Puts peer arms) → slice_get arms place ≡ Some arm → HasSort value arm.sort → passes.IsFull session.capacity r peer.0 (record { label = arm.label; value = value }) sent taken back v w
-      → offered b old.actor old.kept arms ≡ ((place, value), new.actor) → new.kept ≡ Some (place, back.value) → new.entries.items ≡ old.entries.items → new.state ≡ old.state → TurnedSo r v w old new went.Full
+      → state_of (slice_get ms r) (state_in v r) ≡ Some (Puts peer arms) → slice_get arms place ≡ Some arm → HasSort value arm.sort → passes.RingIsFull session.capacity r peer.0 (record { label = arm.label; value = value }) sent taken back v w
+      → offer_of b old.actor old.kept arms ≡ ((place, value), new.actor) → new.kept ≡ Some (place, back.value) → new.entries.items ≡ old.entries.items → new.state ≡ old.state → TurnedSo r v w old new went.Full
   full_turn r v w old new peer arms place value arm sent taken back wf speaks there member stands picks has full offers kept entries state =
       let s : ℕ = state_in v r in
       let at = here-is (slice_get ms r) s (Puts peer arms) stands in
       let fit = (wf.fits r at.0 at.1).puts s peer arms at.2 in
-      let apart : r ≢ peer.0 = λ e. fit.other (ap numbered (sym e ∙ sym (wf.role r at.0 at.1))) in
+      let apart : r ≢ peer.0 = λ e. fit.other (ap role_of_number (sym e ∙ sym (wf.role r at.0 at.1))) in
       let stays : state_in w r ≡ s = ap (λ (z : Part). z.state) full.changed.part in
       let acts : history_in w r ≡ history_in v r = ap (λ (z : Part). z.history) full.changed.part in
       let n : ℕ = length (parcels_got r (history_in v peer.0)) in
@@ -262,7 +262,7 @@ module _ {A : Type 0} (b : Behaviour A) (session : Rings_data) where
             kept = keeps;
             transcript = entries;
           },
-          looked ms v w r (looked_head peer.0 taken (part_of v r)) full.changed refl refl,
+          looked ms v w r (part_with_room peer.0 taken (part_of v r)) full.changed refl refl,
         );
         turned = record {
           somewhere = subst (λ (k : ℕ). IsSome (state_of (slice_get ms r) k)) (sym stays) (subst IsSome (sym stands) (search rules));
@@ -273,13 +273,13 @@ module _ {A : Type 0} (b : Behaviour A) (session : Rings_data) where
       }
 
   pub got_turn : (r : ℕ) (v w : View) (old new : Member A) (peer : Role) (arms : List Arm) (place : ℕ) (x : Parcel) (d : Arm) → AreWellFormed ms → ((y : ℕ) → y < length ms → SpeaksFor v y) → r < length ms → IsMember v r old
-      → state_of (slice_get ms r) (state_in v r) ≡ Some (Takes peer arms) → label_of (slice_get arms place) ≡ Some x.label → IsTaken ms r peer.0 x v w
+      → state_of (slice_get ms r) (state_in v r) ≡ Some (Takes peer arms) → label_of (slice_get arms place) ≡ Some x.label → ParcelIsTaken ms r peer.0 x v w
       → b.told old.actor arms place x.value ≡ new.actor → new.kept ≡ old.kept → new.entries.items ≡ old.entries.items ++ entry.Got peer x.label x.value ∷ [] → new.state ≡ (get_or arms place d).next → TurnedSo r v w old new went.Moved
   got_turn r v w old new peer arms place x d wf speaks there member stands label take told kept entries state =
       let s : ℕ = state_in v r in
       let at = here-is (slice_get ms r) s (Takes peer arms) stands in
       let fit = (wf.fits r at.0 at.1).takes s peer arms at.2 in
-      let apart : r ≢ peer.0 = λ e. fit.other (ap numbered (sym e ∙ sym (wf.role r at.0 at.1))) in
+      let apart : r ≢ peer.0 = λ e. fit.other (ap role_of_number (sym e ∙ sym (wf.role r at.0 at.1))) in
       let one = arm_of_label (slice_get arms place) x.label label in
       let arm : Arm = one.0 in
       let picks : slice_get arms place ≡ Some arm = one.1 in
@@ -320,7 +320,7 @@ module _ {A : Type 0} (b : Behaviour A) (session : Rings_data) where
       let s : ℕ = state_in v r in
       let at = here-is (slice_get ms r) s (Takes peer arms) stands in
       let fit = (wf.fits r at.0 at.1).takes s peer arms at.2 in
-      let apart : r ≢ peer.0 = λ e. fit.other (ap numbered (sym e ∙ sym (wf.role r at.0 at.1))) in
+      let apart : r ≢ peer.0 = λ e. fit.other (ap role_of_number (sym e ∙ sym (wf.role r at.0 at.1))) in
       let stays : state_in w r ≡ s = ap (λ (z : Part). z.state) empty.changed.part in
       let acts : history_in w r ≡ history_in v r = ap (λ (z : Part). z.history) empty.changed.part in
       let level : length (parcels_got peer.0 (history_in v r)) ≡ length (parcels_sent r (history_in v peer.0)) = sym empty.is_got ∙ empty.knows (speaks peer.0 fit.known) in
@@ -328,7 +328,7 @@ module _ {A : Type 0} (b : Behaviour A) (session : Rings_data) where
         tells = λ limit short. (
           short,
           (peer, arms, state_is ms v r there ∙ stands, none_under_way ms v w peer.0 r fit.known there (λ e. apart (sym e)) level),
-          looked ms v w r (looked_tail peer.0 seen (part_of v r)) empty.changed refl refl,
+          looked ms v w r (part_with_parcel peer.0 seen (part_of v r)) empty.changed refl refl,
           refl,
         );
         turned = record {

@@ -16,7 +16,7 @@ use Rattle.rs_safety.specs.Room.{room_of}
 use Rattle.rs_walks.proofs.Walked.{of-accepted}
 use Rattle.rs_room.specs.Bounded.{CanMoveWithin, MayPut, MayTake}
 use Rattle.rs_room.proofs.Enough.{can-go-on}
-use Rattle.rs_exec.specs.Inline.{Tells}
+use Rattle.rs_exec.specs.Inline.{RunFaultTells}
 use Rattle.rs_exec.specs.declared.inline.ExecFault.{ExecFault}
 use Rattle.rs_exec.specs.declared.inline.ExecFault.TheVariants as fault
 
@@ -115,7 +115,7 @@ module _ {A : Type 0} (b : Behaviour A) where
 
   -- .. and memory is the one error
   pub only-memory : {X : Type 0} (a : Accepted_data) (xs : List A) (limit capacity : ℕ) (r : Result X ExecFault) → IsAcceptedSession a → length xs ≡ length a.machines → room_of a.derivations ≤ capacity
-      → IfErr r (λ e. (given : ℕ → A) → IsGiven given xs → Tells a.machines b given limit capacity e) → IfErr r (λ e. e ≡ fault.NoMemory)
+      → IfErr r (λ e. (given : ℕ → A) → IsGiven given xs → RunFaultTells a.machines b given limit capacity e) → IfErr r (λ e. e ≡ fault.NoMemory)
   only-memory a xs limit capacity (Ok x) s many room full = tt
   only-memory a xs limit capacity (Err fault.NoMemory) s many room full = refl
   only-memory a xs limit capacity (Err (fault.Full sender receiver sent taken)) s many room full = absurd (never-full a xs limit capacity sender receiver sent taken s many room full)

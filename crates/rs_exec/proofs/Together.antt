@@ -15,21 +15,21 @@ use Rattle.rs_core.specs.Configurations.{Configuration, Sends, Receives, StartsA
 use Rattle.rs_core.specs.Core.{Core_data, configuration_of}
 use Rattle.rs_core.specs.Histories.{History}
 use Rattle.rs_slots.specs.declared.parcels.Parcel.{Parcel}
-use Rattle.rs_rings.specs.Acts.{message_of, numbered, sent_act, got_act, parcel_sent, parcel_got, parcels_sent, parcels_got}
+use Rattle.rs_rings.specs.Acts.{message_of, role_of_number, sent_act, got_act, parcel_sent, parcel_got, parcels_sent, parcels_got}
 use Rattle.rs_rings.specs.Passes.{IsChanged}
-use Rattle.rs_rings.specs.Views.{history_in, left_in, part_of, start_of, starting, state_in}
+use Rattle.rs_rings.specs.Views.{history_in, parcels_under_way, part_of, start_of, starting, state_in}
 use Rattle.rs_rings.specs.declared.views.Part.{Part}
 use Rattle.rs_rings.specs.declared.views.View.{View}
 use Rattle.rs_rings.proofs.Legal.{last_none, sent_here, sent_other, got_here, got_other}
 use Rattle.rs_rings.proofs.Seats.{first_part_is}
-use Rattle.rs_exec.specs.Members.{listed, core_of}
+use Rattle.rs_exec.specs.Members.{first_values, core_of}
 
-pub listed_at : {X : Type 0} (n : ℕ) (f : ℕ → X) (k : ℕ) (d : X) → k < n → slice_index_or (listed n f) k d ≡ f k
+pub listed_at : {X : Type 0} (n : ℕ) (f : ℕ → X) (k : ℕ) (d : X) → k < n → slice_index_or (first_values n f) k d ≡ f k
 listed_at zero f k d low = absurd (omega arith)
 listed_at (suc n) f zero d low = refl
 listed_at (suc n) f (suc k) d low = listed_at n (λ j. f (suc j)) k d (omega arith)
 
-pub listed_past : {X : Type 0} (n : ℕ) (f : ℕ → X) (k : ℕ) (d : X) → n ≤ k → slice_index_or (listed n f) k d ≡ d
+pub listed_past : {X : Type 0} (n : ℕ) (f : ℕ → X) (k : ℕ) (d : X) → n ≤ k → slice_index_or (first_values n f) k d ≡ d
 listed_past zero f k d high = refl
 listed_past (suc n) f zero d high = absurd (omega arith)
 listed_past (suc n) f (suc k) d high = listed_past n (λ j. f (suc j)) k d (omega arith)
@@ -48,10 +48,10 @@ module _ (ms : List Machine_data) where
   at_past v r high = listed_past (length ms) (λ p. state_in v p) r 0 high
 
   abbrev row_of : View → ℕ → List (List Message)
-  row_of v p = listed (length ms) (λ q. map message_of (left_in v p q))
+  row_of v p = first_values (length ms) (λ q. map message_of (parcels_under_way v p q))
 
-  pub queue_is : (v : View) (p q : ℕ) → p < length ms → q < length ms → (shown_in v).queue p q ≡ map message_of (left_in v p q)
-  queue_is v p q low other = ap (λ (row : List (List Message)). slice_index_or row q []) (listed_at (length ms) (row_of v) p [] low) ∙ listed_at (length ms) (λ y. map message_of (left_in v p y)) q [] other
+  pub queue_is : (v : View) (p q : ℕ) → p < length ms → q < length ms → (shown_in v).queue p q ≡ map message_of (parcels_under_way v p q)
+  queue_is v p q low other = ap (λ (row : List (List Message)). slice_index_or row q []) (listed_at (length ms) (row_of v) p [] low) ∙ listed_at (length ms) (λ y. map message_of (parcels_under_way v p y)) q [] other
 
   row_past : (v : View) (p q : ℕ) → length ms ≤ p → (shown_in v).queue p q ≡ []
   row_past v p q high = ap (λ (row : List (List Message)). slice_index_or row q []) (listed_past (length ms) (row_of v) p [] high)
@@ -59,7 +59,7 @@ module _ (ms : List Machine_data) where
   queue_past : (v : View) (p q : ℕ) → (length ms ≤ p) ⊎ (length ms ≤ q) → (shown_in v).queue p q ≡ []
   queue_past v p q (inl high) = row_past v p q high
   queue_past v p q (inr high) = elim (cases_lt p (length ms)) [
-    | inl low ↦ ap (λ (row : List (List Message)). slice_index_or row q []) (listed_at (length ms) (row_of v) p [] low) ∙ listed_past (length ms) (λ y. map message_of (left_in v p y)) q [] high
+    | inl low ↦ ap (λ (row : List (List Message)). slice_index_or row q []) (listed_at (length ms) (row_of v) p [] low) ∙ listed_past (length ms) (λ y. map message_of (parcels_under_way v p y)) q [] high
     | inr past ↦ row_past v p q past
   ]
 
@@ -71,8 +71,8 @@ module _ (ms : List Machine_data) where
   pub same_core : (v w : View) → ((r : ℕ) → state_in w r ≡ state_in v r) → ((r : ℕ) → history_in w r ≡ history_in v r) → core_of ms w ≡ core_of ms v
   same_core v w states acts i = record {
     machines = ms;
-    states = listed (length ms) (λ p. states p i);
-    queues = listed (length ms) (λ p. listed (length ms) (λ q. map message_of (drop (length (parcels_got p (acts q i))) (parcels_sent q (acts p i)))));
+    states = first_values (length ms) (λ p. states p i);
+    queues = first_values (length ms) (λ p. first_values (length ms) (λ q. map message_of (drop (length (parcels_got p (acts q i))) (parcels_sent q (acts p i)))));
   }
 
   -- nothing has changed of one role but what was read, and nothing of the others
@@ -94,7 +94,7 @@ module _ (ms : List Machine_data) where
     | inr high ↦ at_past w r high ∙ sym (at_past v r high)
   ]
 
-  pub other_queue : (v w : View) (a b : ℕ) → left_in w a b ≡ left_in v a b → (shown_in w).queue a b ≡ (shown_in v).queue a b
+  pub other_queue : (v w : View) (a b : ℕ) → parcels_under_way w a b ≡ parcels_under_way v a b → (shown_in w).queue a b ≡ (shown_in v).queue a b
   other_queue v w a b same = elim (cases_lt a (length ms)) [
     | inl low ↦ elim (cases_lt b (length ms)) [
       | inl low' ↦ queue_is w a b low low' ∙ ap (λ (l : List Parcel). map message_of l) same ∙ sym (queue_is v a b low low')
@@ -108,13 +108,13 @@ pub record HasPutIn (v w : View) (p q : ℕ) (x : Parcel) : Type 0 where
   pub history : history_in w p ≡ history_in v p ++ sent_act q x ∷ []
   pub others : (r : ℕ) → r ≢ p → part_of w r ≡ part_of v r
 
-pub left_sent : (v w : View) (p q : ℕ) (x : Parcel) → HasPutIn v w p q x → p ≢ q → length (parcels_got p (history_in v q)) ≤ length (parcels_sent q (history_in v p)) → left_in w p q ≡ left_in v p q ++ x ∷ []
+pub left_sent : (v w : View) (p q : ℕ) (x : Parcel) → HasPutIn v w p q x → p ≢ q → length (parcels_got p (history_in v q)) ≤ length (parcels_sent q (history_in v p)) → parcels_under_way w p q ≡ parcels_under_way v p q ++ x ∷ []
 left_sent v w p q x put apart le =
     let g : history_in w q ≡ history_in v q = ap (λ (z : Part). z.history) (put.others q (λ e. apart (sym e))) in
     let s : parcels_sent q (history_in w p) ≡ parcels_sent q (history_in v p) ++ x ∷ [] = ap (parcels_sent q) put.history ∙ sent_here q x (history_in v p) in
     (λ i. drop (length (parcels_got p (g i))) (s i)) ∙ drop-append-le (length (parcels_got p (history_in v q))) (parcels_sent q (history_in v p)) (x ∷ []) le
 
-pub left_beside : (v w : View) (p q : ℕ) (x : Parcel) → HasPutIn v w p q x → (a b : ℕ) → (a ≢ p) ⊎ (b ≢ q) → left_in w a b ≡ left_in v a b
+pub left_beside : (v w : View) (p q : ℕ) (x : Parcel) → HasPutIn v w p q x → (a b : ℕ) → (a ≢ p) ⊎ (b ≢ q) → parcels_under_way w a b ≡ parcels_under_way v a b
 left_beside v w p q x put a b or =
     let s : parcels_sent b (history_in w a) ≡ parcels_sent b (history_in v a) = elim (eqb_tells a p) [
       | inl t ↦ subst (λ (z : ℕ). parcels_sent b (history_in w z) ≡ parcels_sent b (history_in v z)) (sym t.1) (ap (parcels_sent b) put.history ∙ sent_other b q x (history_in v p) (not t.1 or))
@@ -135,14 +135,14 @@ pub record HasTakenIn (v w : View) (q p : ℕ) (x : Parcel) : Type 0 where
   pub history : history_in w q ≡ history_in v q ++ got_act p x ∷ []
   pub others : (r : ℕ) → r ≢ q → part_of w r ≡ part_of v r
 
-pub left_got : (v w : View) (q p : ℕ) (x : Parcel) → HasTakenIn v w q p x → q ≢ p → left_in v p q ≡ x ∷ drop (suc (length (parcels_got p (history_in v q)))) (parcels_sent q (history_in v p)) → left_in v p q ≡ x ∷ left_in w p q
+pub left_got : (v w : View) (q p : ℕ) (x : Parcel) → HasTakenIn v w q p x → q ≢ p → parcels_under_way v p q ≡ x ∷ drop (suc (length (parcels_got p (history_in v q)))) (parcels_sent q (history_in v p)) → parcels_under_way v p q ≡ x ∷ parcels_under_way w p q
 left_got v w q p x take apart oldest =
     let s : parcels_sent q (history_in v p) ≡ parcels_sent q (history_in w p) = ap (λ (z : Part). parcels_sent q z.history) (sym (take.others p (λ e. apart (sym e)))) in
     let g : parcels_got p (history_in w q) ≡ parcels_got p (history_in v q) ++ x ∷ [] = ap (parcels_got p) take.history ∙ got_here p x (history_in v q) in
     let n : suc (length (parcels_got p (history_in v q))) ≡ length (parcels_got p (history_in w q)) = omega (arith, ap length g, length-append (parcels_got p (history_in v q)) (x ∷ [])) in
     oldest ∙ (λ i. x ∷ drop (n i) (s i))
 
-pub left_aside : (v w : View) (q p : ℕ) (x : Parcel) → HasTakenIn v w q p x → (a b : ℕ) → (a ≢ p) ⊎ (b ≢ q) → left_in w a b ≡ left_in v a b
+pub left_aside : (v w : View) (q p : ℕ) (x : Parcel) → HasTakenIn v w q p x → (a b : ℕ) → (a ≢ p) ⊎ (b ≢ q) → parcels_under_way w a b ≡ parcels_under_way v a b
 left_aside v w q p x take a b or =
     let s : parcels_sent b (history_in w a) ≡ parcels_sent b (history_in v a) = elim (eqb_tells a q) [
       | inl t ↦ subst (λ (z : ℕ). parcels_sent b (history_in w z) ≡ parcels_sent b (history_in v z)) (sym t.1) (ap (parcels_sent b) take.history ∙ last_none (parcel_sent b) (history_in v q) (got_act p x) refl)
@@ -160,28 +160,28 @@ left_aside v w q p x take a b or =
 
 module _ (ms : List Machine_data) (v w : View) (p q : ℕ) (low : p < length ms) (other : q < length ms) (apart : p ≢ q) where
   -- a send, over queues in lists
-  abbrev pub sends_in : (place : ℕ) (value : Value) (arms : List Arm) (arm : Arm) → state_of (slice_get ms p) (state_in v p) ≡ Some (Puts (numbered q) arms) → slice_get arms place ≡ Some arm → HasSort value arm.sort
+  abbrev pub sends_in : (place : ℕ) (value : Value) (arms : List Arm) (arm : Arm) → state_of (slice_get ms p) (state_in v p) ≡ Some (Puts (role_of_number q) arms) → slice_get arms place ≡ Some arm → HasSort value arm.sort
       → state_in w p ≡ arm.next → HasPutIn v w p q (record { label = arm.label; value = value }) → length (parcels_got p (history_in v q)) ≤ length (parcels_sent q (history_in v p))
       → Sends ms (shown_in ms v) p place value (shown_in ms w)
   sends_in place value arms arm stands picks has goes put le = let x : Parcel = record { label = arm.label; value = value } in record {
-    peer = numbered q;
+    peer = role_of_number q;
     arms = arms;
     arm = arm;
     puts = state_is ms v p low ∙ stands;
     picks = picks;
     has_sort = has;
     goes = at_is ms w p low ∙ goes;
-    appends = queue_is ms w p q low other ∙ ap (λ (l : List Parcel). map message_of l) (left_sent v w p q x put apart le) ∙ snoc_map (left_in v p q) x ∙ ap (λ (l : List Message). l ++ message_of x ∷ []) (sym (queue_is ms v p q low other));
+    appends = queue_is ms w p q low other ∙ ap (λ (l : List Parcel). map message_of l) (left_sent v w p q x put apart le) ∙ snoc_map (parcels_under_way v p q) x ∙ ap (λ (l : List Message). l ++ message_of x ∷ []) (sym (queue_is ms v p q low other));
     other_states = λ r ne. other_at ms v w r (put.others r ne);
     other_queues = λ a b or. other_queue ms v w a b (left_beside v w p q x put a b or);
   }
 
   -- a receive: q gets x from p
-  abbrev pub receives_in : (place : ℕ) (x : Parcel) (arms : List Arm) (arm : Arm) → state_of (slice_get ms q) (state_in v q) ≡ Some (Takes (numbered p) arms) → slice_get arms place ≡ Some arm → arm.label ≡ x.label → HasSort x.value arm.sort
-      → state_in w q ≡ arm.next → HasTakenIn v w q p x → left_in v p q ≡ x ∷ drop (suc (length (parcels_got p (history_in v q)))) (parcels_sent q (history_in v p))
+  abbrev pub receives_in : (place : ℕ) (x : Parcel) (arms : List Arm) (arm : Arm) → state_of (slice_get ms q) (state_in v q) ≡ Some (Takes (role_of_number p) arms) → slice_get arms place ≡ Some arm → arm.label ≡ x.label → HasSort x.value arm.sort
+      → state_in w q ≡ arm.next → HasTakenIn v w q p x → parcels_under_way v p q ≡ x ∷ drop (suc (length (parcels_got p (history_in v q)))) (parcels_sent q (history_in v p))
       → Receives ms (shown_in ms v) q (shown_in ms w)
   receives_in place x arms arm stands picks label has goes take oldest = record {
-    peer = numbered p;
+    peer = role_of_number p;
     arms = arms;
     place = place;
     arm = arm;
@@ -198,13 +198,13 @@ module _ (ms : List Machine_data) (v w : View) (p q : ℕ) (low : p < length ms)
 
   -- how many messages are under way
   pub under_way : length ((shown_in ms v).queue p q) ≡ length (parcels_sent q (history_in v p)) - length (parcels_got p (history_in v q))
-  under_way = ap length (queue_is ms v p q low other) ∙ length-map (left_in v p q) message_of ∙ length-drop (length (parcels_got p (history_in v q))) (parcels_sent q (history_in v p))
+  under_way = ap length (queue_is ms v p q low other) ∙ length-map (parcels_under_way v p q) message_of ∙ length-drop (length (parcels_got p (history_in v q))) (parcels_sent q (history_in v p))
 
   pub none_under_way : length (parcels_got p (history_in v q)) ≡ length (parcels_sent q (history_in v p)) → (shown_in ms v).queue p q ≡ []
   none_under_way e = queue_is ms v p q low other ∙ ap (λ (l : List Parcel). map message_of l) (drop_all (length (parcels_got p (history_in v q))) (parcels_sent q (history_in v p)) (omega (arith, e)))
 
 -- the start
-left_first : (ms : List Machine_data) (p q : ℕ) → p < length ms → q < length ms → left_in (starting ms) p q ≡ []
+left_first : (ms : List Machine_data) (p q : ℕ) → p < length ms → q < length ms → parcels_under_way (starting ms) p q ≡ []
 left_first ms p q low other =
     let a : history_in (starting ms) p ≡ [] = ap (λ (z : Part). z.history) (first_part_is ms (length ms) p low) in
     let b : history_in (starting ms) q ≡ [] = ap (λ (z : Part). z.history) (first_part_is ms (length ms) q other) in

@@ -9,9 +9,9 @@ use Rattle.rs_core.specs.Core.{Core_data}
 use Rattle.rs_core.specs.Histories.{transcript_of}
 use Rattle.rs_core.specs.Turns.{KeepsWell}
 use Rattle.rs_core.specs.Kinds.{PlayerOf, TurnKind, a_player, turn_ended, turn_full, turn_limit, turn_moved, turn_waits}
-use Rattle.rs_rings.specs.Acts.{message_of, numbered}
+use Rattle.rs_rings.specs.Acts.{message_of, role_of_number}
 use Rattle.rs_rings.specs.Passes.{Pass_data, Rings_data}
-use Rattle.rs_rings.specs.Views.{SpeaksFor, history_in, left_in, part_of, start_of, starting, state_in}
+use Rattle.rs_rings.specs.Views.{SpeaksFor, history_in, parcels_under_way, part_of, start_of, starting, state_in}
 use Rattle.rs_rings.specs.declared.views.View.{View}
 use Rattle.rs_session.specs.Data.{Stage_data}
 use Rattle.rs_exec.specs.Tasks.{PlaysStage}
@@ -20,16 +20,16 @@ use Rattle.rs_exec.specs.declared.members.Went.{Went}
 use Rattle.rs_exec.specs.declared.members.Went.TheVariants as went
 
 -- the first so many values of f
-abbrev pub listed : {X : Type 0} → ℕ → (ℕ → X) → List X
-listed zero f = []
-listed (suc n) f = f 0 ∷ listed n (λ k. f (suc k))
+abbrev pub first_values : {X : Type 0} → ℕ → (ℕ → X) → List X
+first_values zero f = []
+first_values (suc n) f = f 0 ∷ first_values n (λ k. f (suc k))
 
 -- what is known of all roles, as a session of queues in lists
 abbrev pub core_of : List Machine_data → View → Core_data
 core_of machines v = record {
   machines = machines;
-  states = listed (length machines) (λ p. state_in v p);
-  queues = listed (length machines) (λ p. listed (length machines) (λ q. map message_of (left_in v p q)));
+  states = first_values (length machines) (λ p. state_in v p);
+  queues = first_values (length machines) (λ p. first_values (length machines) (λ q. map message_of (parcels_under_way v p q)));
 }
 
 -- the member, as the plain run sees its player
@@ -41,12 +41,12 @@ abbrev pub players_of : {A : Type 0} → List (Member A) → List (PlayerOf A)
 players_of {A} members = map (λ (m : Member A). player_of m) members
 
 -- what a turn was, for the plain run
-abbrev pub turned_by : Went → TurnKind
-turned_by went.Moved = turn_moved
-turned_by went.Waits = turn_waits
-turned_by went.Full = turn_full
-turned_by went.Ended = turn_ended
-turned_by went.AtLimit = turn_limit
+abbrev pub turn_kind_of : Went → TurnKind
+turn_kind_of went.Moved = turn_moved
+turn_kind_of went.Waits = turn_waits
+turn_kind_of went.Full = turn_full
+turn_kind_of went.Ended = turn_ended
+turn_kind_of went.AtLimit = turn_limit
 
 -- the hand is of this session, and has all roles
 pub record HoldsAll (session : Rings_data) (all : Pass_data) : Type 0 where
@@ -60,7 +60,7 @@ pub record KeepsHold (old new : Pass_data) : Type 0 where
 
 -- where role r stands, by what is known of all roles
 abbrev pub standing_in : Rings_data → View → ℕ → Stage_data
-standing_in session v r = record { table = session.table; role = numbered r; part = part_of v r }
+standing_in session v r = record { table = session.table; role = role_of_number r; part = part_of v r }
 
 -- role r stands at a state of its machine
 abbrev pub IsSomewhere : Rings_data → View → ℕ → Type 0
@@ -72,7 +72,7 @@ pub record IsMember {A : Type 0} (v : View) (r : ℕ) (m : Member A) : Type 0 wh
   pub entries : m.entries.items ≡ transcript_of (history_in v r)
 
 -- between turns
-pub record IsReady {A : Type 0} (session : Rings_data) (all : Pass_data) (r : ℕ) (m : Member A) : Type 0 where
+pub record MemberIsReady {A : Type 0} (session : Rings_data) (all : Pass_data) (r : ℕ) (m : Member A) : Type 0 where
   pub hold : HoldsAll session all
   pub there : r < length session.machines
   pub roomy : 1 ≤ session.capacity

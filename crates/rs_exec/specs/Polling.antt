@@ -2,7 +2,7 @@
 use Rattle.rs_core.specs.Actors.{Behaviour}
 use Rattle.rs_rings.specs.Passes.{Rings_data}
 use Rattle.rs_exec.specs.Data.{Task_data}
-use Rattle.rs_exec.specs.Tasks.{TurnTells}
+use Rattle.rs_exec.specs.Tasks.{TaskTurnTells}
 use Rattle.rs_exec.specs.declared.tasks.Turn.{Turn}
 use Rattle.rs_exec.specs.declared.tasks.Turn.TheVariants as turn
 use Rattle.futures.specs.declared.task.Poll.{Poll}
@@ -18,5 +18,5 @@ HasStopped turn.NoMemory = Unit {0}
 
 -- a poll makes one turn. It is pending where the task goes on, and else gives the turn
 abbrev pub PollTells : {A : Type 0} → Rings_data → Behaviour A → Task_data A → Task_data A → Poll Turn → Type 0
-PollTells session b old new Pending = (t : Turn) × TurnTells session b old new t × (HasStopped t → ⊥)
-PollTells session b old new (Ready t) = TurnTells session b old new t × HasStopped t
+PollTells session b old new Pending = (t : Turn) × TaskTurnTells session b old new t × (HasStopped t → ⊥)
+PollTells session b old new (Ready t) = TaskTurnTells session b old new t × HasStopped t

@@ -5,7 +5,7 @@ use Rattle.rs_model.specs.declared.machines.State.TheVariants.{Done}
 use Rattle.rs_core.specs.Actors.{Behaviour}
 use Rattle.rs_core.specs.Configurations.{state_of}
 use Rattle.rs_core.specs.Plain.{Ending, IsPlain}
-use Rattle.rs_core.specs.Runs.{IsAmong, IsGiven, Shows}
+use Rattle.rs_core.specs.Runs.{IsAmong, IsGiven, EndShows}
 use Rattle.rs_core.specs.Kinds.{EndKind, RoundKind, end_ended, end_full, end_stopped, round_idle, round_moved, round_stopped}
 use Rattle.rs_rings.specs.Passes.{Rings_data}
 use Rattle.rs_rings.specs.Views.{history_in, state_in}
@@ -47,6 +47,6 @@ FinishTells session limit v (finish.Full sender receiver) = Unit {0}
 
 -- the rounds of these actors came to this end, as the plain run does
 pub record HasPlayedOut {A : Type 0} (b : Behaviour A) (session : Rings_data) (limit : ℕ) (actors : List A) (v : View) (members : List (Member A)) (f : Finish) : Type 0 where
-  pub plain : (given : ℕ → A) → IsGiven given actors → (o : Ending A) × IsPlain session.machines b given limit (Some session.capacity) o × Shows session.machines (Some session.capacity) o (end_by f) (players_of members)
+  pub plain : (given : ℕ → A) → IsGiven given actors → (o : Ending A) × IsPlain session.machines b given limit (Some session.capacity) o × EndShows session.machines (Some session.capacity) o (end_by f) (players_of members)
   pub tells : FinishTells session limit v f
   pub plays : ArePlaying b session actors v members

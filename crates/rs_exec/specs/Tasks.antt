@@ -3,13 +3,13 @@ use Rattle.std.specs.Prelude.{◌≡◌, ◌⊎◌, ℕ, ◌<◌, ◌≤◌, tru
 use Rattle.rs_model.specs.Data.{Machine_data}
 use Rattle.rs_model.specs.declared.graph.Role.{Role}
 use Rattle.rs_model.specs.declared.values.Value.{Value}
-use Rattle.rs_core.specs.Actors.{Behaviour, Choice, Keeps, PlaysFrom}
-use Rattle.rs_core.specs.Plain.{offered}
+use Rattle.rs_core.specs.Actors.{Behaviour, Choice, KeepsChoice, PlaysFrom}
+use Rattle.rs_core.specs.Plain.{offer_of}
 use Rattle.rs_core.specs.declared.transcripts.Entry.TheVariants as entry
 use Rattle.rs_rings.specs.Passes.{Rings_data}
 use Rattle.rs_session.specs.Acts.{SendsBy, IsSent, IsHandedBack, IsGot, IsKept}
 use Rattle.rs_session.specs.Data.{Stage_data}
-use Rattle.rs_session.specs.Stages.{IsOf, shown}
+use Rattle.rs_session.specs.Stages.{IsOf, sight_of_stage}
 use Rattle.rs_session.specs.declared.stages.Stage.{Stage}
 use Rattle.rs_session.specs.declared.stages.Stage.TheVariants.{Sending, Receiving, Ended}
 use Rattle.rs_exec.specs.Data.{Task_data}
@@ -20,7 +20,7 @@ use Rattle.rs_exec.specs.declared.tasks.Why.TheVariants as why
 -- the stage is of the session, and a choice that the task keeps is one that the stage can send
 pub record IsTaskOf {A : Type 0} (session : Rings_data) (task : Task_data A) : Type 0 where
   pub of : IsOf session task.stage
-  pub keeps : IfSome task.kept (λ choice. SendsBy session (shown task.stage) choice.0 choice.1)
+  pub keeps : IfSome task.kept (λ choice. SendsBy session (sight_of_stage task.stage) choice.0 choice.1)
 
 -- the stage is one at the end of its machine
 abbrev pub HasEnded : Stage → Type 0
@@ -29,12 +29,12 @@ HasEnded (Receiving stage) = ⊥
 HasEnded (Ended stage) = Unit {0}
 
 -- what the actor offers, or what was kept, is sent
-pub record Sends {A : Type 0} (session : Rings_data) (b : Behaviour A) (old new : Task_data A) : Type 0 where
+pub record TaskSends {A : Type 0} (session : Rings_data) (b : Behaviour A) (old new : Task_data A) : Type 0 where
   pub at : Stage_data
   pub choice : Choice
   pub stands : old.stage ≡ Sending at
   pub sent : IsSent session at choice.0 choice.1 new.stage
-  pub offers : offered b old.actor old.kept sent.by.arms ≡ (choice, new.actor)
+  pub offers : offer_of b old.actor old.kept sent.by.arms ≡ (choice, new.actor)
   pub kept : new.kept ≡ None
   pub transcript : new.transcript ≡ old.transcript ++ entry.Sent sent.by.peer sent.by.arm.label ∷ []
 
@@ -49,7 +49,7 @@ pub record Gets {A : Type 0} (session : Rings_data) (old new : Task_data A) : Ty
   pub transcript : new.transcript ≡ old.transcript ++ entry.Got got.by.peer got.by.arm.label value ∷ []
 
 -- .. and the actor is told
-pub record Receives {A : Type 0} (session : Rings_data) (b : Behaviour A) (old new : Task_data A) : Type 0 where
+pub record TaskReceives {A : Type 0} (session : Rings_data) (b : Behaviour A) (old new : Task_data A) : Type 0 where
   pub gets : Gets session old new
   pub told : b.told old.actor gets.got.by.arms gets.place gets.value ≡ new.actor
 
@@ -62,7 +62,7 @@ pub record WaitsToSend {A : Type 0} (session : Rings_data) (b : Behaviour A) (pe
   pub stays : new.stage ≡ Sending back
   pub full : IsHandedBack session at choice.0 choice.1 back choice.1 sent taken
   pub is_peer : peer ≡ full.by.peer
-  pub offers : offered b old.actor old.kept full.by.arms ≡ (choice, new.actor)
+  pub offers : offer_of b old.actor old.kept full.by.arms ≡ (choice, new.actor)
   pub kept : new.kept ≡ Some choice
   pub transcript : new.transcript ≡ old.transcript
 
@@ -95,31 +95,31 @@ pub record TellsInVain {A : Type 0} (session : Rings_data) (old new : Task_data 
   pub failed : new.failed ≡ true
 
 -- want of memory: it was there before; or the actor was asked, or should be told, in vain
-pub data IsRefused {A : Type 0} (session : Rings_data) (old new : Task_data A) : Type 0 where
-  Before : old.failed ≡ true → new ≡ old → IsRefused session old new
-  Asked : old.failed ≡ false → AsksInVain old new → IsRefused session old new
-  Told : old.failed ≡ false → TellsInVain session old new → IsRefused session old new
+pub data TaskIsRefused {A : Type 0} (session : Rings_data) (old new : Task_data A) : Type 0 where
+  Before : old.failed ≡ true → new ≡ old → TaskIsRefused session old new
+  Asked : old.failed ≡ false → AsksInVain old new → TaskIsRefused session old new
+  Told : old.failed ≡ false → TellsInVain session old new → TaskIsRefused session old new
 
 -- a turn of a task below its limit, which goes on
-pub record GoesOn {A : Type 0} (old new : Task_data A) : Type 0 where
+pub record TaskGoesOn {A : Type 0} (old new : Task_data A) : Type 0 where
   pub below : length old.transcript < old.limit
   pub limit : new.limit ≡ old.limit
   pub was : old.failed ≡ false
   pub is : new.failed ≡ false
 
 -- a turn that changes nothing
-pub record Stays {A : Type 0} (old new : Task_data A) : Type 0 where
+pub record TaskStays {A : Type 0} (old new : Task_data A) : Type 0 where
   pub same : new ≡ old
   pub was : old.failed ≡ false
 
 -- what a turn tells
-abbrev pub TurnTells : {A : Type 0} → Rings_data → Behaviour A → Task_data A → Task_data A → Turn → Type 0
-TurnTells session b old new turn.Moved = GoesOn old new × (Sends session b old new ⊎ Receives session b old new)
-TurnTells session b old new (turn.Waits (why.Full peer sent taken)) = GoesOn old new × WaitsToSend session b peer sent taken old new
-TurnTells session b old new (turn.Waits (why.Empty peer seen)) = GoesOn old new × WaitsToReceive session peer seen old new
-TurnTells session b old new turn.Ended = Stays old new × HasEnded old.stage
-TurnTells session b old new turn.AtLimit = Stays old new × (HasEnded old.stage → ⊥) × (old.limit ≤ length old.transcript)
-TurnTells session b old new turn.NoMemory = IsRefused session old new
+abbrev pub TaskTurnTells : {A : Type 0} → Rings_data → Behaviour A → Task_data A → Task_data A → Turn → Type 0
+TaskTurnTells session b old new turn.Moved = TaskGoesOn old new × (TaskSends session b old new ⊎ TaskReceives session b old new)
+TaskTurnTells session b old new (turn.Waits (why.Full peer sent taken)) = TaskGoesOn old new × WaitsToSend session b peer sent taken old new
+TaskTurnTells session b old new (turn.Waits (why.Empty peer seen)) = TaskGoesOn old new × WaitsToReceive session peer seen old new
+TaskTurnTells session b old new turn.Ended = TaskStays old new × HasEnded old.stage
+TaskTurnTells session b old new turn.AtLimit = TaskStays old new × (HasEnded old.stage → ⊥) × (old.limit ≤ length old.transcript)
+TaskTurnTells session b old new turn.NoMemory = TaskIsRefused session old new
 
 -- actor x plays the history of the stage with its role's machine, up to the state at which the stage stands; it keeps that
 -- choice, if any, and has become y
@@ -128,8 +128,8 @@ pub record PlaysStage {A : Type 0} (session : Rings_data) (b : Behaviour A) (x :
   pub actor : A
   pub runs : slice_get session.machines stage.role.0 ≡ Some machine
   pub plays : PlaysFrom b machine machine.start x stage.part.history stage.part.state actor
-  pub keeps : Keeps b machine stage.part.state actor kept y
+  pub keeps : KeepsChoice b machine stage.part.state actor kept y
 
 -- actor x plays the history of the task's role and has become the task's actor
 abbrev pub PlaysTask : {A : Type 0} → Rings_data → Behaviour A → A → Task_data A → Type 0
-PlaysTask session b x task = PlaysStage session b x (shown task.stage) task.kept task.actor
+PlaysTask session b x task = PlaysStage session b x (sight_of_stage task.stage) task.kept task.actor

@@ -3,8 +3,8 @@
 ghost use Rattle.std.specs.Prelude.{◌≡◌, ◌≤◌, length, IfErr, IfOk, ℕ, Some};
 ghost use Rattle.rs_model.specs.Limits.{IsCapacity};
 ghost use Rattle.rs_core.specs.Plain.{Ending, IsPlain};
-ghost use Rattle.rs_core.specs.Runs.{IsGiven, IsShown};
-ghost use Rattle.rs_exec.specs.Inline.{Tells};
+ghost use Rattle.rs_core.specs.Runs.{IsGiven, EndingShows};
+ghost use Rattle.rs_exec.specs.Inline.{RunFaultTells};
 ghost use Rattle.rs_exec.specs.Runs.{IsSessionOfRun};
 ghost use Rattle.rs_exec.specs.declared.inline.ExecFault.TheVariants as fault;
 ghost use Rattle.rs_safety.specs.Room.{room_of};
@@ -59,9 +59,9 @@ pub fn run_inline<A: Actor>(
 ) -> Result<Ran<A>, ExecFault>
     requires actors { length actors.items ≡ length accepted.now.machines }
     requires capacity { IsCapacity capacity }
-    ensures plain { IfOk result (λ r. (given : ℕ → A) → IsGiven given actors.items → (o : Ending A) × IsPlain accepted.now.machines A.behaviour given limit (Some capacity) o × IsShown (length accepted.now.machines) o r.run.outcome r.run.actors.items) }
+    ensures plain { IfOk result (λ r. (given : ℕ → A) → IsGiven given actors.items → (o : Ending A) × IsPlain accepted.now.machines A.behaviour given limit (Some capacity) o × EndingShows (length accepted.now.machines) o r.run.outcome r.run.actors.items) }
     ensures closed { IfOk result (λ r. IsSessionOfRun accepted.now.machines A.behaviour actors.items limit r.closed r.run.outcome r.run.actors.items) }
-    ensures full { IfErr result (λ e. (given : ℕ → A) → IsGiven given actors.items → Tells accepted.now.machines A.behaviour given limit capacity e) }
+    ensures full { IfErr result (λ e. (given : ℕ → A) → IsGiven given actors.items → RunFaultTells accepted.now.machines A.behaviour given limit capacity e) }
     ensures enough { room_of accepted.now.derivations ≤ capacity → IfErr result (λ e. e ≡ fault.NoMemory) }
 {
     let (session, all) = Session::begin_together(alloc, accepted, capacity)?;

@@ -1,9 +1,9 @@
 // The roles in a run on one thread, and their turns.
 ghost use Rattle.std.specs.Prelude.{◌≡◌, ◌≢◌, ◌<◌, ◌^◌, ℕ, [], None, Some, IfOk, OnOk, length, slice_get};
 ghost use Rattle.rs_core.specs.Configurations.{state_of};
-ghost use Rattle.rs_core.specs.Plain.{offered};
+ghost use Rattle.rs_core.specs.Plain.{offer_of};
 ghost use Rattle.rs_core.specs.Turns.{TurnTells};
-ghost use Rattle.rs_exec.specs.Members.{HasTurned, IsReady, KeepsHold, core_of, player_of, turned_by};
+ghost use Rattle.rs_exec.specs.Members.{HasTurned, MemberIsReady, KeepsHold, core_of, player_of, turn_kind_of};
 ghost use Rattle.rs_model.specs.declared.machines.State.TheVariants.{Puts, Takes};
 ghost use Rattle.rs_rings.specs.Views.{state_in};
 
@@ -49,9 +49,9 @@ impl<A: Actor> Member<A> {
         role: Role,
         limit: u32,
     ) -> Result<Went, NoMemory>
-        requires ready { IsReady session.now all.old role.0 self.old }
+        requires ready { MemberIsReady session.now all.old role.0 self.old }
         ensures held { KeepsHold all.old all.new }
-        ensures tells { IfOk result (λ t. TurnTells A.behaviour limit (Some session.now.capacity) (core_of session.now.machines all.old.view) (player_of self.old) role.0 (core_of session.now.machines all.new.view) (player_of self.new) (turned_by t)) }
+        ensures tells { IfOk result (λ t. TurnTells A.behaviour limit (Some session.now.capacity) (core_of session.now.machines all.old.view) (player_of self.old) role.0 (core_of session.now.machines all.new.view) (player_of self.new) (turn_kind_of t)) }
         ensures turned { OnOk result (HasTurned A.behaviour session.now role.0 all.old.view all.new.view self.old self.new) }
     {
         let machine = session.machine(role);
@@ -82,11 +82,11 @@ impl<A: Actor> Member<A> {
         peer: Role,
         arms: &[Arm],
     ) -> Result<Went, NoMemory>
-        requires ready { IsReady session.now all.old role.0 self.old }
+        requires ready { MemberIsReady session.now all.old role.0 self.old }
         requires stands { state_of (slice_get session.now.machines role.0) (state_in all.old.view role.0) ≡ Some (Puts peer arms.now) }
         requires few { length self.old.entries.items < 2 ^ 63 }
         ensures held { KeepsHold all.old all.new }
-        ensures tells { IfOk result (λ t. (limit : ℕ) → length self.old.entries.items < limit → TurnTells A.behaviour limit (Some session.now.capacity) (core_of session.now.machines all.old.view) (player_of self.old) role.0 (core_of session.now.machines all.new.view) (player_of self.new) (turned_by t)) }
+        ensures tells { IfOk result (λ t. (limit : ℕ) → length self.old.entries.items < limit → TurnTells A.behaviour limit (Some session.now.capacity) (core_of session.now.machines all.old.view) (player_of self.old) role.0 (core_of session.now.machines all.new.view) (player_of self.new) (turn_kind_of t)) }
         ensures turned { OnOk result (HasTurned A.behaviour session.now role.0 all.old.view all.new.view self.old self.new) }
     {
         let (arm, value) = self.offer(alloc, arms)?;
@@ -122,11 +122,11 @@ impl<A: Actor> Member<A> {
         peer: Role,
         arms: &[Arm],
     ) -> Result<Went, NoMemory>
-        requires ready { IsReady session.now all.old role.0 self.old }
+        requires ready { MemberIsReady session.now all.old role.0 self.old }
         requires stands { state_of (slice_get session.now.machines role.0) (state_in all.old.view role.0) ≡ Some (Takes peer arms.now) }
         requires few { length self.old.entries.items < 2 ^ 63 }
         ensures held { KeepsHold all.old all.new }
-        ensures tells { IfOk result (λ t. (limit : ℕ) → length self.old.entries.items < limit → TurnTells A.behaviour limit (Some session.now.capacity) (core_of session.now.machines all.old.view) (player_of self.old) role.0 (core_of session.now.machines all.new.view) (player_of self.new) (turned_by t)) }
+        ensures tells { IfOk result (λ t. (limit : ℕ) → length self.old.entries.items < limit → TurnTells A.behaviour limit (Some session.now.capacity) (core_of session.now.machines all.old.view) (player_of self.old) role.0 (core_of session.now.machines all.new.view) (player_of self.new) (turn_kind_of t)) }
         ensures turned { OnOk result (HasTurned A.behaviour session.now role.0 all.old.view all.new.view self.old self.new) }
     {
         match all.look_take(session, role, peer) {
@@ -147,7 +147,7 @@ impl<A: Actor> Member<A> {
     /// What the role offers to send: the choice that was kept, or else what the actor chooses.
     fn offer(&mut self, alloc: Global, arms: &[Arm]) -> Result<(u16, Value), NoMemory>
         requires { arms.now ≢ [] }
-        ensures offers { IfOk result (λ c. offered A.behaviour self.old.actor self.old.kept arms.now ≡ ((c.0, c.1), self.new.actor)) }
+        ensures offers { IfOk result (λ c. offer_of A.behaviour self.old.actor self.old.kept arms.now ≡ ((c.0, c.1), self.new.actor)) }
         ensures kept { OnOk result (self.new.kept ≡ None) }
         ensures others { OnOk result ((self.new.entries ≡ self.old.entries) × (self.new.state ≡ self.old.state)) }
     {

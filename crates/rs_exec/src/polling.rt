@@ -3,7 +3,7 @@ ghost use Rattle.std.specs.Prelude.{◌≡◌};
 ghost use Rattle.futures.specs.Poll.{IfReady, OnPending};
 ghost use Rattle.futures.specs.Task.{Covers, Keeps};
 ghost use Rattle.rs_exec.specs.Polling.{HasStopped, PollTells};
-ghost use Rattle.rs_exec.specs.Tasks.{IsTaskOf, TurnTells};
+ghost use Rattle.rs_exec.specs.Tasks.{IsTaskOf, TaskTurnTells};
 ghost use Rattle.rs_exec.specs.declared.tasks.Turn.{Turn};
 
 use crate::tasks::{RoleTask, Turn};
@@ -35,7 +35,7 @@ pub struct SessionTask<A: Drop, N: SessionName> {
 
 impl<A: Drop, N: SessionName> Model for SessionTask<A, N> {
     ghost use Rattle.rs_exec.specs.Data.{Task_data};
-    ghost use Rattle.rs_exec.specs.Tasks.{IsTaskOf, TurnTells};
+    ghost use Rattle.rs_exec.specs.Tasks.{IsTaskOf, TaskTurnTells};
 
     ghost Value = { Task_data A };
 
@@ -60,7 +60,7 @@ impl<A: Actor, N: SessionName> SessionTask<A, N> {
     pub fn turn(&mut self, alloc: Global, session: &Session) -> Turn
         requires session { session.now ≡ N.session }
         ensures of { IsTaskOf session.now self.new }
-        ensures tells { TurnTells session.now A.behaviour self.old self.new result }
+        ensures tells { TaskTurnTells session.now A.behaviour self.old self.new result }
     {
         self.task.turn(alloc, session)
     }

@@ -4,10 +4,10 @@ ghost use Rattle.rs_model.specs.declared.limits.TheConstants.{MOST_ROLES};
 ghost use Rattle.rs_core.specs.Choices.{AreWellFormed};
 ghost use Rattle.rs_core.specs.Kinds.{a_player};
 ghost use Rattle.rs_core.specs.Plain.{Ending, IsPlain};
-ghost use Rattle.rs_core.specs.Runs.{AreReady, IsAmong, IsGiven, IsShown, got_from, sent_to};
+ghost use Rattle.rs_core.specs.Runs.{AreReady, IsAmong, IsGiven, EndingShows, got_from, sent_to};
 ghost use Rattle.rs_core.specs.Safety.{IsSafe};
 ghost use Rattle.rs_core.specs.declared.runs.Outcome.TheVariants as outcome;
-ghost use Rattle.rs_exec.specs.Inline.{Tells};
+ghost use Rattle.rs_exec.specs.Inline.{RunFaultTells};
 ghost use Rattle.rs_exec.specs.Members.{AreNew, AreTogether, IsBegun, KeepsHold, core_of, players_of};
 ghost use Rattle.rs_exec.specs.Rounds.{HasPlayedOut, end_by};
 ghost use Rattle.rs_exec.specs.Runs.{IsSessionOfRun};
@@ -33,15 +33,15 @@ pub(crate) fn run_over<A: Actor>(
     requires safe { IsSafe session.machines }
     requires well_formed { AreWellFormed session.machines }
     requires actors { length actors.items ≡ length session.machines }
-    ensures plain { IfOk result (λ r. (given : ℕ → A) → IsGiven given actors.items → (o : Ending A) × IsPlain session.machines A.behaviour given limit (Some session.capacity) o × IsShown (length session.machines) o r.run.outcome r.run.actors.items) }
+    ensures plain { IfOk result (λ r. (given : ℕ → A) → IsGiven given actors.items → (o : Ending A) × IsPlain session.machines A.behaviour given limit (Some session.capacity) o × EndingShows (length session.machines) o r.run.outcome r.run.actors.items) }
     ensures closed { IfOk result (λ r. IsSessionOfRun session.machines A.behaviour actors.items limit r.closed r.run.outcome r.run.actors.items) }
-    ensures full { IfErr result (λ e. (given : ℕ → A) → IsGiven given actors.items → Tells session.machines A.behaviour given limit session.capacity e) }
+    ensures full { IfErr result (λ e. (given : ℕ → A) → IsGiven given actors.items → RunFaultTells session.machines A.behaviour given limit session.capacity e) }
 {
     let mut all = all;
     match play_all(alloc, &session, &mut all, actors, limit) {
         Ok((Finish::Ended, members)) => {
             let closed = session.close_together(all);
-            let run = ended(alloc, members)?;
+            let run = run_that_ended(alloc, members)?;
             Ok(Ran { run, closed })
         }
         Ok((Finish::Stopped(role), members)) => {
@@ -114,7 +114,7 @@ fn members_of<A: Actor>(
     Ok(members)
 }
 
-fn ended<A: Actor>(alloc: Global, members: Vec<Member<A>>) -> Result<Run<A>, NoMemory>
+fn run_that_ended<A: Actor>(alloc: Global, members: Vec<Member<A>>) -> Result<Run<A>, NoMemory>
     ensures outcome { IfOk result (λ r. r.outcome ≡ outcome.Ended (map (λ m. m.entries.items) members.items)) }
     ensures actors { IfOk result (λ r. r.actors.items ≡ map (λ m. m.actor) members.items) }
 {

@@ -1,10 +1,10 @@
 //! Tasks: an actor that plays its role, turn by turn.
 ghost use Rattle.std.specs.Prelude.{◌≡◌, ◌≢◌, ◌≤◌, ◌<◌, ◌++◌, ◌∷◌, [], false, IfErr, IfOk, None, OnErr, OnOk, Some, length, slice_get, vec_capacity};
 ghost use Rattle.rs_core.specs.Histories.{transcript_of};
-ghost use Rattle.rs_core.specs.Plain.{offered};
+ghost use Rattle.rs_core.specs.Plain.{offer_of};
 ghost use Rattle.rs_exec.specs.Players.{IsInTime, task_of};
-ghost use Rattle.rs_exec.specs.Tasks.{IsTaskOf, TurnTells};
-ghost use Rattle.rs_session.specs.Stages.{IsReceiving, IsSending, shown, state_at};
+ghost use Rattle.rs_exec.specs.Tasks.{IsTaskOf, TaskTurnTells};
+ghost use Rattle.rs_session.specs.Stages.{IsReceiving, IsSending, sight_of_stage, state_at};
 ghost use Rattle.rs_session.specs.declared.stages.Stage.TheVariants as kind;
 ghost use Rattle.rs_model.specs.declared.machines.State.TheVariants.{Puts, Takes};
 
@@ -56,13 +56,13 @@ pub struct RoleTask<A: Drop> {
 
 impl<A: Drop> Model for RoleTask<A> {
     ghost use Rattle.rs_exec.specs.Data.{Task_data};
-    ghost use Rattle.rs_exec.specs.Players.{IsWhole, stage_in, task_of};
+    ghost use Rattle.rs_exec.specs.Players.{PlayerIsWhole, stage_in, task_of};
 
     ghost Value = { Task_data A };
 
     ghost view = { λ t. task_of (stage_in t.stage) t.player };
 
-    ghost invariant = { λ t. IsWhole t.stage t.player };
+    ghost invariant = { λ t. PlayerIsWhole t.stage t.player };
 }
 
 impl<A: Actor> RoleTask<A> {
@@ -73,7 +73,7 @@ impl<A: Actor> RoleTask<A> {
         actor: A,
         limit: u32,
     ) -> Result<RoleTask<A>, (Stage, A, NoMemory)>
-        requires nothing { (shown stage).part.history ≡ [] }
+        requires nothing { (sight_of_stage stage).part.history ≡ [] }
         ensures task { IfOk result (λ t. t ≡ record { stage = stage; actor = actor; limit = limit; kept = None; transcript = []; failed = false }) }
         ensures back { IfErr result (λ e. (e.0 ≡ stage) × (e.1 ≡ actor)) }
     {
@@ -96,7 +96,7 @@ impl<A: Actor> RoleTask<A> {
     pub fn turn(&mut self, alloc: Global, session: &Session) -> Turn
         requires of { IsTaskOf session.now self.old }
         ensures of { IsTaskOf session.now self.new }
-        ensures tells { TurnTells session.now A.behaviour self.old self.new result }
+        ensures tells { TaskTurnTells session.now A.behaviour self.old self.new result }
     {
         if self.player.failed {
             return Turn::NoMemory;
@@ -114,7 +114,7 @@ impl<A: Actor> RoleTask<A> {
     /// The stage, the actor and the transcript. Takes no memory.
     pub fn into_parts(self) -> (Stage, A, Transcript)
         ensures parts { (result.0 ≡ self.stage) × (result.1 ≡ self.actor) × (result.2 ≡ self.transcript) }
-        ensures transcript { self.transcript ≡ transcript_of (shown self.stage).part.history }
+        ensures transcript { self.transcript ≡ transcript_of (sight_of_stage self.stage).part.history }
     {
         let RoleTask { stage, player } = self;
         match stage {
@@ -125,8 +125,8 @@ impl<A: Actor> RoleTask<A> {
 
     /// Gives the role up where it stands. Takes no memory.
     pub fn leave(self) -> (Left, A, Transcript)
-        ensures parts { (result.0 ≡ shown self.stage) × (result.1 ≡ self.actor) × (result.2 ≡ self.transcript) }
-        ensures transcript { self.transcript ≡ transcript_of (shown self.stage).part.history }
+        ensures parts { (result.0 ≡ sight_of_stage self.stage) × (result.1 ≡ self.actor) × (result.2 ≡ self.transcript) }
+        ensures transcript { self.transcript ≡ transcript_of (sight_of_stage self.stage).part.history }
     {
         let (stage, actor, transcript) = self.into_parts();
         (stage.leave(), actor, transcript)
@@ -151,7 +151,7 @@ impl<A: Actor> Player<A> {
         requires well { self.old.failed ≡ false }
         ensures of { IsTaskOf session.now (task_of result.0 self.new) }
         ensures in_time { IsInTime result.0 self.new }
-        ensures tells { TurnTells session.now A.behaviour (task_of stage self.old) (task_of result.0 self.new) result.1 }
+        ensures tells { TaskTurnTells session.now A.behaviour (task_of stage self.old) (task_of result.0 self.new) result.1 }
     {
         match stage {
             Stage::Ended(stage) => (Stage::Ended(stage), Turn::Ended),
@@ -177,7 +177,7 @@ impl<A: Actor> Player<A> {
         requires below { length self.old.entries.items < self.old.limit }
         ensures of { IsTaskOf session.now (task_of result.0 self.new) }
         ensures in_time { IsInTime result.0 self.new }
-        ensures tells { TurnTells session.now A.behaviour (task_of (kind.Sending stage) self.old) (task_of result.0 self.new) result.1 }
+        ensures tells { TaskTurnTells session.now A.behaviour (task_of (kind.Sending stage) self.old) (task_of result.0 self.new) result.1 }
     {
         let (peer, arms) = sending_arms(session, &stage);
         match self.offer(alloc, arms) {
@@ -216,7 +216,7 @@ impl<A: Actor> Player<A> {
         requires below { length self.old.entries.items < self.old.limit }
         ensures of { IsTaskOf session.now (task_of result.0 self.new) }
         ensures in_time { IsInTime result.0 self.new }
-        ensures tells { TurnTells session.now A.behaviour (task_of (kind.Receiving stage) self.old) (task_of result.0 self.new) result.1 }
+        ensures tells { TaskTurnTells session.now A.behaviour (task_of (kind.Receiving stage) self.old) (task_of result.0 self.new) result.1 }
     {
         let (peer, arms) = receiving_arms(session, &stage);
         match stage.receive(session) {
@@ -242,7 +242,7 @@ impl<A: Actor> Player<A> {
     /// What the role offers to send: the choice that was kept, or else what the actor chooses.
     fn offer(&mut self, alloc: Global, arms: &[Arm]) -> Result<(u16, Value), NoMemory>
         requires { arms.now ≢ [] }
-        ensures offers { IfOk result (λ c. offered A.behaviour self.old.actor self.old.kept arms.now ≡ ((c.0, c.1), self.new.actor)) }
+        ensures offers { IfOk result (λ c. offer_of A.behaviour self.old.actor self.old.kept arms.now ≡ ((c.0, c.1), self.new.actor)) }
         ensures kept { OnOk result (self.new.kept ≡ None) }
         ensures others { (self.new.entries ≡ self.old.entries) × (self.new.limit ≡ self.old.limit) × (self.new.failed ≡ self.old.failed) }
         ensures refused { OnErr result ((self.old.kept ≡ None) × (self.new.kept ≡ None) × (self.new.actor ≡ self.old.actor)) }

@@ -8,7 +8,7 @@ use Rattle.rs_model.specs.Data.{Names_data}
 use Rattle.rs_text.proofs.Basics.{some_is, or_first, or_cases}
 use Rattle.rs_text.proofs.Gaps.{true_or_false}
 use Rattle.rs_text.proofs.Naming.{grown_among, grown_differ, place_stands, placed_by, bytes_same, at_among, among_at, place_at}
-use Rattle.rs_text.specs.Names.{number_or, grown, is_among, place_of, differ}
+use Rattle.rs_text.specs.Names.{number_or, names_with, is_among, place_of, differ}
 use Rattle.rs_bodies.specs.declared.dialects.Dialect.TheVariants.{Talks}
 use Rattle.rs_bodies.specs.Graph.{labels_of, label_of}
 use Rattle.rs_bodies.proofs.CanonForms.{Writing, label_as, HasLabel, label_stands}
@@ -49,16 +49,16 @@ among_map f all x (y ∷ names) inj a within =
     or_same (bytes_eq (f y) (f x)) (is_among (f x) (map f names)) (bytes_eq y x) (is_among x names)
     (same_test f all y x inj (within y (or_first (bytes_eq y y) (is_among y names) (bytes_same y))) a) (among_map f all x names inj a (λ z h. within z (or_second (bytes_eq y z) (is_among z names) h)))
 
-pub grown_map : (f : List ℕ → List ℕ) (all xs names : List (List ℕ)) → Injects f all → ((y : List ℕ) → is_among y names ≡ true → is_among y all ≡ true) → ((y : List ℕ) → is_among y xs ≡ true → is_among y all ≡ true) → grown (map f names) (map f xs) ≡ map f (grown names xs)
+pub grown_map : (f : List ℕ → List ℕ) (all xs names : List (List ℕ)) → Injects f all → ((y : List ℕ) → is_among y names ≡ true → is_among y all ≡ true) → ((y : List ℕ) → is_among y xs ≡ true → is_among y all ≡ true) → names_with (map f names) (map f xs) ≡ map f (names_with names xs)
 grown_map f all [] names inj old new = refl
 grown_map f all (x ∷ xs) names inj old new =
     let there : is_among x all ≡ true = new x (or_first (bytes_eq x x) (is_among x xs) (bytes_same x)) in
     let test : is_among (f x) (map f names) ≡ is_among x names = among_map f all x names inj there old in
-    let step : Bool → List (List ℕ) = λ z. grown (if z then map f names else map f names ++ f x ∷ []) (map f xs) in
-    let plain : Bool → List (List ℕ) = λ z. map f (grown (if z then names else names ++ x ∷ []) xs) in
+    let step : Bool → List (List ℕ) = λ z. names_with (if z then map f names else map f names ++ f x ∷ []) (map f xs) in
+    let plain : Bool → List (List ℕ) = λ z. map f (names_with (if z then names else names ++ x ∷ []) xs) in
     elim (true_or_false (is_among x names)) [
       | inl e ↦ ap step (test ∙ e) ∙ grown_map f all xs names inj old (λ y h. new y (or_second (bytes_eq x y) (is_among y xs) h)) ∙ ap plain (sym e)
-      | inr e ↦ ap step (test ∙ e) ∙ ap (λ z. grown z (map f xs)) (sym (map-append f names (x ∷ [])))
+      | inr e ↦ ap step (test ∙ e) ∙ ap (λ z. names_with z (map f xs)) (sym (map-append f names (x ∷ [])))
           ∙ grown_map f all xs (names ++ x ∷ []) inj
           (λ y h. or_cases (is_among y all ≡ true) (is_among y names) (is_among y (x ∷ [])) (sym (list_any-append (λ z. bytes_eq z y) names (x ∷ [])) ∙ h) (λ a. old y a) (λ a. or_cases (is_among y all ≡ true) (bytes_eq x y) false a (λ b. subst (λ (z : List ℕ). is_among z all ≡ true) ((bytes_eq-Decides x y).0 b) there) (λ b. absurd (cc b))))
           (λ y h. new y (or_second (bytes_eq x y) (is_among y xs) h))
@@ -73,7 +73,7 @@ take_map f (x ∷ all) (l ∷ labels) h = ap (λ z. z ∷ map f all) (sym (some_
 -- ---- the labels
 
 abbrev pub labels_read : ProtocolTree → List (List ℕ)
-labels_read t = grown [] (labels_of Talks t.body)
+labels_read t = names_with [] (labels_of Talks t.body)
 
 pub labels_differ : (t : ProtocolTree) → differ (labels_read t) ≡ true
 labels_differ t = grown_differ (labels_of Talks t.body) [] refl
@@ -105,7 +105,7 @@ labels_inject t names has d x y a b e =
     some_is x y (sym i.1 ∙ ap (λ z. slice_get (labels_read t) z) same ∙ j.1)
 
 -- the labels that are written, in order of first places
-pub labels_written : (t : ProtocolTree) (names : Names_data) → HasLabels t names → differ names.labels ≡ true → grown [] (map (label_as (writing_of t names)) (labels_of Talks t.body)) ≡ map (label_as (writing_of t names)) (labels_read t)
+pub labels_written : (t : ProtocolTree) (names : Names_data) → HasLabels t names → differ names.labels ≡ true → names_with [] (map (label_as (writing_of t names)) (labels_of Talks t.body)) ≡ map (label_as (writing_of t names)) (labels_read t)
 labels_written t names has d = grown_map (label_as (writing_of t names)) (labels_read t) (labels_of Talks t.body) [] (labels_inject t names has d) (λ y h. absurd (cc h)) (λ y h. among_read t y h)
 
 pub labels_taken : (t : ProtocolTree) (names : Names_data) → HasLabels t names → map (label_as (writing_of t names)) (labels_read t) ≡ take (length (labels_read t)) names.labels
@@ -140,7 +140,7 @@ carries t names has d =
           subst (λ (z : List (List ℕ)). (is_among (f l) z || nat_lt (length z) 256) ≡ true) (sym r.0)
           (ap (λ z. is_among (f l) (map f ls) || nat_lt z 256) (length-map ls f) ∙ ap (λ z. z || nat_lt (length ls) 256) (among_map f (labels_read t) l ls inj (among_read t l p) r.1) ∙ h);
       grows = λ l ls labels p r. (
-        ap (λ z. grown z (f l ∷ [])) r.0 ∙ grown_map f (labels_read t) (l ∷ []) ls inj r.1 (λ y a. or_cases (is_among y (labels_read t) ≡ true) (bytes_eq l y) false a (λ b. subst (λ (z : List ℕ). is_among z (labels_read t) ≡ true) ((bytes_eq-Decides l y).0 b) (among_read t l p)) (λ b. absurd (cc b))),
+        ap (λ z. names_with z (f l ∷ [])) r.0 ∙ grown_map f (labels_read t) (l ∷ []) ls inj r.1 (λ y a. or_cases (is_among y (labels_read t) ≡ true) (bytes_eq l y) false a (λ b. subst (λ (z : List ℕ). is_among z (labels_read t) ≡ true) ((bytes_eq-Decides l y).0 b) (among_read t l p)) (λ b. absurd (cc b))),
         (λ y a. or_cases (is_among y (labels_read t) ≡ true) (is_among y ls) (is_among y (l ∷ [])) (sym (grown_among (l ∷ []) ls y) ∙ a) (λ b. r.1 y b)
             (λ b. or_cases (is_among y (labels_read t) ≡ true) (bytes_eq l y) false b (λ c. subst (λ (z : List ℕ). is_among z (labels_read t) ≡ true) ((bytes_eq-Decides l y).0 c) (among_read t l p)) (λ c. absurd (cc c)))),
       );

@@ -6,7 +6,7 @@ use Rattle.rs_model.specs.Data.{Protocol_data, Names_data}
 use Rattle.rs_model.specs.declared.graph.Node.{Node}
 use Rattle.rs_text.proofs.Basics.{some_is}
 use Rattle.rs_text.proofs.Naming.{grown_among, among_at, place_at, all_at}
-use Rattle.rs_text.specs.Names.{number_or, grown, is_among, place_of, differ}
+use Rattle.rs_text.specs.Names.{number_or, names_with, is_among, place_of, differ}
 use Rattle.rs_text.specs.Sound.{IsSound}
 use Rattle.rs_text.specs.Words.{is_word, is_role_word}
 use Rattle.rs_bodies.specs.declared.dialects.Dialect.TheVariants.{Talks}
@@ -50,7 +50,7 @@ has_labels t names r l h = among_has (writing_of t names) (HasLabel (writing_of 
 are_read : (t : ProtocolTree) (names : Names_data) → Ready t names → HasNames (writing_of t names) (IsRead t) t.body
 are_read t names r = has_instead (writing_of t names) (HasLabel (writing_of t names)) (IsRead t) t.body (has_names t names r) (λ l h. h)
 
-written_labels : (t : ProtocolTree) (names : Names_data) → Ready t names → grown [] (labels_of Talks (canonical_tree t names).body) ≡ map (label_as (writing_of t names)) (labels_read t)
+written_labels : (t : ProtocolTree) (names : Names_data) → Ready t names → names_with [] (labels_of Talks (canonical_tree t names).body) ≡ map (label_as (writing_of t names)) (labels_read t)
 written_labels t names r =
     (carried (IsRead t) (Mapped t names) (writing_of t names) t.body [] 0 [] [] (carries t names (has_labels t names r) r.sound.labels_differ) (are_read t names r) (refl, (λ y h. absurd (cc h)))).0
 
@@ -96,9 +96,9 @@ written_names : (t : ProtocolTree) (names : Names_data) → Ready t names → na
 written_names t names r =
     let w = writing_of t names in
     let c = canonical_tree t names in
-    let labels : grown [] (labels_of Talks c.body) ≡ take (length (labels_read t)) names.labels = written_labels t names r ∙ labels_taken t names (has_labels t names r) in
-    let size : length (labels_read t) ≡ length (grown [] (labels_of Talks c.body)) = sym (ap length (written_labels t names r) ∙ length-map (labels_read t) (label_as w)) in
-    ap (λ z. record { roles = z; labels = grown [] (labels_of Talks c.body) }) (same_roles t names r.enough.roles) ∙ ap (λ z. record { roles = names.roles; labels = z }) (labels ∙ ap (λ z. take z names.labels) size)
+    let labels : names_with [] (labels_of Talks c.body) ≡ take (length (labels_read t)) names.labels = written_labels t names r ∙ labels_taken t names (has_labels t names r) in
+    let size : length (labels_read t) ≡ length (names_with [] (labels_of Talks c.body)) = sym (ap length (written_labels t names r) ∙ length-map (labels_read t) (label_as w)) in
+    ap (λ z. record { roles = z; labels = names_with [] (labels_of Talks c.body) }) (same_roles t names r.enough.roles) ∙ ap (λ z. record { roles = names.roles; labels = z }) (labels ∙ ap (λ z. take z names.labels) size)
 
 written_words : (t : ProtocolTree) (names : Names_data) → Ready t names → IsSound names → AreWords (canonical_tree t names)
 written_words t names r sound =
@@ -180,7 +180,7 @@ first_stand names n d l i a e =
 labels_first : (names : Names_data) (protocol : Protocol_data) (tree : ProtocolTree) → IsWritten names protocol tree → differ names.labels ≡ true → AreFirst names (length (names_of tree).labels) (labels_of Talks tree.body)
 labels_first names protocol tree w d l i a e =
     let n : ℕ = length (names_of tree).labels in
-    let labels : grown [] (labels_of Talks tree.body) ≡ take n names.labels = ap (λ z. z.labels) w.names_are in
+    let labels : names_with [] (labels_of Talks tree.body) ≡ take n names.labels = ap (λ z. z.labels) w.names_are in
     first_stand names n d l i (subst (λ (z : List (List ℕ)). is_among l z ≡ true) labels (grown_among (labels_of Talks tree.body) [] l ∙ a)) e
 
 pub printed_text_is_printed_again : (names others : Names_data) (protocol other : Protocol_data) (text : List ℕ) (until : ℕ) → IsTextShaped protocol → IsSound names → AreEnough names protocol → IsCanonicalText names protocol text → SpellsProtocol text 0 others other until → IsCanonicalText others other text

@@ -12,7 +12,7 @@ use Rattle.rs_text.specs.Names.{differ}
 use Rattle.rs_text.specs.Words.{is_role_word}
 use Rattle.rs_bodies.specs.declared.dialects.Dialect.TheVariants.{Talks}
 use Rattle.rs_bodies.specs.declared.places.Place.TheVariants as place
-use Rattle.rs_bodies.specs.Bodied.{numbered, SpellsPlaces, HasBody}
+use Rattle.rs_bodies.specs.Bodied.{numbering_behind, SpellsPlaces, HasBody}
 use Rattle.rs_bodies.specs.Fits.{body_fits}
 use Rattle.rs_bodies.specs.Graph.{acts_in, has_end, first_of}
 use Rattle.rs_bodies.specs.Places.{places_of_protocol, end_of}
@@ -77,8 +77,8 @@ body_text p two few h =
     let roles : roles_of t ≡ h.old.roles = line.are in
     let labels : h.old.labels ≡ [] = no_labels h.old.labels h.labels_are in
     let size : length (roles_of t) ≡ p.roles = ap length roles ∙ count in
-    let named : numbered Talks h.old h.body ≡ numbering t =
-    ap (λ z. numbered Talks (names_by h.old.roles z) h.body) labels ∙ ap (λ z. numbered Talks (names_by z []) h.body) (sym roles) in
+    let named : numbering_behind Talks h.old h.body ≡ numbering t =
+    ap (λ z. numbering_behind Talks (names_by h.old.roles z) h.body) labels ∙ ap (λ z. numbering_behind Talks (names_by z []) h.body) (sym roles) in
     let nodes : nodes_of (numbering t) h.body ++ finish_of (has_end Talks h.body) ≡ p.nodes =
     same_nodes (nodes_of (numbering t) h.body ++ finish_of (has_end Talks h.body)) p.nodes
     (whole_are (numbering t) h.body (has_end Talks h.body) ∙ ap (λ z. map place.Point (points_of Talks z h.body [] 0) ++ end_of (has_end Talks h.body)) (sym named) ∙ sym h.spells.places_are) in

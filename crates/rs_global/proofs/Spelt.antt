@@ -28,7 +28,7 @@ use Rattle.rs_bodies.proofs.Answers as answers
 use Rattle.rs_bodies.proofs.OneFault as faults
 use Rattle.rs_bodies.proofs.SpeltLaws as laws
 use Rattle.rs_bodies.proofs.SpeltRuns as runs
-use Rattle.rs_global.specs.Answers.{Answer, of_protocol, ReadsAs}
+use Rattle.rs_global.specs.Answers.{ProtocolAnswer, of_protocol, ReadsAs}
 use Rattle.rs_global.specs.Faults.{FirstFault, no_names}
 use Rattle.rs_global.specs.Graph.{talk_of, nodes_of, numbering, finish_of, graph_of, names_of}
 use Rattle.rs_global.specs.Parts.{node_at, graph_spelt}
@@ -110,46 +110,46 @@ of_part bytes at names protocol until k = record {
 
 -- ---- answers
 
-abbrev answer : Names_data → Protocol_data → ℕ → Answer
+abbrev answer : Names_data → Protocol_data → ℕ → ProtocolAnswer
 answer names protocol until = record { names = names; protocol = protocol; until = until }
 
-abbrev good : Answer → Result Answer TextFault
+abbrev good : ProtocolAnswer → Result ProtocolAnswer TextFault
 good a = Ok a
 
-good_is : (x y : Answer) → good x ≡ good y → x ≡ y
+good_is : (x y : ProtocolAnswer) → good x ≡ good y → x ≡ y
 good_is x y h = cc
 
-of_err : (x : Result bodies.Answer TextFault) (e : TextFault) → of_protocol x ≡ Err e → x ≡ Err e
+of_err : (x : Result bodies.PartAnswer TextFault) (e : TextFault) → of_protocol x ≡ Err e → x ≡ Err e
 of_err (Ok a) e h = cc
 of_err (Err g) e h = cc
 
-of_ok : (x : Result bodies.Answer TextFault) (a : Answer) → of_protocol x ≡ Ok a → (b : bodies.Answer) × (x ≡ Ok b) × (answer b.names (graph_spelt (length b.names.roles) b.spelling) b.until ≡ a)
+of_ok : (x : Result bodies.PartAnswer TextFault) (a : ProtocolAnswer) → of_protocol x ≡ Ok a → (b : bodies.PartAnswer) × (x ≡ Ok b) × (answer b.names (graph_spelt (length b.names.roles) b.spelling) b.until ≡ a)
 of_ok (Ok b) a h = (b, refl, good_is (answer b.names (graph_spelt (length b.names.roles) b.spelling) b.until) a h)
 of_ok (Err e) a h = cc
 
 -- what is read as a part is read as its protocol
-read_as : (bytes : List ℕ) (at : ℕ) (x : Result bodies.Answer TextFault) → bodies.ReadsAs Talks no_names bytes at x → ReadsAs bytes at (of_protocol x)
+read_as : (bytes : List ℕ) (at : ℕ) (x : Result bodies.PartAnswer TextFault) → bodies.ReadsAs Talks no_names bytes at x → ReadsAs bytes at (of_protocol x)
 read_as bytes at x h = λ ls lexed. ap of_protocol (h ls lexed)
 
-pub an_answer : (bytes : List ℕ) (at : ℕ) → at ≤ length bytes → (answer : Result Answer TextFault) × ReadsAs bytes at answer
+pub an_answer : (bytes : List ℕ) (at : ℕ) → at ≤ length bytes → (answer : Result ProtocolAnswer TextFault) × ReadsAs bytes at answer
 an_answer bytes at within = let a = answers.an_answer Talks no_names bytes at within in (of_protocol a.0, read_as bytes at a.0 a.1)
 
-pub one_answer : (bytes : List ℕ) (at : ℕ) (x y : Result Answer TextFault) → at ≤ length bytes → ReadsAs bytes at x → ReadsAs bytes at y → x ≡ y
+pub one_answer : (bytes : List ℕ) (at : ℕ) (x y : Result ProtocolAnswer TextFault) → at ≤ length bytes → ReadsAs bytes at x → ReadsAs bytes at y → x ≡ y
 one_answer bytes at x y h p q = let t = tokens bytes at h in sym (p t.0 t.1) ∙ q t.0 t.1
 
 -- what is read as a protocol is read as a part
-part_read : (bytes : List ℕ) (at : ℕ) (x : Result Answer TextFault) → at ≤ length bytes → ReadsAs bytes at x → (y : Result bodies.Answer TextFault) × bodies.ReadsAs Talks no_names bytes at y × (of_protocol y ≡ x)
+part_read : (bytes : List ℕ) (at : ℕ) (x : Result ProtocolAnswer TextFault) → at ≤ length bytes → ReadsAs bytes at x → (y : Result bodies.PartAnswer TextFault) × bodies.ReadsAs Talks no_names bytes at y × (of_protocol y ≡ x)
 part_read bytes at x within h =
     let a = answers.an_answer Talks no_names bytes at within in
     (a.0, a.1, one_answer bytes at (of_protocol a.0) x within (read_as bytes at a.0 a.1) h)
 
 -- a text that is read as a protocol spells it ..
-pub sound : (bytes : List ℕ) (at : ℕ) (a : Answer) → at ≤ length bytes → ReadsAs bytes at (Ok a) → SpellsProtocol bytes at a.names a.protocol a.until
+pub sound : (bytes : List ℕ) (at : ℕ) (a : ProtocolAnswer) → at ≤ length bytes → ReadsAs bytes at (Ok a) → SpellsProtocol bytes at a.names a.protocol a.until
 sound bytes at a within h =
     let p = part_read bytes at (Ok a) within h in
     let b = of_ok p.0 a p.2 in
-    let read : bodies.ReadsAs Talks no_names bytes at (Ok b.0) = subst (λ (z : Result bodies.Answer TextFault). bodies.ReadsAs Talks no_names bytes at z) b.1 p.1 in
-    subst (λ (z : Answer). SpellsProtocol bytes at z.names z.protocol z.until) b.2 (to_protocol bytes at b.0.names b.0.spelling b.0.until (runs.sound Talks no_names bytes at b.0 within read))
+    let read : bodies.ReadsAs Talks no_names bytes at (Ok b.0) = subst (λ (z : Result bodies.PartAnswer TextFault). bodies.ReadsAs Talks no_names bytes at z) b.1 p.1 in
+    subst (λ (z : ProtocolAnswer). SpellsProtocol bytes at z.names z.protocol z.until) b.2 (to_protocol bytes at b.0.names b.0.spelling b.0.until (runs.sound Talks no_names bytes at b.0 within read))
 
 -- .. and the other way round
 pub complete : (bytes : List ℕ) (at : ℕ) (names : Names_data) (protocol : Protocol_data) (until : ℕ) → SpellsProtocol bytes at names protocol until → ReadsAs bytes at (Ok (record { names = names; protocol = protocol; until = until }))
@@ -176,7 +176,7 @@ spelt_or_faulty bytes at within = elim (laws.spelt_or_faulty Talks no_names byte
 ]
 
 -- a text that a tree spells is read ..
-pub spelt_is_read : (bytes : List ℕ) (at : ℕ) (names : Names_data) (protocol : Protocol_data) (until : ℕ) → SpellsProtocol bytes at names protocol until → (answer : Answer) × ReadsAs bytes at (Ok answer)
+pub spelt_is_read : (bytes : List ℕ) (at : ℕ) (names : Names_data) (protocol : Protocol_data) (until : ℕ) → SpellsProtocol bytes at names protocol until → (answer : ProtocolAnswer) × ReadsAs bytes at (Ok answer)
 spelt_is_read bytes at names protocol until s = (answer names protocol until, complete bytes at names protocol until s)
 
 -- .. and has no first fault
@@ -188,12 +188,12 @@ spelt_no_fault bytes at names protocol until k offset s f = laws.spelt_no_fault 
 pub first_fault : (bytes : List ℕ) (at : ℕ) (e : TextFault) → at ≤ length bytes → ReadsAs bytes at (Err e) → FirstFault bytes at e.kind e.at
 first_fault bytes at e within h =
     let p = part_read bytes at (Err e) within h in
-    faults.first_fault Talks no_names bytes at e within (subst (λ (z : Result bodies.Answer TextFault). bodies.ReadsAs Talks no_names bytes at z) (of_err p.0 e p.2) p.1)
+    faults.first_fault Talks no_names bytes at e within (subst (λ (z : Result bodies.PartAnswer TextFault). bodies.ReadsAs Talks no_names bytes at z) (of_err p.0 e p.2) p.1)
 
 pub tells : (bytes : List ℕ) (at : ℕ) (k : TextKind) (offset : ℕ) → FirstFault bytes at k offset → ReadsAs bytes at (Err (record { kind = k; at = offset }))
 tells bytes at k offset f = read_as bytes at (Err (record { kind = k; at = offset })) (faults.tells Talks no_names bytes at k offset f)
 
-pub no_fault : (bytes : List ℕ) (at : ℕ) (a : Answer) (k : TextKind) (offset : ℕ) → ReadsAs bytes at (Ok a) → FirstFault bytes at k offset → ⊥
+pub no_fault : (bytes : List ℕ) (at : ℕ) (a : ProtocolAnswer) (k : TextKind) (offset : ℕ) → ReadsAs bytes at (Ok a) → FirstFault bytes at k offset → ⊥
 no_fault bytes at a k offset h f =
     let ls = f.before ++ f.token ∷ f.others in
     absurd (cc (sym (h ls f.lexed) ∙ tells bytes at k offset f ls f.lexed))
@@ -213,9 +213,9 @@ none_sound : IsSound no_names
 none_sound = (decides_sound no_names).0 refl
 
 -- what is read has names that texts can have
-pub is_sound : (bytes : List ℕ) (at : ℕ) (a : Answer) → at ≤ length bytes → ReadsAs bytes at (Ok a) → IsSound a.names
+pub is_sound : (bytes : List ℕ) (at : ℕ) (a : ProtocolAnswer) → at ≤ length bytes → ReadsAs bytes at (Ok a) → IsSound a.names
 is_sound bytes at a within h =
     let p = part_read bytes at (Ok a) within h in
     let b = of_ok p.0 a p.2 in
-    let read : bodies.ReadsAs Talks no_names bytes at (Ok b.0) = subst (λ (z : Result bodies.Answer TextFault). bodies.ReadsAs Talks no_names bytes at z) b.1 p.1 in
-    subst (λ (z : Answer). IsSound z.names) b.2 (sounding.is_sound Talks no_names bytes at b.0 refl none_sound within read)
+    let read : bodies.ReadsAs Talks no_names bytes at (Ok b.0) = subst (λ (z : Result bodies.PartAnswer TextFault). bodies.ReadsAs Talks no_names bytes at z) b.1 p.1 in
+    subst (λ (z : ProtocolAnswer). IsSound z.names) b.2 (sounding.is_sound Talks no_names bytes at b.0 refl none_sound within read)

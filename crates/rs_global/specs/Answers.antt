@@ -11,16 +11,16 @@ use Rattle.rs_global.specs.Faults.{no_names}
 use Rattle.rs_global.specs.Parts.{graph_spelt}
 
 -- names, protocol and the offset behind them
-pub record Answer : Type 0 where
+pub record ProtocolAnswer : Type 0 where
   pub names : Names_data
   pub protocol : Protocol_data
   pub until : ℕ
 
 -- the protocol of what was read, or its fault
-abbrev pub of_protocol : Result bodies.Answer TextFault → Result Answer TextFault
+abbrev pub of_protocol : Result bodies.PartAnswer TextFault → Result ProtocolAnswer TextFault
 of_protocol (Err e) = Err e
 of_protocol (Ok a) = Ok (record { names = a.names; protocol = graph_spelt (length a.names.roles) a.spelling; until = a.until })
 
 -- what the tokens of the bytes from `at` on are read as
-abbrev pub ReadsAs : List ℕ → ℕ → Result Answer TextFault → Type 0
-ReadsAs bytes at answer = (lexemes : List Lexeme) → Lexed bytes at lexemes → of_protocol (bodies.answered (read_all (bodies.feeding Talks) (Ok (bodies.begin Talks no_names)) lexemes)) ≡ answer
+abbrev pub ReadsAs : List ℕ → ℕ → Result ProtocolAnswer TextFault → Type 0
+ReadsAs bytes at answer = (lexemes : List Lexeme) → Lexed bytes at lexemes → of_protocol (bodies.answer_of_reading (read_all (bodies.feeding Talks) (Ok (bodies.start_of_part Talks no_names)) lexemes)) ≡ answer

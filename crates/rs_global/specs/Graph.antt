@@ -4,7 +4,7 @@ use Rattle.rs_model.specs.Data.{Protocol_data, Names_data}
 use Rattle.rs_model.specs.declared.graph.Arm.{Arm}
 use Rattle.rs_model.specs.declared.graph.Node.{Node}
 use Rattle.rs_model.specs.declared.graph.Node.TheVariants as node
-use Rattle.rs_text.specs.Names.{grown}
+use Rattle.rs_text.specs.Names.{names_with}
 use Rattle.rs_bodies.specs.declared.dialects.Dialect.TheVariants.{Talks}
 use Rattle.rs_bodies.specs.Dialects.{Turn, sends_to}
 use Rattle.rs_bodies.specs.Graph.{labels_of, acts_in, has_end, first_of, heads_of, Numbering, role_of}
@@ -13,7 +13,7 @@ use Rattle.rs_global.specs.Trees.{ProtocolTree, roles_of}
 
 -- the names: roles in order of the roles line, labels in order of their first places
 abbrev pub names_of : ProtocolTree → Names_data
-names_of t = record { roles = roles_of t; labels = grown [] (labels_of Talks t.body) }
+names_of t = record { roles = roles_of t; labels = names_with [] (labels_of Talks t.body) }
 
 -- the talk from s to the receiver behind the arrow, with these arms
 abbrev pub talk_of : Numbering → List ℕ → Turn Talks → List Arm → Node

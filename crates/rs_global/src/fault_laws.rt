@@ -9,7 +9,7 @@ ghost use Rattle.rs_text.specs.Lexemes.{signs_of};
 ghost use Rattle.rs_bodies.specs.declared.dialects.Dialect.TheVariants.{Talks};
 ghost use Rattle.rs_bodies.specs.Faults.{Begins, IsUnexpected};
 ghost use Rattle.rs_global.specs.Faults.{FirstFault};
-ghost use Rattle.rs_global.specs.Answers.{Answer, ReadsAs};
+ghost use Rattle.rs_global.specs.Answers.{ProtocolAnswer, ReadsAs};
 ghost use Rattle.rs_global.specs.Spells.{SpellsProtocol};
 
 /// Whatever fault the reader tells is the first fault of the text ..
@@ -29,7 +29,7 @@ pub fn text_has_one_first_fault()
 
 /// .. and none where a protocol is read from it.
 pub fn read_text_has_no_fault()
-    ensures { (bytes : List ℕ) (at : ℕ) (answer : Answer) (kind : TextKind) (offset : ℕ) → ReadsAs bytes at (Ok answer) → FirstFault bytes at kind offset → ⊥ }
+    ensures { (bytes : List ℕ) (at : ℕ) (answer : ProtocolAnswer) (kind : TextKind) (offset : ℕ) → ReadsAs bytes at (Ok answer) → FirstFault bytes at kind offset → ⊥ }
 {}
 
 /// The tokens before the first fault begin a protocol.
@@ -45,7 +45,7 @@ pub fn expected_is_unexpected()
 
 /// A text that a tree spells is read ..
 pub fn spelt_text_is_read()
-    ensures { (bytes : List ℕ) (at : ℕ) (names : Names_data) (protocol : Protocol_data) (until : ℕ) → SpellsProtocol bytes at names protocol until → (answer : Answer) × ReadsAs bytes at (Ok answer) }
+    ensures { (bytes : List ℕ) (at : ℕ) (names : Names_data) (protocol : Protocol_data) (until : ℕ) → SpellsProtocol bytes at names protocol until → (answer : ProtocolAnswer) × ReadsAs bytes at (Ok answer) }
 {}
 
 /// .. and has no first fault.

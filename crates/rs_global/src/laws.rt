@@ -4,7 +4,7 @@ ghost use Rattle.rs_text.specs.declared.faults.TextFault.{TextFault};
 ghost use Rattle.rs_text.specs.declared.faults.TextKind.TheVariants as kind;
 ghost use Rattle.rs_text.specs.declared.faults.Wanted.TheVariants as wanted;
 ghost use Rattle.rs_global.specs.Examples.{text, tree};
-ghost use Rattle.rs_global.specs.Answers.{Answer, ReadsAs};
+ghost use Rattle.rs_global.specs.Answers.{ProtocolAnswer, ReadsAs};
 ghost use Rattle.rs_global.specs.Faults.{FirstFault};
 ghost use Rattle.rs_global.specs.Graph.{graph_of, names_of};
 ghost use Rattle.rs_global.specs.Spells.{SpellsProtocol};
@@ -13,12 +13,12 @@ ghost use Rattle.rs_model.specs.declared.values.Sort.TheVariants as sort;
 
 /// The bytes of a text from an offset on are read as something ..
 pub fn has_an_answer()
-    ensures { (bytes : List ℕ) (at : ℕ) → at ≤ length bytes → (answer : Result Answer TextFault) × ReadsAs bytes at answer }
+    ensures { (bytes : List ℕ) (at : ℕ) → at ≤ length bytes → (answer : Result ProtocolAnswer TextFault) × ReadsAs bytes at answer }
 {}
 
 /// .. and as nothing else: as one protocol or with one fault, never both.
 pub fn has_one_answer()
-    ensures { (bytes : List ℕ) (at : ℕ) (x y : Result Answer TextFault) → at ≤ length bytes → ReadsAs bytes at x → ReadsAs bytes at y → x ≡ y }
+    ensures { (bytes : List ℕ) (at : ℕ) (x y : Result ProtocolAnswer TextFault) → at ≤ length bytes → ReadsAs bytes at x → ReadsAs bytes at y → x ≡ y }
 {}
 
 /// A text is spelt as its tree says, and goes on at its end.

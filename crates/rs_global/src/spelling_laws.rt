@@ -3,12 +3,12 @@ ghost use Rattle.std.specs.Prelude.{◌≡◌, ◌≤◌, ◌⊎◌, ℕ, List, 
 ghost use Rattle.rs_model.specs.Data.{Names_data, Protocol_data};
 ghost use Rattle.rs_text.specs.declared.faults.TextKind.{TextKind};
 ghost use Rattle.rs_global.specs.Faults.{FirstFault};
-ghost use Rattle.rs_global.specs.Answers.{Answer, ReadsAs};
+ghost use Rattle.rs_global.specs.Answers.{ProtocolAnswer, ReadsAs};
 ghost use Rattle.rs_global.specs.Spells.{SpellsProtocol};
 
 /// Whatever protocol is read from a text, the text spells it ..
 pub fn read_text_is_spelt()
-    ensures { (bytes : List ℕ) (at : ℕ) (answer : Answer) → at ≤ length bytes → ReadsAs bytes at (Ok answer) → SpellsProtocol bytes at answer.names answer.protocol answer.until }
+    ensures { (bytes : List ℕ) (at : ℕ) (answer : ProtocolAnswer) → at ≤ length bytes → ReadsAs bytes at (Ok answer) → SpellsProtocol bytes at answer.names answer.protocol answer.until }
 {}
 
 /// .. and whatever protocol a text spells is read from it.

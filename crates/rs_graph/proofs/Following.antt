@@ -9,7 +9,7 @@ use Rattle.std.proofs.lemmas.Bool.Decides.{eqb_tells}
 use Rattle.std.proofs.lemmas.Bool.{cases_lt}
 use Rattle.std.proofs.lemmas.Option.{none-some, same_Some}
 use Rattle.rs_graph.specs.Lists.{Among}
-use Rattle.rs_graph.specs.Paths.{AllFit, AreRight, GoesOn, IsKnown, Joining, Layer, LayerFits, Leaving, Searching, Splits, TakenOff, ahead, edges_of, parts_of, path_of, to_do}
+use Rattle.rs_graph.specs.Paths.{AllFit, AreRight, NoneMoreAhead, CycleIsKnown, Joining, Layer, LayerFits, Leaving, Searching, Splits, TakenOff, ahead, edges_of, parts_of, path_of, to_do}
 use Rattle.rs_graph.specs.Ranks.{Edge, IsOrdered}
 use Rattle.rs_graph.specs.Walks.{Walk, Here, Further, IsOnCycle}
 use Rattle.rs_graph.specs.declared.cycles.Mark.{Mark}
@@ -128,7 +128,7 @@ put_on rows marks path edges parts before part e right t =
     same p a b ea eb = ap (λ (z : ℕ). record { start = z; edges = p.edges; round = p.round }) ea ∙ ap (λ (z : ℕ). record { start = a; edges = z; round = p.round }) eb
 
 -- an edge to a known node is done with
-pub looked_at : (rows : List (List ℕ)) (marks : List Mark) (path edges rest : List ℕ) (before : List Part) (part : Part) (y : ℕ) → edges ≡ rest ++ (y ∷ []) → part.edges ≢ length edges → IsKnown marks y → TakenOff rows marks path edges before part → TakenOff rows marks path rest before part
+pub looked_at : (rows : List (List ℕ)) (marks : List Mark) (path edges rest : List ℕ) (before : List Part) (part : Part) (y : ℕ) → edges ≡ rest ++ (y ∷ []) → part.edges ≢ length edges → CycleIsKnown marks y → TakenOff rows marks path edges before part → TakenOff rows marks path rest before part
 looked_at rows marks path edges rest before part y e some known t =
     let s = t.splits in
     let l : length edges ≡ length (edges_of s.layers) + length s.last = ap (λ (z : List ℕ). length z) s.edges_is ∙ length-append (edges_of s.layers) s.last in
@@ -158,7 +158,7 @@ looked_at rows marks path edges rest before part y e some known t =
             | inr a ↦ inr (inr a)
             | inl a ↦ elim (in-either r.0 (y ∷ []) z (subst (λ (w : List ℕ). Among w z) r.1 a)) [
               | inl b ↦ inr (inl b)
-              | inr b ↦ inl (elim b [ inl q ↦ subst (λ (w : ℕ). IsKnown marks w) q known | inr q ↦ absurd q ])
+              | inr b ↦ inl (elim b [ inl q ↦ subst (λ (w : ℕ). CycleIsKnown marks w) q known | inr q ↦ absurd q ])
             ]
           ]
         ];
@@ -167,7 +167,7 @@ looked_at rows marks path edges rest before part y e some known t =
 
 -- marks that know no less
 abbrev Knows : List Mark → List Mark → Type 0
-Knows old new = (x : ℕ) → IsKnown old x → IsKnown new x
+Knows old new = (x : ℕ) → CycleIsKnown old x → CycleIsKnown new x
 
 keeps-layer : (rows : List (List ℕ)) (old new : List Mark) (lower nodes edges : List ℕ) (round : Bool) → Knows old new → LayerFits rows old lower nodes edges round → LayerFits rows new lower nodes edges round
 keeps-layer rows old new lower nodes edges round k f = record {
@@ -254,7 +254,7 @@ entered rows marks path edges row parts y new er right led s = record {
       | inr h ↦ sym (set-other marks y x (On (length path)) h.1) ∙ e
     ]
 
-    known : (x : ℕ) → IsKnown (set marks y (On (length path))) x → IsKnown marks x
+    known : (x : ℕ) → CycleIsKnown (set marks y (On (length path))) x → CycleIsKnown marks x
     known x k = (k.0, back x k.0 k.1)
 
     knows : Knows marks (set marks y (On (length path)))
@@ -307,7 +307,7 @@ pub entered_as : (rows : List (List ℕ)) (marks : List Mark) (path path' edges 
     → path' ≡ path ++ (y ∷ []) → edges' ≡ edges ++ row → a ≡ length path → b ≡ length edges → parts' ≡ parts ++ (record { start = a; edges = b; round = false } ∷ []) → Searching rows marks path edges parts → Searching rows (set marks y (On a)) path' edges' parts'
 entered_as rows marks path path' edges edges' row parts parts' y a b new er led ep ee ea eb eq s = rw (ep, ee, eq, ea, eb) (entered rows marks path edges row parts y new er s.right led s)
 
-pub goes_on : (marks : List Mark) (y place : ℕ) → slice_get marks y ≡ Some Ahead → GoesOn marks (set marks y (On place))
+pub goes_on : (marks : List Mark) (y place : ℕ) → slice_get marks y ≡ Some Ahead → NoneMoreAhead marks (set marks y (On place))
 goes_on marks y place new x e = elim (eqb_tells x y) [
   | inl h ↦ (let k : Some (On place) ≡ Some Ahead = sym (set-at marks y (On place) (at_short marks y Ahead new)) ∙ ap (λ (w : ℕ). slice_get (set marks y (On place)) w) (sym h.1) ∙ e in absurd (cc (k)))
   | inr h ↦ sym (set-other marks y x (On place) h.1) ∙ e
@@ -503,7 +503,7 @@ joins_end rows marks path edges parts parts' start from y place e le right on j 
 
 -- a part of which no edge is left leaves the path
 
-walk-stays : (rows : List (List ℕ)) (marks : List Mark) → ((x y : ℕ) → IsKnown marks x → Edge rows x y → IsKnown marks y) → (x n y : ℕ) → IsKnown marks x → Walk (Edge rows) x n y → IsKnown marks y
+walk-stays : (rows : List (List ℕ)) (marks : List Mark) → ((x y : ℕ) → CycleIsKnown marks x → Edge rows x y → CycleIsKnown marks y) → (x n y : ℕ) → CycleIsKnown marks x → Walk (Edge rows) x n y → CycleIsKnown marks y
 walk-stays rows marks closed x _ _ k (Here _) = k
 walk-stays rows marks closed x _ y k (Further _ j _ n e w) = walk-stays rows marks closed j n y (closed x j k e) w
 
@@ -584,7 +584,7 @@ left_path rows old marks path path' edges parts part none right t l short = reco
     knows : Knows old marks
     knows x k = (k.0, l.off x (λ m. let a = place-of x m in let q : Some (On a.0) ≡ Some (Known k.0) = sym a.1 ∙ k.1 in cc (q)) ∙ k.1)
 
-    told : (x y : ℕ) → Among l.left x → Edge rows x y → IsKnown marks y
+    told : (x y : ℕ) → Among l.left x → Edge rows x y → CycleIsKnown marks y
     told x y m e = elim (t.here.told x y (mine x m) e) [
       | inl k ↦ knows y k
       | inr k ↦ elim k [

@@ -3,7 +3,7 @@ use Rattle.std.proofs.Common.{◌≡◌, ◌≢◌, ◌⊎◌, inl, inr, ℕ, �
 use Rattle.std.proofs.lemmas.Bool.{cases_lt}
 use Rattle.std.proofs.lemmas.List.{get_or-set_same, get_or-set_other, length-set, get_or_past}
 use Rattle.rs_graph.specs.Lists.{Among}
-use Rattle.rs_graph.specs.Ranks.{Edge, Fits, IsOrdered, Ranked}
+use Rattle.rs_graph.specs.Ranks.{Edge, RankFits, IsOrdered, Ranked}
 use Rattle.rs_graph.specs.Walks.{Walk, Here, Further, IsRank, IsOnCycle, RanksFit}
 use Rattle.rs_graph.proofs.Buckets.{got, place_in}
 use Rattle.rs_graph.proofs.Growth.{at_in, at_short}
@@ -40,24 +40,24 @@ no_cycle rows order o i v is c =
     let a = r.2 in let bad : ⊥ = omega arith in bad
 
 -- one more is ranked
-pub ranked_on : (rows : List (List ℕ)) (order ranks : List ℕ) (i n rank : ℕ) → IsOrdered rows order → slice_get order i ≡ Some n → Ranked rows order ranks i → Fits (get_or rows n []) ranks rank → rank ≤ i → Ranked rows order (set ranks n rank) (i + 1)
+pub ranked_on : (rows : List (List ℕ)) (order ranks : List ℕ) (i n rank : ℕ) → IsOrdered rows order → slice_get order i ≡ Some n → Ranked rows order ranks i → RankFits (get_or rows n []) ranks rank → rank ≤ i → Ranked rows order (set ranks n rank) (i + 1)
 ranked_on rows order ranks i n rank o is r f low =
     let inn : n < length ranks = (let a = o.within i n is in let b = r.size in omega arith) in
     let here : get_or (set ranks n rank) n 0 ≡ rank = get_or-set_same ranks n rank 0 inn in
     let other : (x : ℕ) → x ≢ n → get_or (set ranks n rank) x 0 ≡ get_or ranks x 0 = λ x ne. get_or-set_other ranks n x rank 0 ne in
     let apart : (k x : ℕ) → k < i → slice_get order k ≡ Some x → x ≢ n = λ k x lt g e. (let q = o.once k i n (g ∙ ap Some e) is in let bad : ⊥ = omega arith in bad) in
-    let kept : (m rank' : ℕ) → (k : ℕ) → k ≤ i → slice_get order k ≡ Some m → Fits (get_or rows m []) ranks rank' → Fits (get_or rows m []) (set ranks n rank) rank' = λ m rank' k le g q. record {
+    let kept : (m rank' : ℕ) → (k : ℕ) → k ≤ i → slice_get order k ≡ Some m → RankFits (get_or rows m []) ranks rank' → RankFits (get_or rows m []) (set ranks n rank) rank' = λ m rank' k le g q. record {
       falls = λ j h. (let b = o.ends k m j g h in let e = other j (apart b.index j (let c = b.early in omega arith) b.is) in let a = q.falls j h in omega arith);
       tight = (elim q.tight [ inl z ↦ inl z | inr p ↦ (let b = o.ends k m p.0 g p.1 in let e = other p.0 (apart b.index p.0 (let c = b.early in omega arith) b.is) in inr (p.0, p.1, (let a = p.2 in omega arith))) ]);
     } in
     record {
       size = length-set ranks n rank ∙ r.size;
       fits = λ k m lt g. elim (cases_lt k i) [
-        | inl a ↦ (let e = other m (apart k m a g) in subst (λ (z : ℕ). Fits (get_or rows m []) (set ranks n rank) z) (sym e) (kept m (get_or ranks m 0) k (omega arith) g (r.fits k m a g)))
+        | inl a ↦ (let e = other m (apart k m a g) in subst (λ (z : ℕ). RankFits (get_or rows m []) (set ranks n rank) z) (sym e) (kept m (get_or ranks m 0) k (omega arith) g (r.fits k m a g)))
         | inr a ↦ (let ek : k ≡ i = omega arith in let g' : slice_get order i ≡ Some m = subst (λ (z : ℕ). slice_get order z ≡ Some m) ek g in let em : n ≡ m = cc (is, g') in
-            let b : Fits (get_or rows n []) (set ranks n rank) rank = kept n rank i (omega arith) is f in
-            let c : Fits (get_or rows n []) (set ranks n rank) (get_or (set ranks n rank) n 0) = subst (λ (z : ℕ). Fits (get_or rows n []) (set ranks n rank) z) (sym here) b in
-            subst (λ (z : ℕ). Fits (get_or rows z []) (set ranks n rank) (get_or (set ranks n rank) z 0)) em c)
+            let b : RankFits (get_or rows n []) (set ranks n rank) rank = kept n rank i (omega arith) is f in
+            let c : RankFits (get_or rows n []) (set ranks n rank) (get_or (set ranks n rank) n 0) = subst (λ (z : ℕ). RankFits (get_or rows n []) (set ranks n rank) z) (sym here) b in
+            subst (λ (z : ℕ). RankFits (get_or rows z []) (set ranks n rank) (get_or (set ranks n rank) z 0)) em c)
       ];
       low = λ k m lt g. elim (cases_lt k i) [
         | inl a ↦ (let e = other m (apart k m a g) in let b = r.low k m a g in omega arith)
@@ -99,7 +99,7 @@ topped_on row ranks rank i t = record {
   ]);
 }
 
-pub topped_all : (row ranks : List ℕ) (rank i : ℕ) → length row ≤ i → Topped row ranks rank i → ((k : ℕ) → k < i → k < length row) → Fits row ranks rank
+pub topped_all : (row ranks : List ℕ) (rank i : ℕ) → length row ≤ i → Topped row ranks rank i → ((k : ℕ) → k < i → k < length row) → RankFits row ranks rank
 topped_all row ranks rank i h t within = record {
   falls = λ j m. (let p = at_in row j m in let s = at_short row p.0 j p.1 in let f = t.falls p.0 (omega arith) in let e = got row p.0 j 0 p.1 in
       subst (λ (z : ℕ). get_or ranks z 0 < rank) e f);

@@ -4,7 +4,7 @@ use Rattle.std.proofs.lemmas.Bool.Decides.{eqb_tells}
 use Rattle.std.proofs.lemmas.Bool.{cases_lt}
 use Rattle.std.proofs.lemmas.List.{get_or-set_same, get_or-set_other, length-set, get_or_default, get_or_past, length-replicate, get_or-replicate, drop_all}
 use Rattle.rs_graph.specs.Lists.{Among, Once}
-use Rattle.rs_graph.specs.Removal.{moves_at, Leads, IsInto, at, Behind, IsRemoval, is_lost, Going, From, Rest, Next, unflagged, moveless, cost_of, whole}
+use Rattle.rs_graph.specs.Removal.{moves_at, Leads, IsInto, at, Behind, IsRemoval, is_lost, Going, From, Rest, Next, lowered_flags, moveless, cost_of, whole}
 use Rattle.rs_graph.specs.declared.graph.Move.{Move}
 use Rattle.std.specs.List.{sum_by}
 use Rattle.std.proofs.lemmas.List.Sums.{sum_by-append}
@@ -433,22 +433,22 @@ moveless-once n (row ∷ outs) i j x a b = elim (eqb_tells (length row) 0) [
 zeros : (count n : ℕ) → at (replicate count 0) n ≡ 0
 zeros count n = elim (cases_lt n count) [ inl a ↦ get_or-replicate count n 0 0 a | inr a ↦ get_or_past (replicate count 0) n 0 (let l : length (replicate {A = ℕ} count 0) ≡ count = length-replicate count 0 in omega arith) ]
 
-unflagged-at : (outs : List (List (List ℕ))) (n : ℕ) → get_or (unflagged outs) n [] ≡ replicate (length (get_or outs n [])) false
+unflagged-at : (outs : List (List (List ℕ))) (n : ℕ) → get_or (lowered_flags outs) n [] ≡ replicate (length (get_or outs n [])) false
 unflagged-at [] n = refl
 unflagged-at (row ∷ outs) zero = refl
 unflagged-at (row ∷ outs) (suc n) = unflagged-at outs n
 
-unflagged-length : (outs : List (List (List ℕ))) → length (unflagged outs) ≡ length outs
+unflagged-length : (outs : List (List (List ℕ))) → length (lowered_flags outs) ≡ length outs
 unflagged-length [] = refl
 unflagged-length (row ∷ outs) = let k = unflagged-length outs in omega arith
 
-unflagged-no : (outs : List (List (List ℕ))) (n p : ℕ) → is_lost (unflagged outs) n p ≡ false
+unflagged-no : (outs : List (List (List ℕ))) (n p : ℕ) → is_lost (lowered_flags outs) n p ≡ false
 unflagged-no outs n p = ap (λ (z : List Bool). get_or z p false) (unflagged-at outs n) ∙ (elim (cases_lt p (length (get_or outs n []))) [
   | inl a ↦ get_or-replicate (length (get_or outs n [])) p false false a
   | inr a ↦ get_or_past (replicate (length (get_or outs n [])) false) p false (let l = length-replicate (length (get_or outs n [])) false in omega arith)
 ])
 
-pub begin : (outs : List (List (List ℕ))) → Going outs (unflagged outs) (replicate (length outs) 0) (moveless 0 outs) (From 0)
+pub begin : (outs : List (List (List ℕ))) → Going outs (lowered_flags outs) (replicate (length outs) 0) (moveless 0 outs) (From 0)
 begin outs = record {
   rows = unflagged-length outs;
   nodes = length-replicate (length outs) 0;
@@ -469,7 +469,7 @@ begin outs = record {
       (s.0, s.1, omega arith));
 }
 
-pub begins : (outs : List (List (List ℕ))) (lost : List (List Bool)) (current order : List ℕ) → lost ≡ unflagged outs → current ≡ replicate (length outs) 0 → order ≡ moveless 0 outs → Going outs lost current order (From 0)
+pub begins : (outs : List (List (List ℕ))) (lost : List (List Bool)) (current order : List ℕ) → lost ≡ lowered_flags outs → current ≡ replicate (length outs) 0 → order ≡ moveless 0 outs → Going outs lost current order (From 0)
 begins outs lost current order a b d = rw (a, b, d) (begin outs)
 
 -- what the nodes that were told have cost

@@ -9,8 +9,8 @@ use Rattle.rs_graph.specs.declared.cycles.Mark.TheVariants.{Ahead, On, Known}
 use Rattle.rs_graph.specs.declared.cycles.Part.{Part}
 
 -- of the node it is known whether it is on a cycle
-abbrev pub IsKnown : List Mark → ℕ → Type 0
-IsKnown marks x = (round : Bool) × (slice_get marks x ≡ Some (Known round))
+abbrev pub CycleIsKnown : List Mark → ℕ → Type 0
+CycleIsKnown marks x = (round : Bool) × (slice_get marks x ≡ Some (Known round))
 
 -- a part of the path: its nodes, and their edges that are still to be looked at
 pub record Layer : Type 0 where
@@ -41,7 +41,7 @@ pub record LayerFits (rows : List (List ℕ)) (marks : List Mark) (lower nodes e
   pub around : round ≡ true → (x y : ℕ) → Among nodes x → Among nodes y → (n : ℕ) × Walk (Edge rows) x (suc n) y
   pub one : round ≡ false → (x y : ℕ) → Among nodes x → Among nodes y → x ≡ y
   pub sources : (y : ℕ) → Among edges y → (x : ℕ) × Among nodes x × Edge rows x y
-  pub told : (x y : ℕ) → Among nodes x → Edge rows x y → IsKnown marks y ⊎ (Among edges y ⊎ (Among nodes y × (round ≡ true)))
+  pub told : (x y : ℕ) → Among nodes x → Edge rows x y → CycleIsKnown marks y ⊎ (Among edges y ⊎ (Among nodes y × (round ≡ true)))
 
 -- each part fits behind those before it
 abbrev pub AllFit : List (List ℕ) → List Mark → List Layer → Type 0
@@ -53,7 +53,7 @@ pub record AreRight (rows : List (List ℕ)) (marks : List Mark) (path : List �
   pub size : length marks ≡ length rows
   pub to : (i x : ℕ) → slice_get path i ≡ Some x → slice_get marks x ≡ Some (On i)
   pub from : (x i : ℕ) → slice_get marks x ≡ Some (On i) → slice_get path i ≡ Some x
-  pub closed : (x y : ℕ) → IsKnown marks x → Edge rows x y → IsKnown marks y
+  pub closed : (x y : ℕ) → CycleIsKnown marks x → Edge rows x y → CycleIsKnown marks y
   pub yes : (x : ℕ) → slice_get marks x ≡ Some (Known true) → IsOnCycle (Edge rows) x
   pub not : (x : ℕ) → slice_get marks x ≡ Some (Known false) → IsOnCycle (Edge rows) x → ⊥
 
@@ -89,7 +89,7 @@ pub record Joining (rows : List (List ℕ)) (marks : List Mark) (path edges : Li
   pub first : (x : ℕ) × Among splits.nodes x
   pub reached : (x z : ℕ) → Among (path_of splits.layers) x → Among splits.nodes z → (n : ℕ) × Walk (Edge rows) x n z
   pub sources : (z : ℕ) → Among splits.last z → (x : ℕ) × Among splits.nodes x × Edge rows x z
-  pub told : (x z : ℕ) → Among splits.nodes x → Edge rows x z → IsKnown marks z ⊎ ((z ≡ y) ⊎ (Among splits.last z ⊎ Among splits.nodes z))
+  pub told : (x z : ℕ) → Among splits.nodes x → Edge rows x z → CycleIsKnown marks z ⊎ ((z ≡ y) ⊎ (Among splits.last z ⊎ Among splits.nodes z))
   pub closes : (x : ℕ) → Among splits.nodes x → (n : ℕ) × Walk (Edge rows) x (suc n) y
   pub opens : Among splits.nodes y → (z : ℕ) → Among splits.nodes z → (n : ℕ) × Walk (Edge rows) y n z
 
@@ -113,5 +113,5 @@ abbrev pub to_do : List (List ℕ) → List Mark → List ℕ → List Part → 
 to_do rows marks edges parts = ahead marks * (sum_by (λ (row : List ℕ). length row) rows + 2) + length edges + length parts
 
 -- no node is ahead that wasn't
-abbrev pub GoesOn : List Mark → List Mark → Type 0
-GoesOn old new = (x : ℕ) → slice_get new x ≡ Some Ahead → slice_get old x ≡ Some Ahead
+abbrev pub NoneMoreAhead : List Mark → List Mark → Type 0
+NoneMoreAhead old new = (x : ℕ) → slice_get new x ≡ Some Ahead → slice_get old x ≡ Some Ahead

@@ -90,8 +90,8 @@ pub record Next (flags : List Bool) (start next : ℕ) : Type 0 where
   pub on : start ≤ next
 
 -- no flag is raised
-abbrev pub unflagged : List (List (List ℕ)) → List (List Bool)
-unflagged outs = map (λ (row : List (List ℕ)). replicate (length row) false) outs
+abbrev pub lowered_flags : List (List (List ℕ)) → List (List Bool)
+lowered_flags outs = map (λ (row : List (List ℕ)). replicate (length row) false) outs
 
 -- the nodes that have no move, the first of which has the number n
 abbrev pub moveless : ℕ → List (List (List ℕ)) → List ℕ

@@ -2,7 +2,7 @@
 //! looked at is left, and then it is known of its nodes whether they are on a cycle. Each edge is looked at twice at most.
 ghost use Rattle.std.specs.Prelude.{◌≡◌, ◌≢◌, ◌<◌, ◌≤◌, ◌+◌, ◌^◌, [], ◌∷◌, ◌++◌, List, ℕ, IfOk, OnOk, MatchOption, length, replicate, slice_get, Some, true, false};
 ghost use Rattle.rs_graph.specs.Lists.{Among};
-ghost use Rattle.rs_graph.specs.Paths.{AreRight, GoesOn, Joining, Leaving, Searching, TakenOff, ahead, to_do};
+ghost use Rattle.rs_graph.specs.Paths.{AreRight, NoneMoreAhead, Joining, Leaving, Searching, TakenOff, ahead, to_do};
 ghost use Rattle.rs_graph.specs.Ranks.{Edge, IsOrdered};
 ghost use Rattle.rs_graph.specs.Walks.{IsLeastOnCycle, IsOnCycle, Walk};
 ghost use Rattle.rs_graph.specs.declared.cycles.Mark.{Mark};
@@ -51,7 +51,7 @@ fn enter(rows: &[Row], search: &mut Search, y: u32) -> Result<(), NoMemory>
     requires searching { Searching rows.now search.old.marks.items search.old.path.items search.old.edges.items search.old.parts.items }
     ensures searching { OnOk result (Searching rows.now search.new.marks.items search.new.path.items search.new.edges.items search.new.parts.items) }
     ensures less { OnOk result (to_do rows.now search.new.marks.items search.new.edges.items search.new.parts.items < to_do rows.now search.old.marks.items search.old.edges.items search.old.parts.items) }
-    ensures on { OnOk result (GoesOn search.old.marks.items search.new.marks.items) }
+    ensures on { OnOk result (NoneMoreAhead search.old.marks.items search.new.marks.items) }
     ensures here { OnOk result (slice_get search.new.marks.items y ≢ Some Ahead) }
 {
     let start = search.path.len();
@@ -112,7 +112,7 @@ fn look(rows: &[Row], search: &mut Search, part: Part) -> Result<(), NoMemory>
     requires off { TakenOff rows.now search.old.marks.items search.old.path.items search.old.edges.items search.old.parts.items part }
     ensures searching { OnOk result (Searching rows.now search.new.marks.items search.new.path.items search.new.edges.items search.new.parts.items) }
     ensures less { OnOk result (to_do rows.now search.new.marks.items search.new.edges.items search.new.parts.items < to_do rows.now search.old.marks.items search.old.edges.items search.old.parts.items + 1) }
-    ensures on { OnOk result (GoesOn search.old.marks.items search.new.marks.items) }
+    ensures on { OnOk result (NoneMoreAhead search.old.marks.items search.new.marks.items) }
 {
     let count = search.edges.len();
     if count == part.edges {
@@ -143,7 +143,7 @@ fn follow(rows: &[Row], search: &mut Search) -> Result<(), NoMemory>
     requires within { (x y : ℕ) → Edge rows.now x y → y < length rows.now }
     requires searching { Searching rows.now search.old.marks.items search.old.path.items search.old.edges.items search.old.parts.items }
     ensures searching { OnOk result (Searching rows.now search.new.marks.items search.new.path.items search.new.edges.items search.new.parts.items) }
-    ensures on { OnOk result (GoesOn search.old.marks.items search.new.marks.items) }
+    ensures on { OnOk result (NoneMoreAhead search.old.marks.items search.new.marks.items) }
     ensures none { OnOk result (search.new.path.items ≡ []) }
 {
     while let Some(part) = search.parts.pop() {

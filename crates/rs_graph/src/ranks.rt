@@ -1,7 +1,7 @@
 //! Ranks of nodes: the greatest lengths of walks.
 ghost use Rattle.std.specs.Prelude.{◌≡◌, ◌<◌, ◌≤◌, ◌+◌, ◌^◌, [], List, ℕ, IfOk, IfErr, OnOk, replicate, length, slice_get, slice_index_or, Some, true, false};
 ghost use Rattle.rs_graph.specs.Lists.{Among};
-ghost use Rattle.rs_graph.specs.Ranks.{Edge, Fits, IsOrdered, Ranked};
+ghost use Rattle.rs_graph.specs.Ranks.{Edge, RankFits, IsOrdered, Ranked};
 ghost use Rattle.rs_graph.specs.Walks.{IsRank};
 ghost use Rattle.rs_graph.specs.Unranked.{Unranks};
 
@@ -17,7 +17,7 @@ fn top(row: &[u32], ranks: &[u32], below: usize) -> u32
     requires few { below < 2 ^ 32 }
     requires within { (j : ℕ) → Among row.now j → j < length ranks.now }
     requires low { (j : ℕ) → Among row.now j → slice_index_or ranks.now j 0 < below }
-    ensures fits { Fits row.now ranks.now result }
+    ensures fits { RankFits row.now ranks.now result }
     ensures low { result ≤ below }
 {
     let mut rank: u32 = 0;

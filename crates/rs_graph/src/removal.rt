@@ -1,6 +1,6 @@
 //! The removal of nodes that have no move left.
 ghost use Rattle.std.specs.Prelude.{◌≡◌, ◌≢◌, ◌<◌, ◌≤◌, ◌+◌, ◌^◌, [], ◌∷◌, ◌++◌, List, ℕ, OnOk, OnErr, OnSome, IfOk, length, slice_get, slice_index_or, Some};
-ghost use Rattle.rs_graph.specs.Removal.{Going, IsInto, IsRemoval, Leads, Next, Rest, From, cost_of, whole, moves_at, unflagged, moveless};
+ghost use Rattle.rs_graph.specs.Removal.{Going, IsInto, IsRemoval, Leads, Next, Rest, From, cost_of, whole, moves_at, lowered_flags, moveless};
 ghost use Rattle.std.specs.List.{sum_by};
 ghost use Rattle.rs_graph.specs.declared.graph.Move.{Move};
 
@@ -134,7 +134,7 @@ fn hand_on<L: Ledger>(
 // A flag for each move.
 fn no_flags(alloc: Global, graph: &Graph) -> Result<Vec<Flags>, NoMemory>
     requires { length graph.now.outs < 2 ^ 32 }
-    ensures { IfOk result (λ v. v.items ≡ unflagged graph.now.outs) }
+    ensures { IfOk result (λ v. v.items ≡ lowered_flags graph.now.outs) }
 {
     let mut lost = Vec::new(alloc);
     for node in 0..graph.nodes() {

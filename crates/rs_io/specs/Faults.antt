@@ -3,8 +3,8 @@ use Rattle.std.specs.Prelude.{◌≡◌, ℕ, Bool, ◌+◌, ◌-◌, ◌^◌, �
 use Rattle.std.specs.List.{list_any}
 
 -- one more, up to the last value of a u64
-abbrev pub raised : ℕ → ℕ
-raised n = min (n + 1) (2 ^ 64 - 1)
+abbrev pub one_count_more : ℕ → ℕ
+one_count_more n = min (n + 1) (2 ^ 64 - 1)
 
 -- the count is the last value of a u64
 abbrev pub IsLast : ℕ → Type 0

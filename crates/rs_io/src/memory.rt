@@ -1,7 +1,7 @@
 ghost use Rattle.std.specs.Prelude.{◌≡◌, ◌-◌, ◌<◌, ◌≤◌, ◌==◌, ◌&&◌, ◌||◌, min, nat_lt, [], length, Some, IfOk, OnErr, is_err, if◌then◌else◌};
 ghost use Rattle.std.specs.Io.{ReadsAtMost, WritesAtMost};
 ghost use Rattle.std.specs.Io.KnownBytes.{ReadConsumes, WriteAppends};
-ghost use Rattle.rs_io.specs.Faults.{IsLast, Rose, Counts, raised, is_listed};
+ghost use Rattle.rs_io.specs.Faults.{IsLast, Rose, Counts, one_count_more, is_listed};
 
 use crate::stock::Stock;
 use crate::{Failed, Sink, Source};
@@ -64,10 +64,10 @@ impl Source for MemSource {
         ensures bytes { ReadConsumes (Some self.old.left) (Some self.new.left) result into.new }
         ensures count { Counts self.old.faults self.new.faults (IsLast self.old.faults) (IsLast self.new.faults) }
         ensures cause { OnErr result (Rose self.old.faults self.new.faults (IsLast self.new.faults)) }
-        ensures refuses { is_err result ≡ is_listed (raised self.old.calls) self.old.failing }
+        ensures refuses { is_err result ≡ is_listed (one_count_more self.old.calls) self.old.failing }
         ensures gives { IfOk result (λ n. n ≡ min self.old.piece (min (length self.old.left) (length into.old))) }
-        ensures calls { self.new.calls ≡ raised self.old.calls }
-        ensures faults { self.new.faults ≡ (if is_err result then raised self.old.faults else self.old.faults) }
+        ensures calls { self.new.calls ≡ one_count_more self.old.calls }
+        ensures faults { self.new.faults ≡ (if is_err result then one_count_more self.old.faults else self.old.faults) }
         ensures piece { self.new.piece ≡ self.old.piece }
         ensures failing { self.new.failing ≡ self.old.failing }
     {
@@ -152,11 +152,11 @@ impl Sink for MemSink {
         ensures bytes { WriteAppends (Some self.old.written) (Some self.new.written) result bytes.now }
         ensures count { Counts self.old.faults self.new.faults (IsLast self.old.faults) (IsLast self.new.faults) }
         ensures cause { OnErr result (Rose self.old.faults self.new.faults (IsLast self.new.faults)) }
-        ensures refuses { is_err result ≡ (is_listed (raised self.old.calls) self.old.failing
+        ensures refuses { is_err result ≡ (is_listed (one_count_more self.old.calls) self.old.failing
             || (nat_lt 0 (length bytes.now) && (length self.old.written == self.old.room))) }
         ensures takes { IfOk result (λ n. n ≡ min self.old.piece (min (self.old.room - length self.old.written) (length bytes.now))) }
-        ensures calls { self.new.calls ≡ raised self.old.calls }
-        ensures faults { self.new.faults ≡ (if is_err result then raised self.old.faults else self.old.faults) }
+        ensures calls { self.new.calls ≡ one_count_more self.old.calls }
+        ensures faults { self.new.faults ≡ (if is_err result then one_count_more self.old.faults else self.old.faults) }
         ensures room { self.new.room ≡ self.old.room }
         ensures piece { self.new.piece ≡ self.old.piece }
         ensures failing { self.new.failing ≡ self.old.failing }

@@ -1,7 +1,7 @@
 ghost use Rattle.std.specs.Prelude.{◌≡◌, ◌<◌, ◌≤◌, length, IfOk, OnErr, is_err, if◌then◌else◌};
 ghost use Rattle.std.specs.Io.{ReadsAtMost, WritesAtMost};
 ghost use Rattle.std.specs.Io.KnownBytes.{ReadConsumes, WriteAppends, Keeps};
-ghost use Rattle.rs_io.specs.Faults.{IsLast, Rose, Counts, raised};
+ghost use Rattle.rs_io.specs.Faults.{IsLast, Rose, Counts, one_count_more};
 
 use crate::{Failed, Sink, Source};
 use std::io::{Read, Write};
@@ -44,7 +44,7 @@ impl<R: Read> Source for StdSource<R> {
         ensures bytes { ReadConsumes (R.remaining self.old.inner) (R.remaining self.new.inner) result into.new }
         ensures count { Counts self.old.faults self.new.faults (IsLast self.old.faults) (IsLast self.new.faults) }
         ensures cause { OnErr result (Rose self.old.faults self.new.faults (IsLast self.new.faults)) }
-        ensures faults { self.new.faults ≡ (if is_err result then raised self.old.faults else self.old.faults) }
+        ensures faults { self.new.faults ≡ (if is_err result then one_count_more self.old.faults else self.old.faults) }
     {
         match self.inner.read(into) {
             Ok(count) => Ok(count),
@@ -85,7 +85,7 @@ impl<W: Write> StdSink<W> {
         ensures kept { Keeps (W.contents self.old.inner) (W.contents self.new.inner) }
         ensures count { Counts self.old.faults self.new.faults (IsLast self.old.faults) (IsLast self.new.faults) }
         ensures cause { OnErr result (Rose self.old.faults self.new.faults (IsLast self.new.faults)) }
-        ensures faults { self.new.faults ≡ (if is_err result then raised self.old.faults else self.old.faults) }
+        ensures faults { self.new.faults ≡ (if is_err result then one_count_more self.old.faults else self.old.faults) }
     {
         match self.inner.flush() {
             Ok(()) => Ok(()),
@@ -111,7 +111,7 @@ impl<W: Write> Sink for StdSink<W> {
         ensures bytes { WriteAppends (W.contents self.old.inner) (W.contents self.new.inner) result bytes.now }
         ensures count { Counts self.old.faults self.new.faults (IsLast self.old.faults) (IsLast self.new.faults) }
         ensures cause { OnErr result (Rose self.old.faults self.new.faults (IsLast self.new.faults)) }
-        ensures faults { self.new.faults ≡ (if is_err result then raised self.old.faults else self.old.faults) }
+        ensures faults { self.new.faults ≡ (if is_err result then one_count_more self.old.faults else self.old.faults) }
     {
         match self.inner.write(bytes) {
             Ok(count) if count > 0 || bytes.is_empty() => Ok(count),

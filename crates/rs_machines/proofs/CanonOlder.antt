@@ -6,7 +6,7 @@ use Rattle.std.specs.Str.{bytes_eq}
 use Rattle.rs_model.specs.Data.{Machine_data, Names_data}
 use Rattle.rs_text.proofs.Basics.{two_true, both, or_cases}
 use Rattle.rs_text.proofs.Naming.{place_stands, grown_stays}
-use Rattle.rs_text.specs.Names.{grown, is_among, place_of}
+use Rattle.rs_text.specs.Names.{names_with, is_among, place_of}
 use Rattle.rs_text.specs.Sound.{IsSound}
 use Rattle.rs_bodies.specs.declared.dialects.Dialect.TheVariants.{Acts}
 use Rattle.rs_bodies.specs.Graph.{labels_of, acts_in, has_end, role_of, first_of}
@@ -17,7 +17,7 @@ use Rattle.rs_bodies.proofs.LabelsHave.{has_instead}
 use Rattle.rs_bodies.proofs.NumberedNames.{with_name, placed}
 use Rattle.rs_machines.specs.Canonical.{IsCanonical, IsCanonicalMachineText}
 use Rattle.rs_machines.specs.Enough.{AreEnoughFor}
-use Rattle.rs_machines.specs.Machines.{states_of, numbering, machine_of, names_of, done_of}
+use Rattle.rs_machines.specs.Machines.{states_of, numbering, machine_of, names_of, end_states}
 use Rattle.rs_machines.specs.Spells.{Fits, SpellsMachine}
 use Rattle.rs_machines.specs.Texts.{machine_text}
 use Rattle.rs_machines.specs.Trees.{MachineTree}
@@ -41,7 +41,7 @@ by_place w l k same e =
     let there : slice_get w.numbers.names.labels k ≡ Some l = (place_stands w.numbers.names.labels l k e).there in
     rw (same, e, there) ((bytes_eq-Decides l l).1 refl)
 
-kept_in : (xs names : List (List ℕ)) (w : Writing) → w.names.labels ≡ w.numbers.names.labels → w.numbers.names.labels ≡ grown names xs → list_all (kept w) xs ≡ true
+kept_in : (xs names : List (List ℕ)) (w : Writing) → w.names.labels ≡ w.numbers.names.labels → w.numbers.names.labels ≡ names_with names xs → list_all (kept w) xs ≡ true
 kept_in [] names w same h = refl
 kept_in (x ∷ xs) names w same h =
     let p = placed x names in
@@ -60,7 +60,7 @@ IsKept w l = kept w l ≡ true
 carries : (w : Writing) → Carries (IsKept w) AreSame w
 carries w = record {
   room = λ l ls labels is same h. ap (λ z. is_among z labels || nat_lt (length labels) 256) (stays w l is) ∙ ap (λ z. is_among l z || nat_lt (length z) 256) same ∙ h;
-  grows = λ l ls labels is same. ap (λ z. grown labels (z ∷ [])) (stays w l is) ∙ ap (λ z. grown z (l ∷ [])) same;
+  grows = λ l ls labels is same. ap (λ z. names_with labels (z ∷ [])) (stays w l is) ∙ ap (λ z. names_with z (l ∷ [])) same;
 }
 
 kept_one : (w : Writing) (xs : List (List ℕ)) → list_all (kept w) xs ≡ true → (l : List ℕ) → is_among l xs ≡ true → kept w l ≡ true
@@ -74,7 +74,7 @@ kept_one w (x ∷ xs) h l a =
 abbrev machine_by : Names_data → MachineTree → Machine_data
 machine_by names t = record {
   role = role_of (record { names = names; last = acts_in Acts t.body }) t.role;
-  states = states_of (record { names = names; last = acts_in Acts t.body }) t.body ++ done_of (has_end Acts t.body);
+  states = states_of (record { names = names; last = acts_in Acts t.body }) t.body ++ end_states (has_end Acts t.body);
   start = first_of Acts t.body [] 0 (acts_in Acts t.body);
 }
 

@@ -6,7 +6,7 @@ use Rattle.rs_model.specs.declared.graph.Role.{Role}
 use Rattle.rs_text.proofs.Basics.{or_first}
 use Rattle.rs_text.proofs.Naming.{all_at}
 use Rattle.rs_text.specs.Lexing.{next_lexeme}
-use Rattle.rs_text.specs.Names.{number_or, grown, is_among, place_of}
+use Rattle.rs_text.specs.Names.{number_or, names_with, is_among, place_of}
 use Rattle.rs_text.specs.Sound.{IsSound}
 use Rattle.rs_text.specs.Words.{is_word, is_role_word}
 use Rattle.rs_bodies.specs.declared.dialects.Dialect.TheVariants.{Acts}
@@ -34,7 +34,7 @@ use Rattle.rs_machines.proofs.Spelt.{one_spelling}
 
 -- ---- labels that are known
 
-known_stay : (x : List ℕ) (labels : List (List ℕ)) → is_among x labels ≡ true → grown labels (x ∷ []) ≡ labels
+known_stay : (x : List ℕ) (labels : List (List ℕ)) → is_among x labels ≡ true → names_with labels (x ∷ []) ≡ labels
 known_stay x labels h = rw h refl
 
 -- each label that is written is among these already
@@ -44,7 +44,7 @@ Stays names read labels = labels ≡ names
 carries : (w : Writing) → Carries (HasLabel w) (Stays w.names.labels) w
 carries w = record {
   room = λ l ls labels has same h. or_first (is_among (label_as w l) labels) (nat_lt (length labels) 256) (ap (λ z. is_among (label_as w l) z) same ∙ label_known w l has);
-  grows = λ l ls labels has same. ap (λ z. grown z (label_as w l ∷ [])) same ∙ known_stay (label_as w l) w.names.labels (label_known w l has);
+  grows = λ l ls labels has same. ap (λ z. names_with z (label_as w l ∷ [])) same ∙ known_stay (label_as w l) w.names.labels (label_known w l has);
 }
 
 -- ---- the canonical tree of what a tree spells
@@ -54,7 +54,7 @@ record Ready (old : Names_data) (t : MachineTree) (names : Names_data) : Type 0 
   enough : AreEnoughFor names (machine_of old t)
   sound : Sound names
 
-written_labels : (old : Names_data) (t : MachineTree) (names : Names_data) → Ready old t names → grown names.labels (labels_of Acts (canonical_tree old t names).body) ≡ names.labels
+written_labels : (old : Names_data) (t : MachineTree) (names : Names_data) → Ready old t names → names_with names.labels (labels_of Acts (canonical_tree old t names).body) ≡ names.labels
 written_labels old t names r =
     let w = writing_of old t names in
     carried (HasLabel w) (Stays names.labels) w t.body [] 0 old.labels names.labels (carries w) (has_names old t names r.fits r.enough) refl

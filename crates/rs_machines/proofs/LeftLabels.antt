@@ -2,7 +2,7 @@
 use Rattle.std.proofs.Common.{◌≡◌, ◌∙◌, ℕ, List, ◌∷◌, ◌++◌, false, inl, sym, ap}
 use Rattle.rs_model.specs.Data.{Names_data}
 use Rattle.rs_text.specs.Lexemes.{signs_of}
-use Rattle.rs_text.specs.Names.{grown}
+use Rattle.rs_text.specs.Names.{names_with}
 use Rattle.rs_text.specs.declared.faults.TextKind.{TextKind}
 use Rattle.rs_text.specs.declared.faults.TextKind.TheVariants as kind
 use Rattle.rs_bodies.specs.Data.{Spelling_data}
@@ -26,6 +26,6 @@ spelt_leaves bytes at old new s until k offset e spelt =
         before = m.lexemes;
         others = m.behind ∷ m.others;
         lexed = are_lexed bytes (m.lexemes ++ m.behind ∷ m.others) at m.tokens;
-        names_are = m.names_are ∙ ap (λ z. record { roles = old.roles; labels = grown old.labels z }) labels;
+        names_are = m.names_are ∙ ap (λ z. record { roles = old.roles; labels = names_with old.labels z }) labels;
       },
     )

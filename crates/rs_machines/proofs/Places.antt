@@ -26,7 +26,7 @@ use Rattle.rs_bodies.proofs.Heads.{heads_mapped}
 use Rattle.rs_bodies.proofs.PlacesIn.{point_at, places_are}
 use Rattle.rs_machines.proofs.Spelt.{of_part}
 use Rattle.rs_machines.specs.Canonical.{IsMachineTextShaped}
-use Rattle.rs_machines.specs.Machines.{act_of, state_of, states_of, done_of, numbering}
+use Rattle.rs_machines.specs.Machines.{act_of, state_of, states_of, end_states, numbering}
 use Rattle.rs_machines.specs.Parts.{part_of, state_at}
 use Rattle.rs_machines.specs.Spells.{SpellsMachine}
 
@@ -45,13 +45,13 @@ turn_place n s (with_mark m) arms = act_place m (role_of n s) arms
 points_are : (n : Numbering) (b : Body Acts) → points (states_of n b) ≡ map place.Point (points_of Acts n b [] 0)
 points_are n b = heads_mapped Acts place_of_state (act_of n) (point_at Acts n) (turn_place n) n b [] 0 ∙ sym (places_are n b [] 0)
 
-end_is : (c : Bool) → points (done_of c) ≡ end_of c
+end_is : (c : Bool) → points (end_states c) ≡ end_of c
 end_is true = refl
 end_is false = refl
 
-pub whole_are : (n : Numbering) (b : Body Acts) (c : Bool) → points (states_of n b ++ done_of c) ≡ map place.Point (points_of Acts n b [] 0) ++ end_of c
+pub whole_are : (n : Numbering) (b : Body Acts) (c : Bool) → points (states_of n b ++ end_states c) ≡ map place.Point (points_of Acts n b [] 0) ++ end_of c
 whole_are n b c =
-    map-append place_of_state (states_of n b) (done_of c) ∙ ap (λ z. z ++ points (done_of c)) (points_are n b) ∙ ap (λ z. map place.Point (points_of Acts n b [] 0) ++ z) (end_is c)
+    map-append place_of_state (states_of n b) (end_states c) ∙ ap (λ z. z ++ points (end_states c)) (points_are n b) ∙ ap (λ z. map place.Point (points_of Acts n b [] 0) ++ z) (end_is c)
 
 -- a text of the machine spells its places
 unfoldable pub spelt_places : (bytes : List ℕ) (at : ℕ) (old new : Names_data) (p : Machine_data) (until : ℕ) → SpellsMachine bytes at old new p until → bodies.IsSpelt Acts (places_of_machine p) p.start

@@ -20,7 +20,7 @@ use Rattle.rs_bodies.specs.Places.{places_of_machine}
 use Rattle.rs_bodies.specs.Shapes.{is_walked}
 use Rattle.rs_bodies.proofs.ShapeWhole.{spelt_is_walked, walked_has_body}
 use Rattle.rs_machines.specs.Canonical.{IsMachineTextShaped}
-use Rattle.rs_machines.specs.Machines.{states_of, numbering, machine_of, names_of, done_of}
+use Rattle.rs_machines.specs.Machines.{states_of, numbering, machine_of, names_of, end_states}
 use Rattle.rs_machines.specs.Shapes.{is_shaped}
 use Rattle.rs_machines.specs.Spells.{Fits, SpellsMachine}
 use Rattle.rs_machines.specs.Texts.{machine_text}
@@ -75,10 +75,10 @@ body_text p few h =
     let labels : length old.labels ≡ MOST_LABELS = h.labels_are in
     let r : Named old p.role = named old p.role h.sound (omega arith) in
     let t : MachineTree = record { role = r.name; body = h.body } in
-    let states : states_of (numbering old t) h.body ++ done_of (has_end Acts h.body) ≡ p.states =
-    same_states (states_of (numbering old t) h.body ++ done_of (has_end Acts h.body)) p.states (whole_are (numbering old t) h.body (has_end Acts h.body) ∙ sym h.spells.places_are) in
+    let states : states_of (numbering old t) h.body ++ end_states (has_end Acts h.body) ≡ p.states =
+    same_states (states_of (numbering old t) h.body ++ end_states (has_end Acts h.body)) p.states (whole_are (numbering old t) h.body (has_end Acts h.body) ∙ sym h.spells.places_are) in
     let machine_is : machine_of old t ≡ p =
-    ap (λ z. machine (role_number (number_or z)) (states_of (numbering old t) h.body ++ done_of (has_end Acts h.body)) (first_of Acts h.body [] 0 (acts_in Acts h.body))) r.place
+    ap (λ z. machine (role_number (number_or z)) (states_of (numbering old t) h.body ++ end_states (has_end Acts h.body)) (first_of Acts h.body [] 0 (acts_in Acts h.body))) r.place
     ∙ ap (λ z. machine p.role z (first_of Acts h.body [] 0 (acts_in Acts h.body))) states ∙ ap (λ z. machine p.role p.states z) (sym h.spells.start_is) in
     let fits : Fits old t = record { role = r.there; body = h.spells.fits } in
     let words : AreWords t = record { opening = r.word; body = h.words } in

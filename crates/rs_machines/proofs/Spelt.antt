@@ -24,9 +24,9 @@ use Rattle.rs_bodies.proofs.Answers as answers
 use Rattle.rs_bodies.proofs.OneFault as faults
 use Rattle.rs_bodies.proofs.SpeltLaws as laws
 use Rattle.rs_bodies.proofs.SpeltRuns as runs
-use Rattle.rs_machines.specs.Answers.{Answer, of_machine, ReadsAs}
+use Rattle.rs_machines.specs.Answers.{MachineAnswer, of_machine, ReadsAs}
 use Rattle.rs_machines.specs.Faults.{FirstFault}
-use Rattle.rs_machines.specs.Machines.{act_of, states_of, numbering, done_of, machine_of}
+use Rattle.rs_machines.specs.Machines.{act_of, states_of, numbering, end_states, machine_of}
 use Rattle.rs_machines.specs.Parts.{state_at, machine_spelt}
 use Rattle.rs_machines.specs.Spells.{SpellsMachine}
 use Rattle.rs_machines.specs.Trees.{MachineTree}
@@ -42,7 +42,7 @@ states_are : (n : Numbering) (b : Body Acts) → map state_at (points_of Acts n 
 states_are n b = heads_mapped Acts state_at (point_of Acts n) (act_of n) (act_is n) n b [] 0
 
 pub machine_is : (old : Names_data) (t : MachineTree) → machine_spelt (spelling_of Acts old (part_of t)) ≡ machine_of old t
-machine_is old t = ap (λ z. record { role = role_of (numbering old t) t.role; states = z ++ done_of (has_end Acts t.body); start = first_of Acts t.body [] 0 (acts_in Acts t.body) }) (states_are (numbering old t) t.body)
+machine_is old t = ap (λ z. record { role = role_of (numbering old t) t.role; states = z ++ end_states (has_end Acts t.body); start = first_of Acts t.body [] 0 (acts_in Acts t.body) }) (states_are (numbering old t) t.body)
 
 -- ---- a machine is spelt where its part is
 
@@ -92,46 +92,46 @@ of_part bytes at old new machine until k = record {
 
 -- ---- answers
 
-abbrev answer : Names_data → Machine_data → ℕ → Answer
+abbrev answer : Names_data → Machine_data → ℕ → MachineAnswer
 answer names machine until = record { names = names; machine = machine; until = until }
 
-abbrev good : Answer → Result Answer TextFault
+abbrev good : MachineAnswer → Result MachineAnswer TextFault
 good a = Ok a
 
-good_is : (x y : Answer) → good x ≡ good y → x ≡ y
+good_is : (x y : MachineAnswer) → good x ≡ good y → x ≡ y
 good_is x y h = cc
 
-of_err : (x : Result bodies.Answer TextFault) (e : TextFault) → of_machine x ≡ Err e → x ≡ Err e
+of_err : (x : Result bodies.PartAnswer TextFault) (e : TextFault) → of_machine x ≡ Err e → x ≡ Err e
 of_err (Ok a) e h = cc
 of_err (Err g) e h = cc
 
-of_ok : (x : Result bodies.Answer TextFault) (a : Answer) → of_machine x ≡ Ok a → (b : bodies.Answer) × (x ≡ Ok b) × (answer b.names (machine_spelt b.spelling) b.until ≡ a)
+of_ok : (x : Result bodies.PartAnswer TextFault) (a : MachineAnswer) → of_machine x ≡ Ok a → (b : bodies.PartAnswer) × (x ≡ Ok b) × (answer b.names (machine_spelt b.spelling) b.until ≡ a)
 of_ok (Ok b) a h = (b, refl, good_is (answer b.names (machine_spelt b.spelling) b.until) a h)
 of_ok (Err e) a h = cc
 
 -- what is read as a part is read as its machine
-read_as : (old : Names_data) (bytes : List ℕ) (at : ℕ) (x : Result bodies.Answer TextFault) → bodies.ReadsAs Acts old bytes at x → ReadsAs old bytes at (of_machine x)
+read_as : (old : Names_data) (bytes : List ℕ) (at : ℕ) (x : Result bodies.PartAnswer TextFault) → bodies.ReadsAs Acts old bytes at x → ReadsAs old bytes at (of_machine x)
 read_as old bytes at x h = λ ls lexed. ap of_machine (h ls lexed)
 
-pub an_answer : (old : Names_data) (bytes : List ℕ) (at : ℕ) → at ≤ length bytes → (answer : Result Answer TextFault) × ReadsAs old bytes at answer
+pub an_answer : (old : Names_data) (bytes : List ℕ) (at : ℕ) → at ≤ length bytes → (answer : Result MachineAnswer TextFault) × ReadsAs old bytes at answer
 an_answer old bytes at within = let a = answers.an_answer Acts old bytes at within in (of_machine a.0, read_as old bytes at a.0 a.1)
 
-pub one_answer : (old : Names_data) (bytes : List ℕ) (at : ℕ) (x y : Result Answer TextFault) → at ≤ length bytes → ReadsAs old bytes at x → ReadsAs old bytes at y → x ≡ y
+pub one_answer : (old : Names_data) (bytes : List ℕ) (at : ℕ) (x y : Result MachineAnswer TextFault) → at ≤ length bytes → ReadsAs old bytes at x → ReadsAs old bytes at y → x ≡ y
 one_answer old bytes at x y h p q = let t = tokens bytes at h in sym (p t.0 t.1) ∙ q t.0 t.1
 
 -- what is read as a machine is read as a part
-part_read : (old : Names_data) (bytes : List ℕ) (at : ℕ) (x : Result Answer TextFault) → at ≤ length bytes → ReadsAs old bytes at x → (y : Result bodies.Answer TextFault) × bodies.ReadsAs Acts old bytes at y × (of_machine y ≡ x)
+part_read : (old : Names_data) (bytes : List ℕ) (at : ℕ) (x : Result MachineAnswer TextFault) → at ≤ length bytes → ReadsAs old bytes at x → (y : Result bodies.PartAnswer TextFault) × bodies.ReadsAs Acts old bytes at y × (of_machine y ≡ x)
 part_read old bytes at x within h =
     let a = answers.an_answer Acts old bytes at within in
     (a.0, a.1, one_answer old bytes at (of_machine a.0) x within (read_as old bytes at a.0 a.1) h)
 
 -- a text that is read as a machine spells it ..
-pub sound : (old : Names_data) (bytes : List ℕ) (at : ℕ) (a : Answer) → at ≤ length bytes → ReadsAs old bytes at (Ok a) → SpellsMachine bytes at old a.names a.machine a.until
+pub sound : (old : Names_data) (bytes : List ℕ) (at : ℕ) (a : MachineAnswer) → at ≤ length bytes → ReadsAs old bytes at (Ok a) → SpellsMachine bytes at old a.names a.machine a.until
 sound old bytes at a within h =
     let p = part_read old bytes at (Ok a) within h in
     let b = of_ok p.0 a p.2 in
-    let read : bodies.ReadsAs Acts old bytes at (Ok b.0) = subst (λ (z : Result bodies.Answer TextFault). bodies.ReadsAs Acts old bytes at z) b.1 p.1 in
-    subst (λ (z : Answer). SpellsMachine bytes at old z.names z.machine z.until) b.2 (to_machine bytes at old b.0.names b.0.spelling b.0.until (runs.sound Acts old bytes at b.0 within read))
+    let read : bodies.ReadsAs Acts old bytes at (Ok b.0) = subst (λ (z : Result bodies.PartAnswer TextFault). bodies.ReadsAs Acts old bytes at z) b.1 p.1 in
+    subst (λ (z : MachineAnswer). SpellsMachine bytes at old z.names z.machine z.until) b.2 (to_machine bytes at old b.0.names b.0.spelling b.0.until (runs.sound Acts old bytes at b.0 within read))
 
 -- .. and the other way round
 pub complete : (old : Names_data) (bytes : List ℕ) (at : ℕ) (names : Names_data) (machine : Machine_data) (until : ℕ) → SpellsMachine bytes at old names machine until → ReadsAs old bytes at (Ok (record { names = names; machine = machine; until = until }))
@@ -157,7 +157,7 @@ spelt_or_faulty old bytes at within = elim (laws.spelt_or_faulty Acts old bytes 
 ]
 
 -- a text that a tree spells is read ..
-pub spelt_is_read : (old : Names_data) (bytes : List ℕ) (at : ℕ) (names : Names_data) (machine : Machine_data) (until : ℕ) → SpellsMachine bytes at old names machine until → (answer : Answer) × ReadsAs old bytes at (Ok answer)
+pub spelt_is_read : (old : Names_data) (bytes : List ℕ) (at : ℕ) (names : Names_data) (machine : Machine_data) (until : ℕ) → SpellsMachine bytes at old names machine until → (answer : MachineAnswer) × ReadsAs old bytes at (Ok answer)
 spelt_is_read old bytes at names machine until s = (answer names machine until, complete old bytes at names machine until s)
 
 -- .. and has no first fault
@@ -169,12 +169,12 @@ spelt_no_fault old bytes at names machine until k offset s f = laws.spelt_no_fau
 pub first_fault : (old : Names_data) (bytes : List ℕ) (at : ℕ) (e : TextFault) → at ≤ length bytes → ReadsAs old bytes at (Err e) → FirstFault old bytes at e.kind e.at
 first_fault old bytes at e within h =
     let p = part_read old bytes at (Err e) within h in
-    faults.first_fault Acts old bytes at e within (subst (λ (z : Result bodies.Answer TextFault). bodies.ReadsAs Acts old bytes at z) (of_err p.0 e p.2) p.1)
+    faults.first_fault Acts old bytes at e within (subst (λ (z : Result bodies.PartAnswer TextFault). bodies.ReadsAs Acts old bytes at z) (of_err p.0 e p.2) p.1)
 
 pub tells : (old : Names_data) (bytes : List ℕ) (at : ℕ) (k : TextKind) (offset : ℕ) → FirstFault old bytes at k offset → ReadsAs old bytes at (Err (record { kind = k; at = offset }))
 tells old bytes at k offset f = read_as old bytes at (Err (record { kind = k; at = offset })) (faults.tells Acts old bytes at k offset f)
 
-pub no_fault : (old : Names_data) (bytes : List ℕ) (at : ℕ) (a : Answer) (k : TextKind) (offset : ℕ) → ReadsAs old bytes at (Ok a) → FirstFault old bytes at k offset → ⊥
+pub no_fault : (old : Names_data) (bytes : List ℕ) (at : ℕ) (a : MachineAnswer) (k : TextKind) (offset : ℕ) → ReadsAs old bytes at (Ok a) → FirstFault old bytes at k offset → ⊥
 no_fault old bytes at a k offset h f =
     let ls = f.before ++ f.token ∷ f.others in
     absurd (cc (sym (h ls f.lexed) ∙ tells old bytes at k offset f ls f.lexed))

@@ -10,16 +10,16 @@ use Rattle.rs_bodies.specs.Feeding as bodies
 use Rattle.rs_machines.specs.Parts.{machine_spelt}
 
 -- names, machine and the offset behind them
-pub record Answer : Type 0 where
+pub record MachineAnswer : Type 0 where
   pub names : Names_data
   pub machine : Machine_data
   pub until : ℕ
 
 -- the machine of what was read, or its fault
-abbrev pub of_machine : Result bodies.Answer TextFault → Result Answer TextFault
+abbrev pub of_machine : Result bodies.PartAnswer TextFault → Result MachineAnswer TextFault
 of_machine (Err e) = Err e
 of_machine (Ok a) = Ok (record { names = a.names; machine = machine_spelt a.spelling; until = a.until })
 
 -- what the tokens of the bytes from `at` on are read as, with the old names
-abbrev pub ReadsAs : Names_data → List ℕ → ℕ → Result Answer TextFault → Type 0
-ReadsAs old bytes at answer = (lexemes : List Lexeme) → Lexed bytes at lexemes → of_machine (bodies.answered (read_all (bodies.feeding Acts) (Ok (bodies.begin Acts old)) lexemes)) ≡ answer
+abbrev pub ReadsAs : Names_data → List ℕ → ℕ → Result MachineAnswer TextFault → Type 0
+ReadsAs old bytes at answer = (lexemes : List Lexeme) → Lexed bytes at lexemes → of_machine (bodies.answer_of_reading (read_all (bodies.feeding Acts) (Ok (bodies.start_of_part Acts old)) lexemes)) ≡ answer

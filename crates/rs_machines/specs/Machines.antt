@@ -5,7 +5,7 @@ use Rattle.rs_model.specs.declared.graph.Arm.{Arm}
 use Rattle.rs_model.specs.declared.machines.State.{State}
 use Rattle.rs_model.specs.declared.machines.State.TheVariants as state
 use Rattle.rs_model.specs.declared.graph.Role.{Role}
-use Rattle.rs_text.specs.Names.{grown}
+use Rattle.rs_text.specs.Names.{names_with}
 use Rattle.rs_bodies.specs.declared.dialects.Dialect.TheVariants.{Acts}
 use Rattle.rs_bodies.specs.declared.dialects.Mark.{Mark}
 use Rattle.rs_bodies.specs.declared.dialects.Mark.TheVariants as mark
@@ -16,7 +16,7 @@ use Rattle.rs_machines.specs.Trees.{MachineTree}
 
 -- the names that were there, with the labels that are new behind them in order of their first places
 abbrev pub names_of : Names_data → MachineTree → Names_data
-names_of old t = record { roles = old.roles; labels = grown old.labels (labels_of Acts t.body) }
+names_of old t = record { roles = old.roles; labels = names_with old.labels (labels_of Acts t.body) }
 
 -- an act puts to its peer or takes from it
 abbrev pub state_of : Mark → Role → List Arm → State
@@ -36,14 +36,14 @@ abbrev pub numbering : Names_data → MachineTree → Numbering
 numbering old t = record { names = names_of old t; last = acts_in Acts t.body }
 
 -- one Done stands behind the last act exactly where the text has an end
-abbrev pub done_of : Bool → List State
-done_of true = state.Done ∷ []
-done_of false = []
+abbrev pub end_states : Bool → List State
+end_states true = state.Done ∷ []
+end_states false = []
 
 -- the machine that a tree spells, where these names were there
 abbrev pub machine_of : Names_data → MachineTree → Machine_data
 machine_of old t = record {
   role = role_of (numbering old t) t.role;
-  states = states_of (numbering old t) t.body ++ done_of (has_end Acts t.body);
+  states = states_of (numbering old t) t.body ++ end_states (has_end Acts t.body);
   start = first_of Acts t.body [] 0 (acts_in Acts t.body);
 }

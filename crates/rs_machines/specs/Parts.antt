@@ -10,7 +10,7 @@ use Rattle.rs_bodies.specs.declared.dialects.Head.TheVariants as head
 use Rattle.rs_bodies.specs.Data.{Point_data, Spelling_data}
 use Rattle.rs_bodies.specs.Openings.{of_role}
 use Rattle.rs_bodies.specs.Spells.{Tree}
-use Rattle.rs_machines.specs.Machines.{state_of, done_of}
+use Rattle.rs_machines.specs.Machines.{state_of, end_states}
 use Rattle.rs_machines.specs.Trees.{MachineTree}
 
 -- the part that a machine is
@@ -30,6 +30,6 @@ state_at p = state_by p.head p.arms
 abbrev pub machine_spelt : Spelling_data → Machine_data
 machine_spelt s = record {
   role = s.role;
-  states = map state_at s.points ++ done_of s.ended;
+  states = map state_at s.points ++ end_states s.ended;
   start = s.start;
 }

@@ -11,7 +11,7 @@ ghost use Rattle.rs_bodies.specs.Faults.{Begins, IsUnexpected};
 ghost use Rattle.rs_machines.specs.Faults.{FirstFault, LeavesNames, labels_among};
 ghost use Rattle.rs_bodies.specs.Graph.{labels_of};
 ghost use Rattle.rs_machines.specs.Trees.{MachineTree, machine_signs};
-ghost use Rattle.rs_machines.specs.Answers.{Answer, ReadsAs};
+ghost use Rattle.rs_machines.specs.Answers.{MachineAnswer, ReadsAs};
 ghost use Rattle.rs_machines.specs.Spells.{SpellsMachine};
 
 /// Whatever fault the reader tells is the first fault of the text ..
@@ -31,7 +31,7 @@ pub fn text_has_one_first_fault()
 
 /// .. and none where a machine is read from it.
 pub fn read_text_has_no_fault()
-    ensures { (old : Names_data) (bytes : List ℕ) (at : ℕ) (answer : Answer) (kind : TextKind) (offset : ℕ) → ReadsAs old bytes at (Ok answer) → FirstFault old bytes at kind offset → ⊥ }
+    ensures { (old : Names_data) (bytes : List ℕ) (at : ℕ) (answer : MachineAnswer) (kind : TextKind) (offset : ℕ) → ReadsAs old bytes at (Ok answer) → FirstFault old bytes at kind offset → ⊥ }
 {}
 
 /// The tokens before the first fault begin a machine.
@@ -47,7 +47,7 @@ pub fn expected_is_unexpected()
 
 /// A text that a tree spells is read ..
 pub fn spelt_text_is_read()
-    ensures { (old : Names_data) (bytes : List ℕ) (at : ℕ) (names : Names_data) (machine : Machine_data) (until : ℕ) → SpellsMachine bytes at old names machine until → (answer : Answer) × ReadsAs old bytes at (Ok answer) }
+    ensures { (old : Names_data) (bytes : List ℕ) (at : ℕ) (names : Names_data) (machine : Machine_data) (until : ℕ) → SpellsMachine bytes at old names machine until → (answer : MachineAnswer) × ReadsAs old bytes at (Ok answer) }
 {}
 
 /// .. and has no first fault.

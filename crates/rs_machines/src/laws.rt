@@ -4,7 +4,7 @@ ghost use Rattle.rs_text.specs.declared.faults.TextFault.{TextFault};
 ghost use Rattle.rs_text.specs.declared.faults.TextKind.TheVariants as kind;
 ghost use Rattle.rs_text.specs.declared.faults.Wanted.TheVariants as wanted;
 ghost use Rattle.rs_machines.specs.Examples.{text, old, tree};
-ghost use Rattle.rs_machines.specs.Answers.{Answer, ReadsAs};
+ghost use Rattle.rs_machines.specs.Answers.{MachineAnswer, ReadsAs};
 ghost use Rattle.rs_machines.specs.Faults.{FirstFault};
 ghost use Rattle.rs_machines.specs.Machines.{machine_of, names_of};
 ghost use Rattle.rs_machines.specs.MachineFaults.{IsFaultOfText};
@@ -18,12 +18,12 @@ ghost use Rattle.rs_model.specs.declared.values.Sort.TheVariants as sort;
 
 /// The bytes of a text from an offset on are read as something ..
 pub fn has_an_answer()
-    ensures { (old : Names_data) (bytes : List ℕ) (at : ℕ) → at ≤ length bytes → (answer : Result Answer TextFault) × ReadsAs old bytes at answer }
+    ensures { (old : Names_data) (bytes : List ℕ) (at : ℕ) → at ≤ length bytes → (answer : Result MachineAnswer TextFault) × ReadsAs old bytes at answer }
 {}
 
 /// .. and as nothing else: as one machine or with one fault, never both.
 pub fn has_one_answer()
-    ensures { (old : Names_data) (bytes : List ℕ) (at : ℕ) (x y : Result Answer TextFault) → at ≤ length bytes → ReadsAs old bytes at x → ReadsAs old bytes at y → x ≡ y }
+    ensures { (old : Names_data) (bytes : List ℕ) (at : ℕ) (x y : Result MachineAnswer TextFault) → at ≤ length bytes → ReadsAs old bytes at x → ReadsAs old bytes at y → x ≡ y }
 {}
 
 /// A text is spelt as its tree says, and goes on at its end.

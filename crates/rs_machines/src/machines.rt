@@ -3,7 +3,7 @@ ghost use Rattle.rs_model.specs.declared.limits.TheConstants.{MOST_ACTS, MOST_LA
 ghost use Rattle.rs_text.specs.declared.faults.TextKind.TheVariants as kind;
 ghost use Rattle.rs_text.specs.Sound.{IsSound};
 ghost use Rattle.rs_machines.specs.Faults.{FirstFault, Keeps, LeavesLabels};
-ghost use Rattle.rs_machines.specs.Machines.{done_of, state_of};
+ghost use Rattle.rs_machines.specs.Machines.{end_states, state_of};
 ghost use Rattle.rs_machines.specs.Parts.{machine_spelt, state_at, state_by};
 ghost use Rattle.rs_machines.specs.Spells.{SpellsMachine};
 
@@ -67,7 +67,7 @@ fn machine(alloc: Global, spelling: Spelling) -> Result<Machine, NoMemory>
 
 /// The states of heads, with the end behind them where there is one.
 fn states(alloc: Global, points: Vec<Point>, ended: bool) -> Result<Vec<State>, NoMemory>
-    ensures states { IfOk result (λ states. states.items ≡ map state_at points.items ++ done_of ended) }
+    ensures states { IfOk result (λ states. states.items ≡ map state_at points.items ++ end_states ended) }
     ensures count { IfOk result (λ states. length states.items ≤ length points.items + 1) }
 {
     let mut states = acts(alloc, points)?;

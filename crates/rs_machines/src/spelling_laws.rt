@@ -3,12 +3,12 @@ ghost use Rattle.std.specs.Prelude.{◌≡◌, ◌≤◌, ◌⊎◌, ℕ, List, 
 ghost use Rattle.rs_model.specs.Data.{Names_data, Machine_data};
 ghost use Rattle.rs_text.specs.declared.faults.TextKind.{TextKind};
 ghost use Rattle.rs_machines.specs.Faults.{FirstFault};
-ghost use Rattle.rs_machines.specs.Answers.{Answer, ReadsAs};
+ghost use Rattle.rs_machines.specs.Answers.{MachineAnswer, ReadsAs};
 ghost use Rattle.rs_machines.specs.Spells.{SpellsMachine};
 
 /// Whatever machine is read from a text, the text spells it ..
 pub fn read_text_is_spelt()
-    ensures { (old : Names_data) (bytes : List ℕ) (at : ℕ) (answer : Answer) → at ≤ length bytes → ReadsAs old bytes at (Ok answer) → SpellsMachine bytes at old answer.names answer.machine answer.until }
+    ensures { (old : Names_data) (bytes : List ℕ) (at : ℕ) (answer : MachineAnswer) → at ≤ length bytes → ReadsAs old bytes at (Ok answer) → SpellsMachine bytes at old answer.names answer.machine answer.until }
 {}
 
 /// .. and whatever machine a text spells is read from it.

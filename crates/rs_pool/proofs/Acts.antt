@@ -12,7 +12,7 @@ use lib.Seq.{set-get_or}
 use Rattle.atomic_table.specs.Table.{State, Me, step, keeps, takes, gives, put_back, Allows, Splits, Joins}
 use Rattle.atomic_table.proofs.Lists.{set_here, set_else, set_again}
 use Rattle.rs_pool.specs.declared.views.View.{View}
-use Rattle.rs_pool.specs.Rule.{Place, Places, facts, Shows, Ends, IsAmount, word_of, amount_in, holding, freed, counting, seeing, kept, alone, joined, spent_view}
+use Rattle.rs_pool.specs.Rule.{Place, Places, facts, PoolShows, EndsWord, IsAmount, word_of, amount_in, holding, view_without_job, counting, seeing, view_behind_share, view_with_one_share, sum_of_views, spent_view}
 use Rattle.rs_pool.specs.Plays.{ClaimTells, GiveTells, CountTells, ReadTells}
 use Rattle.rs_pool.proofs.Sums.{at_put, put_case, sum_set, total_le}
 use Rattle.rs_pool.proofs.Known.{some_same, some_none, held_snoc, held_same, held_claim, held_free, counts_snoc, counts_same, counts_add, counts_join, ends_snoc, ends_same, ends_add, ends_join}
@@ -43,7 +43,7 @@ module _ {T : Type 0} (Fits : ℕ → T → Type 0) (Over : ℕ → T → Type 0
       (λ is. subst (λ (z : ℕ). Place (Fits z) Over (facts words' homes' holder' counter' amount' z)) (sym is) mine)
       (λ ne. subst (Place (Fits y) Over) (stay y l ne) (ps y l))
 
-  module _ (s : St) (sh : Shows Fits Over n shares s) (id : ℕ) (v : View) (at : get_elem? s.views id ≡ some v) where
+  module _ (s : St) (sh : PoolShows Fits Over n shares s) (id : ℕ) (v : View) (at : get_elem? s.views id ≡ some v) where
     -- what is known of a role whose task this view holds
     pub mine_is : (r : ℕ) → v.held ≡ Some r → (r < n) × (sh.holder r ≡ Some id) × (sh.amount r ≡ amount_in r v.counted)
     mine_is r has = let o = sh.held.only id v r at has in let p = sh.places r o.0 in (
@@ -57,10 +57,10 @@ module _ {T : Type 0} (Fits : ℕ → T → Type 0) (Over : ℕ → T → Type 0
     pub same_shares : (w : View) → w.shares ≡ v.shares → sum_by (λ d. d.shares) (set s.views id w) ≡ shares
     same_shares w e = let t = sum_set {A = View} (λ d. d.shares) s.views id v w at in let h = sh.shared in omega arith
 
-    quiet : (words' : List ℕ) (views' : List View) → words' ≡ s.words → views' ≡ s.views → Shows Fits Over n shares record { words = words'; homes = s.homes; views = views' }
-    quiet words' views' p q = subst {A = St} (Shows Fits Over n shares) (λ i. record { words = sym p i; homes = s.homes; views = sym q i }) sh
+    quiet : (words' : List ℕ) (views' : List View) → words' ≡ s.words → views' ≡ s.views → PoolShows Fits Over n shares record { words = words'; homes = s.homes; views = views' }
+    quiet words' views' p q = subst {A = St} (PoolShows Fits Over n shares) (λ i. record { words = sym p i; homes = s.homes; views = sym q i }) sh
 
-    claim_hits : (r : ℕ) (t : T) → r < n → v.held ≡ None → 0 < v.shares → sh.holder r ≡ None → sh.amount r ≡ 0 → Shows Fits Over n shares record { words = set s.words r 1; homes = set s.homes r none; views = set s.views id (holding r v) }
+    claim_hits : (r : ℕ) (t : T) → r < n → v.held ≡ None → 0 < v.shares → sh.holder r ≡ None → sh.amount r ≡ 0 → PoolShows Fits Over n shares record { words = set s.words r 1; homes = set s.homes r none; views = set s.views id (holding r v) }
     claim_hits r t l empty pos free zero' = let here : r < length s.words = subst (λ (z : ℕ). r < z) (sym sh.words_are) (omega arith) in record {
       holder = at_put sh.holder r (Some id);
       counter = sh.counter;
@@ -84,13 +84,13 @@ module _ {T : Type 0} (Fits : ℕ → T → Type 0) (Over : ℕ → T → Type 0
             home = λ e. absurd (some_none id (at_put sh.holder r (Some id) r) mine e);
             own = λ j e m. absurd (m zero');
           });
-      ends = subst (λ (z : ℕ). Ends n z sh.amount (set s.views id (holding r v))) (sym (get_or-set_other s.words r n 1 0 (λ e. omega arith)))
+      ends = subst (λ (z : ℕ). EndsWord n z sh.amount (set s.views id (holding r v))) (sym (get_or-set_other s.words r n 1 0 (λ e. omega arith)))
           (ends_same n (slice_index s.words n) sh.amount s.views sh.ends id v at (holding r v) refl (sh.ends.seen id v at));
       shared = same_shares (holding r v) refl;
     }
 
     give_home : (r : ℕ) (t : T) (new : ℕ) → v.held ≡ Some r → Fits r t → Over (amount_in r v.counted) t → new ≡ word_of None (amount_in r v.counted)
-        → Shows Fits Over n shares record { words = set s.words r new; homes = set s.homes r (some (Some t)); views = set s.views id (freed v) }
+        → PoolShows Fits Over n shares record { words = set s.words r new; homes = set s.homes r (some (Some t)); views = set s.views id (view_without_job v) }
     give_home r t new has fits over is = let k = mine_is r has in let l = k.0 in let h : maybe.Option (Option T) = some (Some t) in let here : r < length s.words = subst (λ (z : ℕ). r < z) (sym sh.words_are) (omega arith) in record {
       holder = at_put sh.holder r None;
       counter = sh.counter;
@@ -99,7 +99,7 @@ module _ {T : Type 0} (Fits : ℕ → T → Type 0) (Over : ℕ → T → Type 0
       words_are = length-set s.words r new ∙ sh.words_are;
       homes_are = length-set s.homes r h ∙ sh.homes_are;
       held = held_free n sh.holder s.views sh.held id v at r has;
-      counts = counts_same n sh.counter sh.amount s.views sh.counts id v at (freed v) refl;
+      counts = counts_same n sh.counter sh.amount s.views sh.counts id v at (view_without_job v) refl;
       places = places_put s.words (set s.words r new) s.homes (set s.homes r h) sh.holder (at_put sh.holder r None) sh.counter sh.counter sh.amount sh.amount r sh.places
           (λ y b ne i. record {
             word = sym (get_or-set_other s.words r y new 0 ne) i;
@@ -114,13 +114,13 @@ module _ {T : Type 0} (Fits : ℕ → T → Type 0) (Over : ℕ → T → Type 0
             home = λ e. (t, set_here s.homes r h (subst (λ (z : ℕ). r < z) (sym sh.homes_are) l), fits, subst (λ (z : ℕ). Over z t) (sym k.2) over);
             own = λ j e m. absurd (some_none j (at_put sh.holder r None r) e mine);
           });
-      ends = subst (λ (z : ℕ). Ends n z sh.amount (set s.views id (freed v))) (sym (get_or-set_other s.words r n new 0 (λ e. omega arith)))
-          (ends_same n (slice_index s.words n) sh.amount s.views sh.ends id v at (freed v) refl (sh.ends.seen id v at));
-      shared = same_shares (freed v) refl;
+      ends = subst (λ (z : ℕ). EndsWord n z sh.amount (set s.views id (view_without_job v))) (sym (get_or-set_other s.words r n new 0 (λ e. omega arith)))
+          (ends_same n (slice_index s.words n) sh.amount s.views sh.ends id v at (view_without_job v) refl (sh.ends.seen id v at));
+      shared = same_shares (view_without_job v) refl;
     }
 
     add_end : (r a : ℕ) → v.held ≡ Some r → amount_in r v.counted ≡ 0 → (a ≡ 1) ⊎ (a ≡ 16)
-        → Shows Fits Over n shares record { words = set s.words n (slice_index s.words n + a); homes = s.homes; views = set s.views id (counting r a v) }
+        → PoolShows Fits Over n shares record { words = set s.words n (slice_index s.words n + a); homes = s.homes; views = set s.views id (counting r a v) }
     add_end r a has new is = let k = mine_is r has in let l = k.0 in let free : sh.amount r ≡ 0 = k.2 ∙ new in let word : ℕ = slice_index s.words n in let here : n < length s.words = subst (λ (z : ℕ). n < z) (sym sh.words_are) (omega arith) in record {
       holder = sh.holder;
       counter = at_put sh.counter r id;
@@ -144,7 +144,7 @@ module _ {T : Type 0} (Fits : ℕ → T → Type 0) (Over : ℕ → T → Type 0
             home = λ e. absurd (some_none id (sh.holder r) k.1 e);
             own = λ j e m. who ∙ some_same id j (sym k.1 ∙ e);
           });
-      ends = subst (λ (z : ℕ). Ends n z (at_put sh.amount r a) (set s.views id (counting r a v))) (sym (get_or-set_same s.words n (word + a) 0 here))
+      ends = subst (λ (z : ℕ). EndsWord n z (at_put sh.amount r a) (set s.views id (counting r a v))) (sym (get_or-set_same s.words n (word + a) 0 here))
           (ends_add n word sh.amount s.views sh.ends id v at r a l free);
       shared = same_shares (counting r a v) refl;
     }
@@ -152,8 +152,8 @@ module _ {T : Type 0} (Fits : ℕ → T → Type 0) (Over : ℕ → T → Type 0
     pub word_small : slice_index s.words n ≤ 256
     word_small = let t = total_le sh.amount n (λ r l. (sh.places r l).amount_is) in let e = sh.ends.roles in let f = sh.few in omega arith
 
-    see_ends : (words' : List ℕ) → words' ≡ s.words → Shows Fits Over n shares record { words = words'; homes = s.homes; views = set s.views id (seeing (slice_index s.words n) v) }
-    see_ends words' p = let w : View = seeing (slice_index s.words n) v in subst (λ (ws : List ℕ). Shows Fits Over n shares record { words = ws; homes = s.homes; views = set s.views id w }) (sym p) record {
+    see_ends : (words' : List ℕ) → words' ≡ s.words → PoolShows Fits Over n shares record { words = words'; homes = s.homes; views = set s.views id (seeing (slice_index s.words n) v) }
+    see_ends words' p = let w : View = seeing (slice_index s.words n) v in subst (λ (ws : List ℕ). PoolShows Fits Over n shares record { words = ws; homes = s.homes; views = set s.views id w }) (sym p) record {
       holder = sh.holder;
       counter = sh.counter;
       amount = sh.amount;
@@ -169,14 +169,14 @@ module _ {T : Type 0} (Fits : ℕ → T → Type 0) (Over : ℕ → T → Type 0
 
   -- kind 1
   pub claims : (slots id r : ℕ) (me : Me (Option T) View) → r < n → me.0.held ≡ None → 0 < me.0.shares
-      → Allows (Shows Fits Over n shares) slots id me r (λ k. either (k == 0) 1 k) (ClaimTells Fits (step slots r 0 1 none) me)
+      → Allows (PoolShows Fits Over n shares) slots id me r (λ k. either (k == 0) 1 k) (ClaimTells Fits (step slots r 0 1 none) me)
   claims slots id r me l empty pos s sh long at small = let v : View = me.0 in let p = sh.places r l in let k : ℕ = slice_index s.words r in dite (ℕ_discrete k 0)
       (λ hit. let z = word_zero (sh.holder r) (sh.amount r) (sym p.word_is ∙ hit) in let h = p.home z.0 in
       let none' : amount_in r v.counted ≡ 0 = dite (ℕ_discrete (amount_in r v.counted) 0) (λ e. e) (λ m. (sh.counts.only id v r at m).2 ∙ z.1) in (
         holding r v,
         takes r (Some h.0),
         h.1,
-        subst (λ (b : ℕ). Shows Fits Over n shares record { words = set s.words r b; homes = set s.homes r none; views = set s.views id (holding r v) }) (ap (λ b. either b 1 k) (sym (eq-eqb k 0 hit))) (claim_hits s sh id v at r h.0 l empty pos z.0 z.1),
+        subst (λ (b : ℕ). PoolShows Fits Over n shares record { words = set s.words r b; homes = set s.homes r none; views = set s.views id (holding r v) }) (ap (λ b. either b 1 k) (sym (eq-eqb k 0 hit))) (claim_hits s sh id v at r h.0 l empty pos z.0 z.1),
         ((λ _. (h.0, h.2, none', refl)), λ miss. absurd (miss hit)),
       ))
       (λ miss. (
@@ -189,29 +189,29 @@ module _ {T : Type 0} (Fits : ℕ → T → Type 0) (Over : ℕ → T → Type 0
 
   -- kind 2
   pub gives_back : (slots id r new : ℕ) (me : Me (Option T) View) (t : T) (cs : List (ℕ × Option T)) → me.1 ≡ (r, Some t) ∷ cs → me.0.held ≡ Some r → Fits r t → Over (amount_in r me.0.counted) t → new ≡ word_of None (amount_in r me.0.counted)
-      → Allows (Shows Fits Over n shares) slots id me r (λ _. new) (λ _. GiveTells (step slots r new 0 none) me new)
+      → Allows (PoolShows Fits Over n shares) slots id me r (λ _. new) (λ _. GiveTells (step slots r new 0 none) me new)
   gives_back slots id r new (v, ds) t cs carries has fits over is s sh long at small = (
-    freed v,
+    view_without_job v,
     gives,
     tt,
-    subst (λ (ms : List (ℕ × Option T)). Shows Fits Over n shares record { words = set s.words r new; homes = put_back s.homes ms; views = set s.views id (freed v) }) (sym carries) (give_home s sh id v at r t new has fits over is),
+    subst (λ (ms : List (ℕ × Option T)). PoolShows Fits Over n shares record { words = set s.words r new; homes = put_back s.homes ms; views = set s.views id (view_without_job v) }) (sym carries) (give_home s sh id v at r t new has fits over is),
     refl,
   )
 
   -- kind 3
   pub counts_end : (slots id r a : ℕ) (me : Me (Option T) View) → me.0.held ≡ Some r → amount_in r me.0.counted ≡ 0 → (a ≡ 1) ⊎ (a ≡ 16)
-      → Allows (Shows Fits Over n shares) slots id me n (λ k. (k + a) % 2 ^ 64) (CountTells (step slots n a 0 none) me)
+      → Allows (PoolShows Fits Over n shares) slots id me n (λ k. (k + a) % 2 ^ 64) (CountTells (step slots n a 0 none) me)
   counts_end slots id r a (v, ds) has new is s sh long at small = let word : ℕ = slice_index s.words n in let w = word_small s sh id v at in let a_small : a ≤ 16 = ⊎_elim (λ e. omega arith) (λ e. omega arith) is in
       let e : (word + a) % 2 ^ 64 ≡ word + a = mod-eq_of_lt (omega arith) in (
         counting r a v,
         keeps,
         tt,
-        subst (λ (b : ℕ). Shows Fits Over n shares record { words = set s.words n b; homes = s.homes; views = set s.views id (counting r a v) }) (sym e) (add_end s sh id v at r a has new is),
+        subst (λ (b : ℕ). PoolShows Fits Over n shares record { words = set s.words n b; homes = s.homes; views = set s.views id (counting r a v) }) (sym e) (add_end s sh id v at r a has new is),
         λ y has'. ap (λ (k : ℕ). (counting k a v, ds)) (some_same r y (sym has ∙ has')),
       )
 
   -- kind 4
-  pub sees : (slots id : ℕ) (me : Me (Option T) View) → Allows (Shows Fits Over n shares) slots id me n (λ k. k) (ReadTells (step slots n 0 0 none) me)
+  pub sees : (slots id : ℕ) (me : Me (Option T) View) → Allows (PoolShows Fits Over n shares) slots id me n (λ k. k) (ReadTells (step slots n 0 0 none) me)
   sees slots id (v, ds) s sh long at small = let k : ℕ = slice_index s.words n in (
     seeing k v,
     keeps,
@@ -221,24 +221,24 @@ module _ {T : Type 0} (Fits : ℕ → T → Type 0) (Over : ℕ → T → Type 0
   )
 
   -- kind 5
-  pub splits : (id : ℕ) (v : View) → 2 ≤ v.shares → Splits (Shows Fits Over n shares) id v (kept v) (alone v)
-  splits id v two s sh at = let us : List View = set s.views id (kept v) in record {
+  pub splits : (id : ℕ) (v : View) → 2 ≤ v.shares → Splits (PoolShows Fits Over n shares) id v (view_behind_share v) (view_with_one_share v)
+  splits id v two s sh at = let us : List View = set s.views id (view_behind_share v) in record {
     holder = sh.holder;
     counter = sh.counter;
     amount = sh.amount;
     few = sh.few;
     words_are = sh.words_are;
     homes_are = sh.homes_are;
-    held = held_snoc n sh.holder us (held_same n sh.holder s.views sh.held id v at (kept v) refl (λ r e. omega arith)) (alone v) refl;
-    counts = counts_snoc n sh.counter sh.amount us (counts_same n sh.counter sh.amount s.views sh.counts id v at (kept v) refl) (alone v) refl;
+    held = held_snoc n sh.holder us (held_same n sh.holder s.views sh.held id v at (view_behind_share v) refl (λ r e. omega arith)) (view_with_one_share v) refl;
+    counts = counts_snoc n sh.counter sh.amount us (counts_same n sh.counter sh.amount s.views sh.counts id v at (view_behind_share v) refl) (view_with_one_share v) refl;
     places = sh.places;
-    ends = ends_snoc n (slice_index s.words n) sh.amount us (ends_same n (slice_index s.words n) sh.amount s.views sh.ends id v at (kept v) refl (sh.ends.seen id v at)) (alone v) refl refl;
-    shared = let t = sum_set {A = View} (λ d. d.shares) s.views id v (kept v) at in let a = sum_by-append {X = View} (λ d. d.shares) us (alone v ∷ []) in let b = sum_by-cons {X = View} (λ d. d.shares) (alone v) [] in let h = sh.shared in omega arith;
+    ends = ends_snoc n (slice_index s.words n) sh.amount us (ends_same n (slice_index s.words n) sh.amount s.views sh.ends id v at (view_behind_share v) refl (sh.ends.seen id v at)) (view_with_one_share v) refl refl;
+    shared = let t = sum_set {A = View} (λ d. d.shares) s.views id v (view_behind_share v) at in let a = sum_by-append {X = View} (λ d. d.shares) us (view_with_one_share v ∷ []) in let b = sum_by-cons {X = View} (λ d. d.shares) (view_with_one_share v) [] in let h = sh.shared in omega arith;
   }
 
   -- kind 6
-  pub joins : (id : ℕ) (v : View) (other : ℕ) (u : View) → u.held ≡ None → Joins (Shows Fits Over n shares) id v other u (joined v u) spent_view
-  joins id v other u empty s sh at apart at' = let w : View = joined v u in let us : List View = set s.views id w in let there : get_elem? s.views other ≡ some u = sym (set_else s.views id other w apart) ∙ at' in record {
+  pub joins : (id : ℕ) (v : View) (other : ℕ) (u : View) → u.held ≡ None → Joins (PoolShows Fits Over n shares) id v other u (sum_of_views v u) spent_view
+  joins id v other u empty s sh at apart at' = let w : View = sum_of_views v u in let us : List View = set s.views id w in let there : get_elem? s.views other ≡ some u = sym (set_else s.views id other w apart) ∙ at' in record {
     holder = sh.holder;
     counter = λ y. if sh.counter y == other then id else sh.counter y;
     amount = sh.amount;
@@ -261,8 +261,8 @@ module _ {T : Type 0} (Fits : ℕ → T → Type 0) (Over : ℕ → T → Type 0
 
   -- kinds 3 and 4, where the number of roles is known by another name
   pub counts_end_at : (i : ℕ) → n ≡ i → (slots id r a : ℕ) (me : Me (Option T) View) → me.0.held ≡ Some r → amount_in r me.0.counted ≡ 0 → (a ≡ 1) ⊎ (a ≡ 16)
-      → Allows (Shows Fits Over n shares) slots id me i (λ k. (k + a) % 2 ^ 64) (CountTells (step slots i a 0 none) me)
-  counts_end_at i e slots id r a me has new is = subst (λ (j : ℕ). Allows (Shows Fits Over n shares) slots id me j (λ k. (k + a) % 2 ^ 64) (CountTells (step slots j a 0 none) me)) e (counts_end slots id r a me has new is)
+      → Allows (PoolShows Fits Over n shares) slots id me i (λ k. (k + a) % 2 ^ 64) (CountTells (step slots i a 0 none) me)
+  counts_end_at i e slots id r a me has new is = subst (λ (j : ℕ). Allows (PoolShows Fits Over n shares) slots id me j (λ k. (k + a) % 2 ^ 64) (CountTells (step slots j a 0 none) me)) e (counts_end slots id r a me has new is)
 
-  pub sees_at : (i : ℕ) → n ≡ i → (slots id : ℕ) (me : Me (Option T) View) → Allows (Shows Fits Over n shares) slots id me i (λ k. k) (ReadTells (step slots i 0 0 none) me)
-  sees_at i e slots id me = subst (λ (j : ℕ). Allows (Shows Fits Over n shares) slots id me j (λ k. k) (ReadTells (step slots j 0 0 none) me)) e (sees slots id me)
+  pub sees_at : (i : ℕ) → n ≡ i → (slots id : ℕ) (me : Me (Option T) View) → Allows (PoolShows Fits Over n shares) slots id me i (λ k. k) (ReadTells (step slots i 0 0 none) me)
+  sees_at i e slots id me = subst (λ (j : ℕ). Allows (PoolShows Fits Over n shares) slots id me j (λ k. k) (ReadTells (step slots j 0 0 none) me)) e (sees slots id me)

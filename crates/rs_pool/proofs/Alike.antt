@@ -5,7 +5,7 @@ use Rattle.rs_core.specs.Actors.{Behaviour}
 use Rattle.rs_core.specs.Determined.{WasStopped}
 use Rattle.rs_core.specs.Plain as plain
 use Rattle.rs_core.specs.Plain.{Ending}
-use Rattle.rs_core.specs.Runs.{IsShown}
+use Rattle.rs_core.specs.Runs.{EndingShows}
 use Rattle.rs_core.specs.declared.runs.Outcome.TheVariants as outcome
 use Rattle.rs_core.specs.declared.transcripts.Entry.{Entry}
 use Rattle.rs_model.specs.Data.{Machine_data}
@@ -23,7 +23,7 @@ same_lists (suc n) (x ∷ xs) (y ∷ ys) a b same =
     (λ i. first i ∷ rest i)
 
 module _ {A : Type 0} (b : Behaviour A) where
-  both_shown : (roles : ℕ) (o : Ending A) (one other : List (List Entry)) (left right : List A) → IsShown roles o (outcome.Ended one) left → IsShown roles o (outcome.Ended other) right → (one ≡ other) × (left ≡ right)
+  both_shown : (roles : ℕ) (o : Ending A) (one other : List (List Entry)) (left right : List A) → EndingShows roles o (outcome.Ended one) left → EndingShows roles o (outcome.Ended other) right → (one ≡ other) × (left ≡ right)
   both_shown roles (plain.Ended k) one other left right x y = (
     same_lists roles one other x.0.many y.0.many (λ p l. x.0.each p l ∙ sym (y.0.each p l)),
     same_lists roles left right x.1.many y.1.many (λ p l. x.1.each p l ∙ sym (y.1.each p l)),
@@ -31,7 +31,7 @@ module _ {A : Type 0} (b : Behaviour A) where
   both_shown roles (plain.Stopped p k) one other left right x y = absurd x
   both_shown roles (plain.Stuck k) one other left right x y = absurd x
 
-  shown_stopped : (roles : ℕ) (o : Ending A) (one : List (List Entry)) (left : List A) → IsShown roles o (outcome.Ended one) left → WasStopped o → ⊥
+  shown_stopped : (roles : ℕ) (o : Ending A) (one : List (List Entry)) (left : List A) → EndingShows roles o (outcome.Ended one) left → WasStopped o → ⊥
   shown_stopped roles (plain.Ended k) one left x y = y
   shown_stopped roles (plain.Stopped p k) one left x y = x
   shown_stopped roles (plain.Stuck k) one left x y = x

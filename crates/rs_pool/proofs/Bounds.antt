@@ -8,7 +8,7 @@ use lib.ListN.{get_elem?, length-map, length-replicate}
 use Rattle.atomic_table.specs.Table.{State, Seen, Final, opening}
 use Rattle.atomic_table.proofs.Lists.{at_map}
 use Rattle.rs_pool.specs.declared.views.View.{View}
-use Rattle.rs_pool.specs.Rule.{Shows, first_view, total, amount_in}
+use Rattle.rs_pool.specs.Rule.{PoolShows, first_view, total, amount_in}
 use Rattle.rs_pool.specs.Calls.{AreSettled, AreCollected, AreSeated}
 use Rattle.rs_pool.proofs.Sums.{at_below, two_le, all_or_some}
 use Rattle.rs_pool.proofs.Known.{some_none}
@@ -66,7 +66,7 @@ now_empty fs gs i e near h k lt = ap (λ l. get_or l k false) e ∙ dite (ℕ_di
     (λ ne. get_or-set_other fs i k false false ne ∙ h k (omega arith))
 
 module _ {T : Type 0} (Fits : ℕ → T → Type 0) (Over : ℕ → T → Type 0) (n shares : ℕ) where
-  pub begins : (words : ℕ) (xs : List (Option T)) → n ≤ 16 → words ≡ n + 1 → ((t : T) → Over 0 t) → AreSeated Fits n xs → Shows Fits Over n shares (opening (replicate words 0) xs (first_view shares))
+  pub begins : (words : ℕ) (xs : List (Option T)) → n ≤ 16 → words ≡ n + 1 → ((t : T) → Over 0 t) → AreSeated Fits n xs → PoolShows Fits Over n shares (opening (replicate words 0) xs (first_view shares))
   begins words xs few w none' b = record {
     holder = λ _. None;
     counter = λ _. 0;
@@ -97,7 +97,7 @@ module _ {T : Type 0} (Fits : ℕ → T → Type 0) (Over : ℕ → T → Type 0
   }
 
   -- nobody else holds a task where one view has all shares
-  all_home : (s : State (Option T) View) (sh : Shows Fits Over n shares s) (id : ℕ) (v : View) → get_elem? s.views id ≡ some v → v.held ≡ None → v.shares ≡ shares → (r : ℕ) → r < n → sh.holder r ≡ None
+  all_home : (s : State (Option T) View) (sh : PoolShows Fits Over n shares s) (id : ℕ) (v : View) → get_elem? s.views id ≡ some v → v.held ≡ None → v.shares ≡ shares → (r : ℕ) → r < n → sh.holder r ≡ None
   all_home s sh id v at rests whole r l = go (sh.holder r) refl
     where
       go : (o : Option ℕ) → sh.holder r ≡ o → sh.holder r ≡ None
@@ -106,7 +106,7 @@ module _ {T : Type 0} (Fits : ℕ → T → Type 0) (Over : ℕ → T → Type 0
           (λ is. absurd (some_none r v.held (ap (λ (u : View). u.held) (some-injective v h.0 (sym at ∙ ap (get_elem? s.views) is ∙ h.1)) ∙ h.2) rests))
           (λ ne. let t = two_le {A = View} (λ d. d.shares) s.views id j v h.0 ne at h.1 in let w = sh.shared in absurd (omega arith))
 
-  pub closes : (id : ℕ) (v : View) (ws : List ℕ) (xs : List (Option T)) → v.held ≡ None → v.shares ≡ shares → n ≤ v.seen → Final (Seen (Shows Fits Over n shares) id v) ws xs → AreSettled Fits Over n xs
+  pub closes : (id : ℕ) (v : View) (ws : List ℕ) (xs : List (Option T)) → v.held ≡ None → v.shares ≡ shares → n ≤ v.seen → Final (Seen (PoolShows Fits Over n shares) id v) ws xs → AreSettled Fits Over n xs
   closes id v ws xs rests whole over f = let s = f.0 in let sh = f.1.0 in let at = f.1.1 in let same : length s.homes ≡ length xs = f.3 in
       let home = λ (r : ℕ) (l : r < n). (sh.places r l).home (all_home s sh id v at rests whole r l) in
       let there = λ (r : ℕ) (l : r < n). f.4 r (Some (home r l).0) (home r l).1 in

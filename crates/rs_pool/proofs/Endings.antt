@@ -12,7 +12,7 @@ use Rattle.rs_core.specs.Determined.{IsRun, EndsWith}
 use Rattle.rs_core.specs.Histories.{History, IsLegal, transcript_of, entry_of}
 use Rattle.rs_core.specs.Plain as plain
 use Rattle.rs_core.specs.Plain.{Ending, IsStoppedEventually}
-use Rattle.rs_core.specs.Runs.{HasTranscripts, IsGiven, IsShown}
+use Rattle.rs_core.specs.Runs.{HasTranscripts, IsGiven, EndingShows}
 use Rattle.rs_core.specs.Safety.{AllEnded, IsSafe}
 use Rattle.rs_core.specs.declared.runs.Outcome.{Outcome}
 use Rattle.rs_core.specs.declared.runs.Outcome.TheVariants as outcome
@@ -29,29 +29,29 @@ use Rattle.rs_rings.specs.Views.{history_in, part_of}
 use Rattle.rs_rings.specs.declared.views.Part.{Part}
 use Rattle.rs_session.specs.Data.{Stage_data}
 use Rattle.rs_session.specs.Ends.{AreAll, AreAllThere, AreOf, KnowsFrom}
-use Rattle.rs_session.specs.Stages.{IsEnded, IsOf, shown}
+use Rattle.rs_session.specs.Stages.{IsEnded, IsOf, sight_of_stage}
 use Rattle.rs_session.specs.declared.stages.Stage.{Stage}
 use Rattle.rs_session.specs.declared.stages.Stage.TheVariants.{Sending, Receiving, Ended}
 use Rattle.rs_pool.proofs.Lists.{all_at, get_map, if_some_at, map_back}
-use Rattle.rs_pool.specs.Jobs.{Start, Fits, HasItsTranscript, PlaysGiven, Stands, actors_of, stages_of, transcripts_of}
+use Rattle.rs_pool.specs.Jobs.{Start, JobFits, HasItsTranscript, PlaysGiven, TaskStands, actors_of, stages_of, transcripts_of}
 use Rattle.rs_pool.specs.Pool.{AgreesWithPlain}
 use Rattle.rs_pool.specs.declared.jobs.Job.{Job}
 use Rattle.rs_pool.specs.declared.jobs.Progress.{Progress}
 use Rattle.rs_pool.specs.declared.jobs.Progress.TheVariants as progress
 
 -- a stage that hasn't ended doesn't stand at the end of its machine
-not_done : (session : Rings_data) (stage : Stage) → IsOf session stage → (HasEnded stage → ⊥) → state_of (slice_get session.machines (shown stage).role.0) (shown stage).part.state ≢ Some Done
+not_done : (session : Rings_data) (stage : Stage) → IsOf session stage → (HasEnded stage → ⊥) → state_of (slice_get session.machines (sight_of_stage stage).role.0) (sight_of_stage stage).part.state ≢ Some Done
 not_done session (Sending s) of goes e = cc (of.stands, e)
 not_done session (Receiving s) of goes e = cc (of.stands, e)
 not_done session (Ended s) of goes e = goes tt
 
-ended_is : (session : Rings_data) (stage : Stage) → IsOf session stage → HasEnded stage → IsEnded session (shown stage)
+ended_is : (session : Rings_data) (stage : Stage) → IsOf session stage → HasEnded stage → IsEnded session (sight_of_stage stage)
 ended_is session (Sending s) of ended = absurd ended
 ended_is session (Receiving s) of ended = absurd ended
 ended_is session (Ended s) of ended = of
 
 module _ {A : Type 0} (b : Behaviour A) (start : Start A) where
-  plays_of : (r : ℕ) (p : Progress) (task : Task_data A) → p ≢ progress.Refused → Stands b start r p task → PlaysGiven b start r task
+  plays_of : (r : ℕ) (p : Progress) (task : Task_data A) → p ≢ progress.Refused → TaskStands b start r p task → PlaysGiven b start r task
   plays_of r progress.Underway task ne so = so
   plays_of r progress.Ended task ne so = so.0
   plays_of r progress.AtLimit task ne so = so.0
@@ -60,7 +60,7 @@ module _ {A : Type 0} (b : Behaviour A) (start : Start A) where
   abbrev NoneRefused : List (Job A) → Type 0
   NoneRefused jobs = (r : ℕ) (job : Job A) → slice_get jobs r ≡ Some job → job.progress ≢ progress.Refused
 
-  module _ (n : ℕ) (jobs : List (Job A)) (count : length jobs ≡ n) (fits_at : (r : ℕ) (job : Job A) → slice_get jobs r ≡ Some job → Fits b start r job) (many : n ≡ length start.session.machines) where
+  module _ (n : ℕ) (jobs : List (Job A)) (count : length jobs ≡ n) (fits_at : (r : ℕ) (job : Job A) → slice_get jobs r ≡ Some job → JobFits b start r job) (many : n ≡ length start.session.machines) where
     job_at : (r : ℕ) → r < n → (job : Job A) × (slice_get jobs r ≡ Some job)
     job_at r l = get-there jobs r (omega (arith, count))
 
@@ -70,36 +70,36 @@ module _ {A : Type 0} (b : Behaviour A) (start : Start A) where
     pub are_of : AreOf start.session (stages_of jobs)
     are_of place stage at = let s = stage_at place stage at in subst (IsOf start.session) s.2 (fits_at place s.0 s.1).of.of
 
-    pub all_there : AreAllThere n (map shown (stages_of jobs))
+    pub all_there : AreAllThere n (map sight_of_stage (stages_of jobs))
     all_there r l = let j = job_at r l in record {
       place = r;
-      stage = shown j.0.task.stage;
-      stands = get_map shown (stages_of jobs) r j.0.task.stage (get_map (λ (k : Job A). k.task.stage) jobs r j.0 j.1);
+      stage = sight_of_stage j.0.task.stage;
+      stands = get_map sight_of_stage (stages_of jobs) r j.0.task.stage (get_map (λ (k : Job A). k.task.stage) jobs r j.0 j.1);
       role = ap (λ (x : Role). x.0) (fits_at r j.0 j.1).role;
     }
 
-    pub are_all_ended : All HasEnded (stages_of jobs) → AreAll (IsEnded start.session) (map shown (stages_of jobs))
+    pub are_all_ended : All HasEnded (stages_of jobs) → AreAll (IsEnded start.session) (map sight_of_stage (stages_of jobs))
     are_all_ended over place stage at =
-        let s = map_back shown (stages_of jobs) place stage at in
+        let s = map_back sight_of_stage (stages_of jobs) place stage at in
         subst (IsEnded start.session) s.2 (ended_is start.session s.0 (are_of place s.0 s.1) (all_at HasEnded (stages_of jobs) place s.0 over s.1))
 
-    module _ (closed : Closed_data) (same : closed.machines ≡ start.session.machines) (knows : KnowsFrom (map shown (stages_of jobs)) closed) where
-      part_is : (r : ℕ) (job : Job A) → slice_get jobs r ≡ Some job → part_of closed.last r ≡ (shown job.task.stage).part
+    module _ (closed : Closed_data) (same : closed.machines ≡ start.session.machines) (knows : KnowsFrom (map sight_of_stage (stages_of jobs)) closed) where
+      part_is : (r : ℕ) (job : Job A) → slice_get jobs r ≡ Some job → part_of closed.last r ≡ (sight_of_stage job.task.stage).part
       part_is r job at =
           let low : r < n = (let l = slice_get_within jobs r job at in omega (arith, count, many)) in
           let k = knows r (subst (λ (z : ℕ). r < z) (many ∙ ap length (sym same)) low) in
-          let s = map_back shown (stages_of jobs) k.0.place k.0.stage k.0.stands in
+          let s = map_back sight_of_stage (stages_of jobs) k.0.place k.0.stage k.0.stands in
           let t = stage_at k.0.place s.0 s.1 in
           let f = fits_at k.0.place t.0 t.1 in
-          let here : k.0.place ≡ r = sym (ap (λ (x : Role). x.0) f.role) ∙ ap (λ (z : Stage). (shown z).role.0) t.2 ∙ ap (λ (d : Stage_data). d.role.0) s.2 ∙ k.0.role in
+          let here : k.0.place ≡ r = sym (ap (λ (x : Role). x.0) f.role) ∙ ap (λ (z : Stage). (sight_of_stage z).role.0) t.2 ∙ ap (λ (d : Stage_data). d.role.0) s.2 ∙ k.0.role in
           let own : t.0 ≡ job = same_Some t.0 job (sym t.1 ∙ ap (slice_get jobs) here ∙ at) in
-          k.1 ∙ ap (λ (d : Stage_data). d.part) (sym s.2) ∙ ap (λ (z : Stage). (shown z).part) (sym t.2) ∙ ap (λ (j : Job A). (shown j.task.stage).part) own
+          k.1 ∙ ap (λ (d : Stage_data). d.part) (sym s.2) ∙ ap (λ (z : Stage). (sight_of_stage z).part) (sym t.2) ∙ ap (λ (j : Job A). (sight_of_stage j.task.stage).part) own
 
-      history_is : (r : ℕ) (job : Job A) → slice_get jobs r ≡ Some job → history_in closed.last r ≡ (shown job.task.stage).part.history
+      history_is : (r : ℕ) (job : Job A) → slice_get jobs r ≡ Some job → history_in closed.last r ≡ (sight_of_stage job.task.stage).part.history
       history_is r job at = ap (λ (x : Part). x.history) (part_is r job at)
 
       few_at : All HasItsTranscript jobs → (r : ℕ) (job : Job A) → slice_get jobs r ≡ Some job → length (history_in closed.last r) ≡ length job.task.transcript
-      few_at its r job at = ap length (history_is r job at) ∙ sym (length-map (shown job.task.stage).part.history entry_of) ∙ ap length (sym (all_at HasItsTranscript jobs r job its at))
+      few_at its r job at = ap length (history_is r job at) ∙ sym (length-map (sight_of_stage job.task.stage).part.history entry_of) ∙ ap length (sym (all_at HasItsTranscript jobs r job its at))
 
       played_at : (r : ℕ) (job : Job A) (m : Machine_data) (x : A) → NoneRefused jobs → slice_get jobs r ≡ Some job → slice_get start.session.machines r ≡ Some m → slice_get start.given r ≡ Some x
           → Plays b m x (history_in closed.last r) job.task.kept job.task.actor
@@ -143,14 +143,14 @@ module _ {A : Type 0} (b : Behaviour A) (start : Start A) where
           let r = role.0 in
           let f = fits_at r job at in
           let low : r < length start.session.machines = (let l = slice_get_within jobs r job at in omega (arith, count, many)) in
-          let stands : Stands b start r progress.AtLimit job.task = subst (λ (p : Progress). Stands b start r p job.task) is f.stands in
+          let stands : TaskStands b start r progress.AtLimit job.task = subst (λ (p : Progress). TaskStands b start r p job.task) is f.stands in
           let there : r < length closed.machines = subst (λ (ms : List Machine_data). r < length ms) (sym same) low in
-          let state : left.end.at r ≡ (shown job.task.stage).part.state = left.states r there ∙ ap (λ (x : Part). x.state) (part_is r job at) in
+          let state : left.end.at r ≡ (sight_of_stage job.task.stage).part.state = left.states r there ∙ ap (λ (x : Part). x.state) (part_is r job at) in
           session_of left.end (outcome.Stopped role) none its left.legal record {
             there = low;
             acts = (let e = few_at its r job at in let a = f.acts in let l = f.limit in let m = stands.2 in omega arith);
             goes_on = λ e. not_done start.session job.task.stage f.of.of stands.1
-                (ap (λ (x : Role). state_of (slice_get start.session.machines x.0) (shown job.task.stage).part.state) f.role ∙ ap (λ (z : ℕ). state_of (slice_get start.session.machines r) z) (sym state) ∙ e);
+                (ap (λ (x : Role). state_of (slice_get start.session.machines x.0) (sight_of_stage job.task.stage).part.state) f.role ∙ ap (λ (z : ℕ). state_of (slice_get start.session.machines r) z) (sym state) ∙ e);
           }
 
 -- what a run comes to, whatever the order of its turns, is what the plain run comes to
@@ -175,7 +175,7 @@ module _ {A : Type 0} (b : Behaviour A) (well : ChoosesWell b) (ms : List Machin
       few = s.few;
     }
 
-    shows : (transcripts : List (List Entry)) → HasTranscripts (length ms) (history_in closed.last) transcripts → (e : Ending A) → EndsWith ms (history_in closed.last) after e → IsShown (length ms) e (outcome.Ended transcripts) left
+    shows : (transcripts : List (List Entry)) → HasTranscripts (length ms) (history_in closed.last) transcripts → (e : Ending A) → EndsWith ms (history_in closed.last) after e → EndingShows (length ms) e (outcome.Ended transcripts) left
     shows transcripts has (plain.Ended k) same = (
       record { many = has.many; each = λ p l. has.each p l ∙ ap (λ (h : History). Some (transcript_of h)) (sym (same p l).0) },
       record {

@@ -10,7 +10,7 @@ use lib.ListN.{get_elem?}
 use Rattle.atomic_table.proofs.Lists.{at_set, set_here, set_else, at_longer}
 use Rattle.rs_pool.specs.declared.views.Count.{Count}
 use Rattle.rs_pool.specs.declared.views.View.{View}
-use Rattle.rs_pool.specs.Rule.{Held, Counts, Ends, amount_in, counted_by, holding, freed, counting, joined, spent_view}
+use Rattle.rs_pool.specs.Rule.{Held, RolesAreCounted, EndsWord, amount_in, count_of_view, holding, view_without_job, counting, sum_of_views, spent_view}
 use Rattle.rs_pool.proofs.Sums.{at_below, at_snoc_where, at_put, put_case, sum_set, total_put}
 
 pub some_same : {A : Type 0} (x y : A) → Some x ≡ Some y → x ≡ y
@@ -55,8 +55,8 @@ module _ (n : ℕ) (holder : ℕ → Option ℕ) (views : List View) (hl : Held 
           (at_set views id j w d there);
     }
 
-    pub held_free : (r : ℕ) → v.held ≡ Some r → Held n (at_put holder r None) (set views id (freed v))
-    held_free r has = let w : View = freed v in let mine = hl.only id v r at has in record {
+    pub held_free : (r : ℕ) → v.held ≡ Some r → Held n (at_put holder r None) (set views id (view_without_job v))
+    held_free r has = let w : View = view_without_job v in let mine = hl.only id v r at has in record {
       each = λ y j b h. put_case holder r None y (λ z. z ≡ Some j → (d : View) × (get_elem? (set views id w) j ≡ some d) × (d.held ≡ Some y))
           (λ _ e. absurd (some_none j None e refl))
           (λ ne h'. let e = hl.each y j b h' in
@@ -80,15 +80,15 @@ amount_here r a cs = rw (eq-eqb r r refl) refl
 pub amount_other : (y r a : ℕ) (cs : List Count) → y ≢ r → amount_in y (record { role = r; amount = a } ∷ cs) ≡ amount_in y cs
 amount_other y r a cs ne = rw (ne_eqb y r ne) (omega arith)
 
-module _ (n : ℕ) (counter amount : ℕ → ℕ) (views : List View) (ct : Counts n counter amount views) where
-  pub counts_snoc : (w : View) → w.counted ≡ [] → Counts n counter amount (views ++ w ∷ [])
+module _ (n : ℕ) (counter amount : ℕ → ℕ) (views : List View) (ct : RolesAreCounted n counter amount views) where
+  pub counts_snoc : (w : View) → w.counted ≡ [] → RolesAreCounted n counter amount (views ++ w ∷ [])
   counts_snoc w nil = record {
     each = λ r l c. let e = ct.each r l c in (e.0, at_longer views (w ∷ []) (counter r) e.0 e.1, e.2);
     only = λ j d r there c. ⊎_elim (λ t. ct.only j d r t c) (λ t. absurd (c (ap (λ (u : View). amount_in r u.counted) (sym t.1) ∙ ap (amount_in r) nil))) (at_snoc_where views w d j there);
   }
 
   module _ (id : ℕ) (v : View) (at : get_elem? views id ≡ some v) where
-    pub counts_same : (w : View) → w.counted ≡ v.counted → Counts n counter amount (set views id w)
+    pub counts_same : (w : View) → w.counted ≡ v.counted → RolesAreCounted n counter amount (set views id w)
     counts_same w same = record {
       each = λ r l c. let e = ct.each r l c in dite (ℕ_discrete (counter r) id)
           (λ is. (w, ap (get_elem? (set views id w)) is ∙ set_here views id w (at_below views id v at), ap (amount_in r) same ∙ ap (λ (u : View). amount_in r u.counted) (some-injective v e.0 (sym at ∙ ap (get_elem? views) (sym is) ∙ e.1)) ∙ e.2))
@@ -99,7 +99,7 @@ module _ (n : ℕ) (counter amount : ℕ → ℕ) (views : List View) (ct : Coun
           (at_set views id j w d there);
     }
 
-    pub counts_add : (r a : ℕ) → r < n → amount r ≡ 0 → Counts n (at_put counter r id) (at_put amount r a) (set views id (counting r a v))
+    pub counts_add : (r a : ℕ) → r < n → amount r ≡ 0 → RolesAreCounted n (at_put counter r id) (at_put amount r a) (set views id (counting r a v))
     counts_add r a l free = let w : View = counting r a v in
         let none : (j : ℕ) (d : View) → get_elem? views j ≡ some d → amount_in r d.counted ≡ 0 = λ j d there. dite (ℕ_discrete (amount_in r d.counted) 0) (λ z. z) (λ c. let o = ct.only j d r there c in o.2 ∙ free) in
         let here : amount_in r w.counted ≡ a = amount_here r a v.counted ∙ ap (λ (k : ℕ). a + k) (none id v at) ∙ omega arith in record {
@@ -128,8 +128,8 @@ module _ (n : ℕ) (counter amount : ℕ → ℕ) (views : List View) (ct : Coun
               (at_set views id j w d there);
         }
 
-    pub counts_join : (other : ℕ) (u : View) → other ≢ id → get_elem? views other ≡ some u → Counts n (λ y. if counter y == other then id else counter y) amount (set (set views id (joined v u)) other spent_view)
-    counts_join other u apart at' = let w : View = joined v u in let us : List View = set views id w in let vs : List View = set us other spent_view in
+    pub counts_join : (other : ℕ) (u : View) → other ≢ id → get_elem? views other ≡ some u → RolesAreCounted n (λ y. if counter y == other then id else counter y) amount (set (set views id (sum_of_views v u)) other spent_view)
+    counts_join other u apart at' = let w : View = sum_of_views v u in let us : List View = set views id w in let vs : List View = set us other spent_view in
         let there : get_elem? vs id ≡ some w = set_else us other id spent_view (λ e. apart (sym e)) ∙ set_here views id w (at_below views id v at) in
         let both : (y : ℕ) → amount_in y w.counted ≡ amount_in y v.counted + amount_in y u.counted = λ y. amount_append y v.counted u.counted in record {
           each = λ y b c. let e = ct.each y b c in elim (eqb_tells (counter y) other) [
@@ -160,33 +160,33 @@ module _ (n : ℕ) (counter amount : ℕ → ℕ) (views : List View) (ct : Coun
         }
 
 -- what they know of the word of ends
-module _ (n word : ℕ) (amount : ℕ → ℕ) (views : List View) (en : Ends n word amount views) where
-  pub ends_snoc : (w : View) → w.counted ≡ [] → w.seen ≡ 0 → Ends n word amount (views ++ w ∷ [])
+module _ (n word : ℕ) (amount : ℕ → ℕ) (views : List View) (en : EndsWord n word amount views) where
+  pub ends_snoc : (w : View) → w.counted ≡ [] → w.seen ≡ 0 → EndsWord n word amount (views ++ w ∷ [])
   ends_snoc w nil zero' = record {
     roles = en.roles;
-    counted = let a = sum_by-append counted_by views (w ∷ []) in let b' = sum_by-cons counted_by w [] in let b : counted_by w ≡ 0 = ap (λ cs. sum_by {X = Count} (λ c. c.amount) cs) nil in let c = en.counted in omega arith;
+    counted = let a = sum_by-append count_of_view views (w ∷ []) in let b' = sum_by-cons count_of_view w [] in let b : count_of_view w ≡ 0 = ap (λ cs. sum_by {X = Count} (λ c. c.amount) cs) nil in let c = en.counted in omega arith;
     seen = λ j d there. ⊎_elim (λ t. en.seen j d t) (λ t. let e : d.seen ≡ 0 = ap (λ (u : View). u.seen) (sym t.1) ∙ zero' in omega arith) (at_snoc_where views w d j there);
   }
 
   module _ (id : ℕ) (v : View) (at : get_elem? views id ≡ some v) where
-    pub ends_same : (w : View) → w.counted ≡ v.counted → w.seen ≤ word → Ends n word amount (set views id w)
+    pub ends_same : (w : View) → w.counted ≡ v.counted → w.seen ≤ word → EndsWord n word amount (set views id w)
     ends_same w same le = record {
       roles = en.roles;
-      counted = let a = sum_set counted_by views id v w at in let b : counted_by w ≡ counted_by v = ap (λ cs. sum_by {X = Count} (λ c. c.amount) cs) same in let c = en.counted in omega arith;
+      counted = let a = sum_set count_of_view views id v w at in let b : count_of_view w ≡ count_of_view v = ap (λ cs. sum_by {X = Count} (λ c. c.amount) cs) same in let c = en.counted in omega arith;
       seen = λ j d there. ⊎_elim (λ t. subst (λ (u : View). u.seen ≤ word) t.1 le) (λ t. en.seen j d t.1) (at_set views id j w d there);
     }
 
-    pub ends_add : (r a : ℕ) → r < n → amount r ≡ 0 → Ends n (word + a) (at_put amount r a) (set views id (counting r a v))
+    pub ends_add : (r a : ℕ) → r < n → amount r ≡ 0 → EndsWord n (word + a) (at_put amount r a) (set views id (counting r a v))
     ends_add r a l free = let w : View = counting r a v in record {
       roles = let t = total_put amount r a n l in let c = en.roles in omega arith;
-      counted = let t = sum_set counted_by views id v w at in let b : counted_by w ≡ a + counted_by v = sum_by-cons {X = Count} (λ c. c.amount) (record { role = r; amount = a }) v.counted in let c = en.counted in omega arith;
+      counted = let t = sum_set count_of_view views id v w at in let b : count_of_view w ≡ a + count_of_view v = sum_by-cons {X = Count} (λ c. c.amount) (record { role = r; amount = a }) v.counted in let c = en.counted in omega arith;
       seen = λ j d there. ⊎_elim (λ t. let s = en.seen id v at in let e : d.seen ≡ v.seen = ap (λ (u : View). u.seen) (sym t.1) in omega arith) (λ t. let s = en.seen j d t.1 in omega arith) (at_set views id j w d there);
     }
 
-    pub ends_join : (other : ℕ) (u : View) → other ≢ id → get_elem? views other ≡ some u → Ends n word amount (set (set views id (joined v u)) other spent_view)
-    ends_join other u apart at' = let w : View = joined v u in let us : List View = set views id w in let at'' : get_elem? us other ≡ some u = set_else views id other w apart ∙ at' in record {
+    pub ends_join : (other : ℕ) (u : View) → other ≢ id → get_elem? views other ≡ some u → EndsWord n word amount (set (set views id (sum_of_views v u)) other spent_view)
+    ends_join other u apart at' = let w : View = sum_of_views v u in let us : List View = set views id w in let at'' : get_elem? us other ≡ some u = set_else views id other w apart ∙ at' in record {
       roles = en.roles;
-      counted = let a = sum_set counted_by views id v w at in let b = sum_set counted_by us other u spent_view at'' in let b' : counted_by spent_view ≡ 0 = refl in let c : counted_by w ≡ counted_by v + counted_by u = sum_by-append {X = Count} (λ c. c.amount) v.counted u.counted in let d = en.counted in omega arith;
+      counted = let a = sum_set count_of_view views id v w at in let b = sum_set count_of_view us other u spent_view at'' in let b' : count_of_view spent_view ≡ 0 = refl in let c : count_of_view w ≡ count_of_view v + count_of_view u = sum_by-append {X = Count} (λ c. c.amount) v.counted u.counted in let d = en.counted in omega arith;
       seen = λ j d there. ⊎_elim (λ t. let e : d.seen ≡ 0 = ap (λ (k : View). k.seen) (sym t.1) in omega arith)
           (λ t. ⊎_elim (λ t'. subst (λ (k : View). k.seen ≤ word) t'.1 (max-le (en.seen id v at) (en.seen other u at'))) (λ t'. en.seen j d t'.1) (at_set views id j w d t.1))
           (at_set us other j spent_view d there);

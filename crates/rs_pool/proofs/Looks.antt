@@ -5,7 +5,7 @@ use Rattle.rs_core.specs.Actors.{Behaviour}
 use Rattle.rs_exec.specs.Tasks.{HasEnded}
 use Rattle.rs_pool.proofs.Lists.{elem_of, of_elem, map_back, all_from}
 use Rattle.rs_pool.specs.Calls.{AreCollected}
-use Rattle.rs_pool.specs.Jobs.{Start, Fits, Over, Stands, first_with, is_same, stages_of}
+use Rattle.rs_pool.specs.Jobs.{Start, JobFits, Over, TaskStands, first_with, is_same, stages_of}
 use Rattle.rs_pool.specs.declared.jobs.Job.{Job}
 use Rattle.rs_pool.specs.declared.jobs.Progress.{Progress}
 use Rattle.rs_pool.specs.declared.jobs.Progress.TheVariants.{Underway, Ended, AtLimit, Refused}
@@ -63,8 +63,8 @@ module _ {A : Type 0} (p : Progress) where
   pub none_at : (jobs : List (Job A)) → first_with p 0 jobs ≡ None → (r : ℕ) (job : Job A) → slice_get jobs r ≡ Some job → job.progress ≢ p
   none_at = none_from 0
 
-module _ {A : Type 0} (b : Behaviour A) (start : Start A) (n : ℕ) (jobs : List (Job A)) (c : AreCollected (Fits b start) Over n jobs) where
-  pub fits_at : (r : ℕ) (job : Job A) → slice_get jobs r ≡ Some job → Fits b start r job
+module _ {A : Type 0} (b : Behaviour A) (start : Start A) (n : ℕ) (jobs : List (Job A)) (c : AreCollected (JobFits b start) Over n jobs) where
+  pub fits_at : (r : ℕ) (job : Job A) → slice_get jobs r ≡ Some job → JobFits b start r job
   fits_at r job at = c.tasks r job (elem_of jobs r job at)
 
   -- where none is refused and none is at its limit, all have ended
@@ -73,5 +73,5 @@ module _ {A : Type 0} (b : Behaviour A) (start : Start A) (n : ℕ) (jobs : List
       let j = map_back (λ (k : Job A). k.task.stage) jobs r stage at in
       let is : j.0.progress ≡ Ended = ⊎_elim (λ all. all r j.0 (elem_of jobs r j.0 j.1))
       (λ m. absurd (⊎_elim (none_at AtLimit jobs going m.0 m.1 (of_elem jobs m.0 m.1 m.2)) (none_at Refused jobs well m.0 m.1 (of_elem jobs m.0 m.1 m.2)) m.3)) c.over in
-      let stands : Stands b start r Ended j.0.task = subst (λ (p : Progress). Stands b start r p j.0.task) is (fits_at r j.0 j.1).stands in
+      let stands : TaskStands b start r Ended j.0.task = subst (λ (p : Progress). TaskStands b start r p j.0.task) is (fits_at r j.0 j.1).stands in
       subst HasEnded j.2 stands.1)

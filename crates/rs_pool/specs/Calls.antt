@@ -19,8 +19,8 @@ HasRead n m m' true = (n ≤ m'.0.seen) × (m.0.seen ≤ m'.0.seen) × (m' ≡ (
 HasRead n m m' false = (m'.0.seen < n) × (m.0.seen ≤ m'.0.seen) × (m' ≡ (seeing m'.0.seen m.0, m.1))
 
 -- a seat between two claims: it holds nothing, and has so many shares
-abbrev pub Rests : {T : Type 0} → ℕ → Me (Option T) View → Type 0
-Rests shares m = (m.0.held ≡ None) × (m.1 ≡ []) × (m.0.shares ≡ shares)
+abbrev pub SeatRests : {T : Type 0} → ℕ → Me (Option T) View → Type 0
+SeatRests shares m = (m.0.held ≡ None) × (m.1 ≡ []) × (m.0.shares ≡ shares)
 
 -- what the slots hold in the end: each role's job, and all have ended or one has stopped
 pub record AreSettled {T : Type 0} (Fits : ℕ → T → Type 0) (Over : ℕ → T → Type 0) (n : ℕ) (xs : List (Option T)) : Type 0 where
@@ -41,8 +41,8 @@ pub record AreSeated {T : Type 0} (Fits : ℕ → T → Type 0) (n : ℕ) (xs : 
 
 -- a worker's seat before its work
 abbrev pub IsSeated : {A : Type 0} → TableId → Chair A → Type 0
-IsSeated table c = (c.desk.table_id ≡ table) × Rests 1 c.desk.me
+IsSeated table c = (c.desk.table_id ≡ table) × SeatRests 1 c.desk.me
 
 -- .. and after it: it has read that as much was counted as there are roles
 abbrev pub HasFinished : {A : Type 0} → TableId → ℕ → Chair A → Type 0
-HasFinished table n c = (c.desk.table_id ≡ table) × Rests 1 c.desk.me × (n ≤ c.desk.me.0.seen)
+HasFinished table n c = (c.desk.table_id ≡ table) × SeatRests 1 c.desk.me × (n ≤ c.desk.me.0.seen)

@@ -7,9 +7,9 @@ use Rattle.rs_exec.specs.Data.{Task_data}
 use Rattle.rs_exec.specs.Tasks.{HasEnded, IsTaskOf, PlaysTask}
 use Rattle.rs_exec.specs.declared.tasks.Turn.{Turn}
 use Rattle.rs_exec.specs.declared.tasks.Turn.TheVariants as turn
-use Rattle.rs_rings.specs.Acts.{numbered}
+use Rattle.rs_rings.specs.Acts.{role_of_number}
 use Rattle.rs_rings.specs.Passes.{Rings_data}
-use Rattle.rs_session.specs.Stages.{shown}
+use Rattle.rs_session.specs.Stages.{sight_of_stage}
 use Rattle.rs_session.specs.declared.stages.Stage.{Stage}
 use Rattle.rs_pool.specs.declared.jobs.Job.{Job}
 use Rattle.rs_pool.specs.declared.jobs.Progress.{Progress}
@@ -41,19 +41,19 @@ abbrev pub PlaysGiven : {A : Type 0} → Behaviour A → Start A → ℕ → Tas
 PlaysGiven b start r task = IfSome (slice_get start.given r) (λ x. PlaysTask start.session b x task)
 
 -- what is known of the task by its progress
-abbrev pub Stands : {A : Type 0} → Behaviour A → Start A → ℕ → Progress → Task_data A → Type 0
-Stands b start r Underway task = PlaysGiven b start r task
-Stands b start r Ended task = PlaysGiven b start r task × HasEnded task.stage
-Stands b start r AtLimit task = PlaysGiven b start r task × (HasEnded task.stage → ⊥) × (task.limit ≤ length task.transcript)
-Stands b start r Refused task = task.failed ≡ true
+abbrev pub TaskStands : {A : Type 0} → Behaviour A → Start A → ℕ → Progress → Task_data A → Type 0
+TaskStands b start r Underway task = PlaysGiven b start r task
+TaskStands b start r Ended task = PlaysGiven b start r task × HasEnded task.stage
+TaskStands b start r AtLimit task = PlaysGiven b start r task × (HasEnded task.stage → ⊥) × (task.limit ≤ length task.transcript)
+TaskStands b start r Refused task = task.failed ≡ true
 
 -- the job of role r: its task is of the session, has the limit, and has made no more acts than that
-pub record Fits {A : Type 0} (b : Behaviour A) (start : Start A) (r : ℕ) (job : Job A) : Type 0 where
+pub record JobFits {A : Type 0} (b : Behaviour A) (start : Start A) (r : ℕ) (job : Job A) : Type 0 where
   pub of : IsTaskOf start.session job.task
-  pub role : (shown job.task.stage).role ≡ numbered r
+  pub role : (sight_of_stage job.task.stage).role ≡ role_of_number r
   pub limit : job.task.limit ≡ start.limit
   pub acts : length job.task.transcript ≤ start.limit
-  pub stands : Stands b start r job.progress job.task
+  pub stands : TaskStands b start r job.progress job.task
 
 -- what the amount that was counted says of a job
 abbrev pub Over : {A : Type 0} → ℕ → Job A → Type 0
@@ -75,14 +75,14 @@ transcripts_of jobs = map (λ j. j.task.transcript) jobs
 
 -- a job's transcript is that of its stage's history
 abbrev pub HasItsTranscript : {A : Type 0} → Job A → Type 0
-HasItsTranscript job = job.task.transcript ≡ transcript_of (shown job.task.stage).part.history
+HasItsTranscript job = job.task.transcript ≡ transcript_of (sight_of_stage job.task.stage).part.history
 
 -- the stage's role has made no act
 abbrev pub HasDoneNothing : Stage → Type 0
-HasDoneNothing stage = (shown stage).part.history ≡ []
+HasDoneNothing stage = (sight_of_stage stage).part.history ≡ []
 
 -- a job whose task has made no turn
-pub record IsNew {A : Type 0} (most : ℕ) (job : Job A) : Type 0 where
+pub record JobIsNew {A : Type 0} (most : ℕ) (job : Job A) : Type 0 where
   pub progress : job.progress ≡ Underway
   pub limit : job.task.limit ≡ most
   pub kept : job.task.kept ≡ None

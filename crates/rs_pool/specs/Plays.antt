@@ -2,7 +2,7 @@
 use Rattle.std.specs.Prelude.{◌≡◌, ◌≢◌, ℕ, ◌≤◌, ◌∷◌, Option, Some}
 use Rattle.atomic_table.specs.Table.{Step, Me, rest}
 use Rattle.rs_pool.specs.declared.views.View.{View}
-use Rattle.rs_pool.specs.Rule.{amount_in, holding, freed, counting, seeing}
+use Rattle.rs_pool.specs.Rule.{amount_in, holding, view_without_job, counting, seeing}
 
 -- a compare_exchange on a role's word: where the word was 0 the seat has that role's job, which its view hasn't counted, and
 -- else nothing has changed
@@ -13,7 +13,7 @@ ClaimTells {T} Fits st m found m' =
 
 -- a store on a role's word: the job that the seat has goes home
 abbrev pub GiveTells : {T : Type 0} → Step (Option T) → Me (Option T) View → ℕ → Me (Option T) View → Type 0
-GiveTells st m stored m' = m' ≡ (freed m.0, rest m.1)
+GiveTells st m stored m' = m' ≡ (view_without_job m.0, rest m.1)
 
 -- a fetch_add on the word of ends: the role of the job that the seat has is counted
 abbrev pub CountTells : {T : Type 0} → Step (Option T) → Me (Option T) View → ℕ → Me (Option T) View → Type 0

@@ -15,8 +15,8 @@ amount_in r [] = 0
 amount_in r (c ∷ cs) = (if r == c.role then c.amount else 0) + amount_in r cs
 
 -- all that a view counted
-abbrev pub counted_by : View → ℕ
-counted_by d = sum_by (λ c. c.amount) d.counted
+abbrev pub count_of_view : View → ℕ
+count_of_view d = sum_by (λ c. c.amount) d.counted
 
 -- the sum over the first so many roles
 abbrev pub total : (ℕ → ℕ) → ℕ → ℕ
@@ -55,7 +55,7 @@ pub record Held (n : ℕ) (holder : ℕ → Option ℕ) (views : List View) : Ty
   pub only : (j : ℕ) (d : View) (r : ℕ) → get_elem? views j ≡ some d → d.held ≡ Some r → (r < n) × (holder r ≡ Some j) × (0 < d.shares)
 
 -- each role that is counted was counted by its counter's view, and by no other
-pub record Counts (n : ℕ) (counter amount : ℕ → ℕ) (views : List View) : Type 0 where
+pub record RolesAreCounted (n : ℕ) (counter amount : ℕ → ℕ) (views : List View) : Type 0 where
   pub each : (r : ℕ) → r < n → amount r ≢ 0 → (d : View) × (get_elem? views (counter r) ≡ some d) × (amount_in r d.counted ≡ amount r)
   pub only : (j : ℕ) (d : View) (r : ℕ) → get_elem? views j ≡ some d → amount_in r d.counted ≢ 0 → (r < n) × (counter r ≡ j) × (amount_in r d.counted ≡ amount r)
 
@@ -68,14 +68,14 @@ abbrev pub Places : {T : Type 0} → (ℕ → T → Type 0) → (ℕ → T → T
 Places Fits Over n words homes holder counter amount = (r : ℕ) → r < n → Place (Fits r) Over (facts words homes holder counter amount r)
 
 -- the word of ends is the sum of what was counted, and no view has read a greater number in it
-pub record Ends (n word : ℕ) (amount : ℕ → ℕ) (views : List View) : Type 0 where
+pub record EndsWord (n word : ℕ) (amount : ℕ → ℕ) (views : List View) : Type 0 where
   pub roles : word ≡ total amount n
-  pub counted : word ≡ sum_by counted_by views
+  pub counted : word ≡ sum_by count_of_view views
   pub seen : (j : ℕ) (d : View) → get_elem? views j ≡ some d → d.seen ≤ word
 
 -- the rule for n roles: a word and a slot for each role, and the word of ends. All views together have a fixed number of
 -- shares, so a view that has them all is the only one that can hold a job
-pub record Shows {T : Type 0} (Fits : ℕ → T → Type 0) (Over : ℕ → T → Type 0) (n shares : ℕ) (s : State (Option T) View) : Type 0 where
+pub record PoolShows {T : Type 0} (Fits : ℕ → T → Type 0) (Over : ℕ → T → Type 0) (n shares : ℕ) (s : State (Option T) View) : Type 0 where
   pub holder : ℕ → Option ℕ
   pub counter : ℕ → ℕ
   pub amount : ℕ → ℕ
@@ -83,9 +83,9 @@ pub record Shows {T : Type 0} (Fits : ℕ → T → Type 0) (Over : ℕ → T �
   pub words_are : length s.words ≡ suc n
   pub homes_are : length s.homes ≡ n
   pub held : Held n holder s.views
-  pub counts : Counts n counter amount s.views
+  pub counts : RolesAreCounted n counter amount s.views
   pub places : Places Fits Over n s.words s.homes holder counter amount
-  pub ends : Ends n (slice_index s.words n) amount s.views
+  pub ends : EndsWord n (slice_index s.words n) amount s.views
   pub shared : sum_by (λ d. d.shares) s.views ≡ shares
 
 -- a view that holds role r's job now
@@ -93,8 +93,8 @@ abbrev pub holding : ℕ → View → View
 holding r d = record { held = Some r; counted = d.counted; seen = d.seen; shares = d.shares }
 
 -- .. that has given its job home
-abbrev pub freed : View → View
-freed d = record { held = None; counted = d.counted; seen = d.seen; shares = d.shares }
+abbrev pub view_without_job : View → View
+view_without_job d = record { held = None; counted = d.counted; seen = d.seen; shares = d.shares }
 
 -- .. that has counted role r
 abbrev pub counting : ℕ → ℕ → View → View
@@ -105,16 +105,16 @@ abbrev pub seeing : ℕ → View → View
 seeing k d = record { held = d.held; counted = d.counted; seen = k; shares = d.shares }
 
 -- .. that has given a share to a new view
-abbrev pub kept : View → View
-kept d = record { held = d.held; counted = d.counted; seen = d.seen; shares = d.shares - 1 }
+abbrev pub view_behind_share : View → View
+view_behind_share d = record { held = d.held; counted = d.counted; seen = d.seen; shares = d.shares - 1 }
 
 -- the new view, with its one share
-abbrev pub alone : View → View
-alone d = record { held = None; counted = []; seen = 0; shares = 1 }
+abbrev pub view_with_one_share : View → View
+view_with_one_share d = record { held = None; counted = []; seen = 0; shares = 1 }
 
 -- a view that has taken in what another counted, read and shared
-abbrev pub joined : View → View → View
-joined d e = record { held = d.held; counted = d.counted ++ e.counted; seen = max d.seen e.seen; shares = d.shares + e.shares }
+abbrev pub sum_of_views : View → View → View
+sum_of_views d e = record { held = d.held; counted = d.counted ++ e.counted; seen = max d.seen e.seen; shares = d.shares + e.shares }
 
 -- the other, of which nothing is left
 abbrev pub spent_view : View

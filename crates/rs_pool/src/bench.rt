@@ -1,9 +1,9 @@
 // The bench: a table with a word and a slot for each role, and one word more, the word of ends.
 ghost use Rattle.std.specs.Prelude.{◌≡◌, ◌⊎◌, ◌+◌, ◌<◌, ◌≤◌, [], ◌∷◌, true, false, Some, None, IfOk, IfErr, map, replicate, vec_len, vec_capacity};
 ghost use Rattle.rs_model.specs.declared.limits.TheConstants.{MOST_ROLES};
-ghost use Rattle.rs_pool.specs.Calls.{AreSeated, AreCollected, HasClaimed, HasRead, Rests};
-ghost use Rattle.rs_pool.specs.Jobs.{Fits, Over};
-ghost use Rattle.rs_pool.specs.Rule.{IsAmount, alone, amount_in, counting, first_view, freed, joined, kept};
+ghost use Rattle.rs_pool.specs.Calls.{AreSeated, AreCollected, HasClaimed, HasRead, SeatRests};
+ghost use Rattle.rs_pool.specs.Jobs.{JobFits, Over};
+ghost use Rattle.rs_pool.specs.Rule.{IsAmount, view_with_one_share, amount_in, counting, first_view, view_without_job, sum_of_views, view_behind_share};
 
 use crate::jobs::Job;
 use crate::plays::{
@@ -45,7 +45,7 @@ impl<A: Actor, N: StartName<A>> Bench<A, N> {
     ) -> Result<(Bench<A, N>, Desk<A>), Vec<Option<Job<A>>>>
         requires few { vec_len slots ≤ MOST_ROLES }
         requires words { words.now ≡ replicate (vec_len slots + 1) 0 }
-        requires begun { AreSeated (Fits A.behaviour N.start) (vec_len slots) slots.items }
+        requires begun { AreSeated (JobFits A.behaviour N.start) (vec_len slots) slots.items }
         ensures table { IfOk result (λ t. t.1.table_id ≡ t.0.board.shared.table_id) }
         ensures first { IfOk result (λ t. t.1.me ≡ (first_view (workers + 1), [])) }
         ensures key { IfOk result (λ t. (t.0.roles ≡ vec_len slots) × (t.0.board.shared.key.shares ≡ workers + 1)) }
@@ -68,7 +68,7 @@ impl<A: Actor, N: StartName<A>> Bench<A, N> {
         requires role { role < self.now.roles }
         requires rests { (desk.old.me.0.held ≡ None) × (desk.old.me.1 ≡ []) × (0 < desk.old.me.0.shares) }
         ensures table { desk.new.table_id ≡ desk.old.table_id }
-        ensures claimed { HasClaimed (Fits A.behaviour N.start role) role desk.old.me desk.new.me result }
+        ensures claimed { HasClaimed (JobFits A.behaviour N.start role) role desk.old.me desk.new.me result }
     {
         let word = self
             .board
@@ -88,11 +88,11 @@ impl<A: Actor, N: StartName<A>> Bench<A, N> {
         requires table { desk.old.table_id ≡ self.now.board.shared.table_id }
         requires role { role < self.now.roles }
         requires holds { (desk.old.me.0.held ≡ Some role) × (desk.old.me.1 ≡ (role, None) ∷ []) }
-        requires fits { Fits A.behaviour N.start role job }
+        requires fits { JobFits A.behaviour N.start role job }
         requires over { Over (amount_in role desk.old.me.0.counted) job }
         requires counted { (counted ≡ false → amount_in role desk.old.me.0.counted ≡ 0) × (counted ≡ true → 0 < amount_in role desk.old.me.0.counted) }
         ensures table { desk.new.table_id ≡ desk.old.table_id }
-        ensures given { desk.new.me ≡ (freed desk.old.me.0, []) }
+        ensures given { desk.new.me ≡ (view_without_job desk.old.me.0, []) }
     {
         match self.board.shared.exchange(desk, role as usize, Some(job)) {
             None => {}
@@ -135,8 +135,8 @@ impl<A: Actor, N: StartName<A>> Bench<A, N> {
         requires table { desk.old.table_id ≡ self.now.board.shared.table_id }
         requires shares { 2 ≤ desk.old.me.0.shares }
         ensures tables { (desk.new.table_id ≡ desk.old.table_id) × (result.table_id ≡ desk.old.table_id) }
-        ensures old { desk.new.me ≡ (kept desk.old.me.0, desk.old.me.1) }
-        ensures new { result.me ≡ (alone desk.old.me.0, []) }
+        ensures old { desk.new.me ≡ (view_behind_share desk.old.me.0, desk.old.me.1) }
+        ensures new { result.me ≡ (view_with_one_share desk.old.me.0, []) }
     {
         self.board.shared.split_seat::<SplitShare>(desk)
     }
@@ -146,7 +146,7 @@ impl<A: Actor, N: StartName<A>> Bench<A, N> {
         requires table { (desk.old.table_id ≡ self.now.board.shared.table_id) × (other.table_id ≡ self.now.board.shared.table_id) }
         requires rests { (other.me.0.held ≡ None) × (other.me.1 ≡ []) }
         ensures table { desk.new.table_id ≡ desk.old.table_id }
-        ensures both { desk.new.me ≡ (joined desk.old.me.0 other.me.0, desk.old.me.1) }
+        ensures both { desk.new.me ≡ (sum_of_views desk.old.me.0 other.me.0, desk.old.me.1) }
     {
         self.board.shared.join_seat::<JoinShares>(desk, other);
     }
@@ -157,10 +157,10 @@ impl<A: Actor, N: StartName<A>> Bench<A, N> {
         requires role { role < self.now.roles }
         requires holds { (desk.old.me.0.held ≡ Some role) × (desk.old.me.1 ≡ (role, None) ∷ []) }
         requires once { amount_in role desk.old.me.0.counted ≡ 0 }
-        requires fits { Fits A.behaviour N.start role job }
+        requires fits { JobFits A.behaviour N.start role job }
         requires over { IsAmount amount × Over amount job }
         ensures table { desk.new.table_id ≡ desk.old.table_id }
-        ensures rests { Rests desk.old.me.0.shares desk.new.me }
+        ensures rests { SeatRests desk.old.me.0.shares desk.new.me }
     {
         if amount > 0 {
             self.count_end(desk, role, amount);
@@ -171,10 +171,10 @@ impl<A: Actor, N: StartName<A>> Bench<A, N> {
     /// Takes each job out once, in role order, into the empty list, which has room for them. The seat has all shares.
     pub(crate) fn collect(self, main: Desk<A>, mut jobs: Vec<Job<A>>) -> Vec<Job<A>>
         requires table { main.table_id ≡ self.board.shared.table_id }
-        requires main { Rests self.board.shared.key.shares main.me }
+        requires main { SeatRests self.board.shared.key.shares main.me }
         requires over { self.roles ≤ main.me.0.seen }
         requires room { (jobs.items ≡ []) × (self.roles ≤ vec_capacity jobs) }
-        ensures collected { AreCollected (Fits A.behaviour N.start) Over self.roles result.items }
+        ensures collected { AreCollected (JobFits A.behaviour N.start) Over self.roles result.items }
     {
         let Bench { board, roles: _ } = self;
         let mut closed = board.close_with(main);

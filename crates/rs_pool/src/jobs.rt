@@ -1,6 +1,6 @@
 // Jobs: the tasks that lie on the bench.
 ghost use Rattle.std.specs.Prelude.{◌≡◌, true};
-ghost use Rattle.rs_exec.specs.Tasks.{IsTaskOf, TurnTells};
+ghost use Rattle.rs_exec.specs.Tasks.{IsTaskOf, TaskTurnTells};
 ghost use Rattle.rs_pool.specs.Jobs.{amount_of, is_same, progress_after};
 
 use rs_core::Actor;
@@ -32,7 +32,7 @@ impl<A: Actor> Job<A> {
     pub(crate) fn turn(&mut self, alloc: Global, session: &Session) -> Turn
         requires of { IsTaskOf session.now self.old.task }
         ensures of { IsTaskOf session.now self.new.task }
-        ensures tells { TurnTells session.now A.behaviour self.old.task self.new.task result }
+        ensures tells { TaskTurnTells session.now A.behaviour self.old.task self.new.task result }
         ensures progress { self.new.progress ≡ progress_after result }
     {
         let turn = self.task.turn(alloc, session);

@@ -24,10 +24,10 @@ pub(crate) struct BenchRule<A: Actor, N: StartName<A>> {
 }
 
 impl<A: Actor, N: StartName<A>> TableRule<Option<Job<A>>, View, Key> for BenchRule<A, N> {
-    ghost use Rattle.rs_pool.specs.Rule.{Shows, first_view};
-    ghost use Rattle.rs_pool.specs.Jobs.{Fits, Over};
+    ghost use Rattle.rs_pool.specs.Rule.{PoolShows, first_view};
+    ghost use Rattle.rs_pool.specs.Jobs.{JobFits, Over};
 
-    ghost holds = { λ key s. Shows (Fits A.behaviour N.start) Over key.roles key.shares s };
+    ghost holds = { λ key s. PoolShows (JobFits A.behaviour N.start) Over key.roles key.shares s };
 
     ghost first = { λ key. first_view key.shares };
 }
@@ -39,9 +39,9 @@ pub(crate) struct Claim<A: Actor, N: StartName<A>> {
 
 impl<A: Actor, N: StartName<A>> Play<Option<Job<A>>, View> for Claim<A, N> {
     ghost use Rattle.rs_pool.specs.Plays.{ClaimTells};
-    ghost use Rattle.rs_pool.specs.Jobs.{Fits};
+    ghost use Rattle.rs_pool.specs.Jobs.{JobFits};
 
-    ghost then = { ClaimTells (Fits A.behaviour N.start) };
+    ghost then = { ClaimTells (JobFits A.behaviour N.start) };
 }
 
 /// A store on a role's word.
@@ -75,20 +75,20 @@ impl<A: Actor> Play<Option<Job<A>>, View> for ReadEnds {
 pub(crate) struct SplitShare;
 
 impl Split<View> for SplitShare {
-    ghost use Rattle.rs_pool.specs.Rule.{kept, alone};
+    ghost use Rattle.rs_pool.specs.Rule.{view_behind_share, view_with_one_share};
 
-    ghost left = { kept };
+    ghost left = { view_behind_share };
 
-    ghost right = { alone };
+    ghost right = { view_with_one_share };
 }
 
 /// A view takes in another.
 pub(crate) struct JoinShares;
 
 impl Join<View> for JoinShares {
-    ghost use Rattle.rs_pool.specs.Rule.{joined, spent_view};
+    ghost use Rattle.rs_pool.specs.Rule.{sum_of_views, spent_view};
 
-    ghost both = { joined };
+    ghost both = { sum_of_views };
 
     ghost spent = { spent_view };
 }

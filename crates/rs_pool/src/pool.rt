@@ -5,7 +5,7 @@ ghost use Rattle.rs_model.specs.Limits.{IsCapacity};
 ghost use Rattle.rs_core.specs.Runs.{IsGiven};
 ghost use Rattle.rs_exec.specs.Runs.{IsSessionOfRun};
 ghost use Rattle.rs_pool.specs.Calls.{AreSeated, AreCollected};
-ghost use Rattle.rs_pool.specs.Jobs.{Fits, Over, actors_of};
+ghost use Rattle.rs_pool.specs.Jobs.{JobFits, Over, actors_of};
 ghost use Rattle.rs_pool.specs.Pool.{AgreesWithPlain};
 ghost use Rattle.rs_pool.specs.Rule.{first_view};
 ghost use Rattle.rs_rings.specs.Closed.{IsOver};
@@ -102,7 +102,7 @@ fn drive<R: Threads + Wait + Sync, A: Actor + Send, N: StartName<A> + Send + Syn
     requires workers { 1 ≤ workers }
     requires chairs { (chairs.items ≡ []) × (workers ≤ vec_capacity chairs) }
     requires jobs { (jobs.items ≡ []) × (bench.roles ≤ vec_capacity jobs) }
-    ensures collected { AreCollected (Fits A.behaviour N.start) Over bench.roles result.items }
+    ensures collected { AreCollected (JobFits A.behaviour N.start) Over bench.roles result.items }
 {
     let chairs = bench.seat_workers(&mut main, chairs, workers);
     let chairs = run_all(rt, &bench, session, gate, alloc, chairs, workers);
@@ -133,7 +133,7 @@ fn finish<A: Actor, N: StartName<A>>(
 ) -> Result<Ran<A>, NoMemory>
     requires session { session ≡ N.start.session }
     requires few { length session.machines ≤ MOST_ROLES }
-    requires collected { AreCollected (Fits A.behaviour N.start) Over (length session.machines) jobs.items }
+    requires collected { AreCollected (JobFits A.behaviour N.start) Over (length session.machines) jobs.items }
     requires empty { (parts.stages.items ≡ []) × (parts.actors.items ≡ []) × (parts.transcripts.items ≡ []) × (ended.items ≡ []) }
     requires room { (length session.machines ≤ vec_capacity parts.stages) × (length session.machines ≤ vec_capacity parts.actors) × (length session.machines ≤ vec_capacity parts.transcripts) × (length session.machines ≤ vec_capacity ended) }
     ensures session { IfOk result (λ ran. IsSessionOfRun N.start.session.machines A.behaviour N.start.given N.start.limit ran.closed ran.run.outcome ran.run.actors.items) }
@@ -183,7 +183,7 @@ fn give_up<A: Actor, N: StartName<A>>(
     stages: Vec<Stage>,
 )
     requires session { session ≡ N.start.session }
-    requires begun { AreSeated (Fits A.behaviour N.start) (length session.machines) slots.items }
+    requires begun { AreSeated (JobFits A.behaviour N.start) (length session.machines) slots.items }
     requires full { (all : _) × (slots.items ≡ map Some all) }
     requires empty { (jobs.items ≡ []) × (stages.items ≡ []) }
     requires room { (vec_len slots ≤ vec_capacity jobs) × (vec_len slots ≤ vec_capacity stages) }
@@ -206,7 +206,7 @@ fn run_as<R: Threads + Wait + Sync, A: Actor + Send, N: StartName<A> + Send + Sy
     requires few { length session.machines ≤ MOST_ROLES }
     requires workers { 1 ≤ workers }
     requires count { length made.jobs.items ≡ length session.machines }
-    requires begun { AreSeated (Fits A.behaviour N.start) (length session.machines) (map Some made.jobs.items) }
+    requires begun { AreSeated (JobFits A.behaviour N.start) (length session.machines) (map Some made.jobs.items) }
     requires made { (made.stages.items ≡ []) × (made.actors.items ≡ []) }
     requires words { lists.words.items ≡ replicate (length session.machines + 1) 0 }
     requires empty { (lists.chairs.items ≡ []) × (lists.transcripts.items ≡ []) × (lists.slots.items ≡ []) × (lists.ended.items ≡ []) }

@@ -2,8 +2,8 @@
 ghost use Rattle.std.specs.Prelude.{◌≡◌, ◌+◌, ◌<◌, ◌≤◌, ◌++◌, ◌∷◌, [], All, IfErr, IfOk, Some, length, map, reverse, vec_capacity, vec_len};
 ghost use Rattle.rs_model.specs.declared.limits.TheConstants.{MOST_ROLES};
 ghost use Rattle.rs_exec.specs.Tasks.{HasEnded};
-ghost use Rattle.rs_pool.specs.Jobs.{HasDoneNothing, IsNew, actors_of, first_with, HasItsTranscript, stages_of, transcripts_of};
-ghost use Rattle.rs_session.specs.Stages.{shown};
+ghost use Rattle.rs_pool.specs.Jobs.{HasDoneNothing, JobIsNew, actors_of, first_with, HasItsTranscript, stages_of, transcripts_of};
+ghost use Rattle.rs_session.specs.Stages.{sight_of_stage};
 
 use crate::jobs::{Job, Progress, is_same};
 use rs_core::{Actor, Transcript};
@@ -43,7 +43,7 @@ pub(crate) fn jobs_of<A: Actor>(
     requires nothing { All HasDoneNothing stages.items }
     ensures stages { IfOk result (λ m. stages_of m.jobs.items ≡ stages.items) }
     ensures actors { IfOk result (λ m. actors_of m.jobs.items ≡ actors.items) }
-    ensures jobs { IfOk result (λ m. All (IsNew limit) m.jobs.items) }
+    ensures jobs { IfOk result (λ m. All (JobIsNew limit) m.jobs.items) }
     ensures limit { IfOk result (λ m. m.limit ≡ limit) }
     ensures empty { IfOk result (λ m. (m.stages.items ≡ []) × (m.actors.items ≡ [])) }
     ensures room { IfOk result (λ m. (vec_len stages ≤ vec_capacity m.stages) × (vec_len stages ≤ vec_capacity m.actors) × (vec_len stages ≤ vec_capacity m.jobs)) }
@@ -162,7 +162,7 @@ pub(crate) fn parts_of<A: Actor>(mut jobs: Vec<Job<A>>, mut parts: Parts<A>) -> 
 pub(crate) fn ended_of(mut stages: Vec<Stage>, mut ended: Vec<Ended>) -> Vec<Ended>
     requires ended { All HasEnded stages.items }
     requires room { (ended.items ≡ []) × (vec_len stages ≤ vec_capacity ended) }
-    ensures { result.items ≡ map shown stages.items }
+    ensures { result.items ≡ map sight_of_stage stages.items }
 {
     stages.reverse();
     while let Some(stage) = stages.pop() {

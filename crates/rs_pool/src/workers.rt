@@ -1,6 +1,6 @@
 // The workers at the bench.
 ghost use Rattle.std.specs.Prelude.{◌≡◌, ◌+◌, ◌<◌, ◌≤◌, [], All, vec_len, vec_capacity};
-ghost use Rattle.rs_pool.specs.Calls.{HasFinished, IsSeated, Rests};
+ghost use Rattle.rs_pool.specs.Calls.{HasFinished, IsSeated, SeatRests};
 
 use crate::bench::{Bench, Desk};
 use crate::gates::Gate;
@@ -36,9 +36,9 @@ impl<A: Actor, N: StartName<A>> Bench<A, N> {
         requires session { session.now ≡ N.start.session }
         requires table { desk.old.table_id ≡ self.now.board.shared.table_id }
         requires role { role < self.now.roles }
-        requires rests { Rests 1 desk.old.me }
+        requires rests { SeatRests 1 desk.old.me }
         ensures table { desk.new.table_id ≡ desk.old.table_id }
-        ensures rests { Rests 1 desk.new.me }
+        ensures rests { SeatRests 1 desk.new.me }
     {
         match self.claim(desk, role) {
             None => false,
@@ -64,9 +64,9 @@ impl<A: Actor, N: StartName<A>> Bench<A, N> {
     ) -> bool
         requires session { session.now ≡ N.start.session }
         requires table { desk.old.table_id ≡ self.now.board.shared.table_id }
-        requires rests { Rests 1 desk.old.me }
+        requires rests { SeatRests 1 desk.old.me }
         ensures table { desk.new.table_id ≡ desk.old.table_id }
-        ensures rests { Rests 1 desk.new.me }
+        ensures rests { SeatRests 1 desk.new.me }
     {
         let mut moved = false;
         for role in 0..self.roles {
@@ -89,9 +89,9 @@ impl<A: Actor, N: StartName<A>> Bench<A, N> {
     )
         requires session { session.now ≡ N.start.session }
         requires table { desk.old.table_id ≡ self.now.board.shared.table_id }
-        requires rests { Rests 1 desk.old.me }
+        requires rests { SeatRests 1 desk.old.me }
         ensures table { desk.new.table_id ≡ desk.old.table_id }
-        ensures rests { Rests 1 desk.new.me }
+        ensures rests { SeatRests 1 desk.new.me }
         ensures over { self.now.roles ≤ desk.new.me.0.seen }
     {
         let backoff = Backoff::new();
@@ -116,10 +116,10 @@ impl<A: Actor, N: StartName<A>> Bench<A, N> {
         workers: u8,
     ) -> Vec<Chair<A>>
         requires table { main.old.table_id ≡ self.now.board.shared.table_id }
-        requires main { Rests (workers + 1) main.old.me }
+        requires main { SeatRests (workers + 1) main.old.me }
         requires room { (chairs.items ≡ []) × (workers ≤ vec_capacity chairs) }
         ensures table { main.new.table_id ≡ main.old.table_id }
-        ensures main { Rests 1 main.new.me }
+        ensures main { SeatRests 1 main.new.me }
         ensures count { vec_len result ≡ workers }
         ensures ready { All (IsSeated self.now.board.shared.table_id) result.items }
     {
@@ -133,11 +133,11 @@ impl<A: Actor, N: StartName<A>> Bench<A, N> {
     /// The workers' seats come back.
     pub(crate) fn gather(&self, main: &mut Desk<A>, mut chairs: Vec<Chair<A>>)
         requires table { main.old.table_id ≡ self.now.board.shared.table_id }
-        requires main { Rests 1 main.old.me }
+        requires main { SeatRests 1 main.old.me }
         requires some { 0 < vec_len chairs }
         requires left { All (HasFinished self.now.board.shared.table_id self.now.roles) chairs.items }
         ensures table { main.new.table_id ≡ main.old.table_id }
-        ensures main { Rests (vec_len chairs + 1) main.new.me }
+        ensures main { SeatRests (vec_len chairs + 1) main.new.me }
         ensures over { self.now.roles ≤ main.new.me.0.seen }
     {
         while let Some(chair) = chairs.pop() {

@@ -18,7 +18,7 @@ use Rattle.rs_project.specs.Clashes.{is_choice, is_other_sort, has_all, same_sor
 use Rattle.rs_project.specs.Data.{Front_data}
 use Rattle.rs_project.specs.Graph.{Involves}
 use Rattle.rs_project.specs.Marks.{Among}
-use Rattle.rs_project.specs.Projection.{Choice, choice_of, HaveSameChoices, HaveSameSorts, Agree, BothSend, BothReceive}
+use Rattle.rs_project.specs.Projection.{LabelChoice, choice_of, HaveSameChoices, HaveSameSorts, Agree, BothSend, BothReceive}
 use Rattle.rs_project.specs.Refusals.{FirstClash, OfTalks, OfTheEnd, Merges}
 use Rattle.rs_project.proofs.Lists.{contained, contains, among-at, at-read, at-short, at-within}
 use Rattle.rs_project.proofs.Surveys.{role-by, or-split, or-left, or-right}
@@ -69,12 +69,12 @@ choice-same : (a b : Arm) → is_choice a b ≡ true → choice_of a ≡ choice_
 choice-same a b h =
     let l = label-by a.label b.label (eq-by a.label.0 b.label.0 (and-first (a.label.0 == b.label.0) (sort_number a.sort == sort_number b.sort) h)) in
     let s = sort-same a.sort b.sort (eq-by (sort_number a.sort) (sort_number b.sort) (and-last (a.label.0 == b.label.0) (sort_number a.sort == sort_number b.sort) h)) in
-    let mk : Label → Sort → Choice = λ x y. record { label = x; sort = y } in
+    let mk : Label → Sort → LabelChoice = λ x y. record { label = x; sort = y } in
     ap₂ mk l s
 
 same-choice : (a b : Arm) → choice_of a ≡ choice_of b → is_choice a b ≡ true
 same-choice a b e = and-both (a.label.0 == b.label.0) (sort_number a.sort == sort_number b.sort)
-    (by-eq a.label.0 b.label.0 (ap (λ (z : Choice). z.label.0) e)) (by-eq (sort_number a.sort) (sort_number b.sort) (ap (λ (z : Choice). sort_number z.sort) e))
+    (by-eq a.label.0 b.label.0 (ap (λ (z : LabelChoice). z.label.0) e)) (by-eq (sort_number a.sort) (sort_number b.sort) (ap (λ (z : LabelChoice). sort_number z.sort) e))
 
 any-choice : (theirs : List Arm) (a : Arm) → list_any (λ b. is_choice b a) theirs ≡ true → Among (map choice_of theirs) (choice_of a)
 any-choice [] a h = absurd (cc (h))
@@ -96,14 +96,14 @@ true-if : (b r : Bool) → b ≡ true → r ≡ true → (if b then r else false
 true-if true r h k = k
 true-if false r h k = absurd (cc (h))
 
-has-all : (theirs ours : List Arm) → has_all theirs ours ≡ true → (c : Choice) → Among (map choice_of ours) c → Among (map choice_of theirs) c
+has-all : (theirs ours : List Arm) → has_all theirs ours ≡ true → (c : LabelChoice) → Among (map choice_of ours) c → Among (map choice_of theirs) c
 has-all theirs [] h c m = absurd m
 has-all theirs (a ∷ ours) h c (inl e) =
-    let P : Choice → Type 0 = λ z. Among (map choice_of theirs) z in
+    let P : LabelChoice → Type 0 = λ z. Among (map choice_of theirs) z in
     subst P e (any-choice theirs a (if-true (list_any (λ b. is_choice b a) theirs) (has_all theirs ours) h).0)
 has-all theirs (a ∷ ours) h c (inr m) = has-all theirs ours (if-true (list_any (λ b. is_choice b a) theirs) (has_all theirs ours) h).1 c m
 
-all-had : (theirs ours : List Arm) → ((c : Choice) → Among (map choice_of ours) c → Among (map choice_of theirs) c) → has_all theirs ours ≡ true
+all-had : (theirs ours : List Arm) → ((c : LabelChoice) → Among (map choice_of ours) c → Among (map choice_of theirs) c) → has_all theirs ours ≡ true
 all-had theirs [] f = refl
 all-had theirs (a ∷ ours) f = true-if (list_any (λ b. is_choice b a) theirs) (has_all theirs ours) (choice-any theirs a (f (choice_of a) (inl refl))) (all-had theirs ours (λ c m. f c (inr m)))
 
@@ -133,16 +133,16 @@ pub or-none-right : (a b : Bool) → (a || b) ≡ false → b ≡ false
 or-none-right false b h = h
 or-none-right true b h = absurd (cc (h))
 
-none-other : (theirs : List Arm) (a : Arm) → list_any (λ b. is_other_sort b a) theirs ≡ false → (b : Choice) → Among (map choice_of theirs) b → a.label ≡ b.label → a.sort ≡ b.sort
+none-other : (theirs : List Arm) (a : Arm) → list_any (λ b. is_other_sort b a) theirs ≡ false → (b : LabelChoice) → Among (map choice_of theirs) b → a.label ≡ b.label → a.sort ≡ b.sort
 none-other [] a h b m l = absurd m
 none-other (x ∷ theirs) a h b (inl e) l = elim (sort-decide x.sort a.sort) [
-  | inl s ↦ sym s ∙ ap (λ (z : Choice). z.sort) e
-  | inr n ↦ (let o = other-by x a (ap (λ (z : Choice). z.label) e ∙ sym l) n in
+  | inl s ↦ sym s ∙ ap (λ (z : LabelChoice). z.sort) e
+  | inr n ↦ (let o = other-by x a (ap (λ (z : LabelChoice). z.label) e ∙ sym l) n in
       let f = or-none-left (is_other_sort x a) (list_any (λ z. is_other_sort z a) theirs) h in absurd (cc (o, f)))
 ]
 none-other (x ∷ theirs) a h b (inr m) l = none-other theirs a (or-none-right (is_other_sort x a) (list_any (λ z. is_other_sort z a) theirs) h) b m l
 
-some-other : (theirs : List Arm) (a : Arm) → list_any (λ b. is_other_sort b a) theirs ≡ true → (b : Choice) × Among (map choice_of theirs) b × (b.label ≡ a.label) × (b.sort ≡ a.sort → ⊥)
+some-other : (theirs : List Arm) (a : Arm) → list_any (λ b. is_other_sort b a) theirs ≡ true → (b : LabelChoice) × Among (map choice_of theirs) b × (b.label ≡ a.label) × (b.sort ≡ a.sort → ⊥)
 some-other [] a h = absurd (cc (h))
 some-other (x ∷ theirs) a h = elim (or-split (is_other_sort x a) (list_any (λ z. is_other_sort z a) theirs) h) [
   | inl k ↦ (let o = other-is x a k in (choice_of x, inl refl, o.0, o.1))
@@ -153,14 +153,14 @@ if-false : (b r : Bool) → (if b then false else r) ≡ true → (b ≡ false) 
 if-false false r h = (refl, h)
 if-false true r h = absurd (cc (h))
 
-sorts-same : (theirs ours : List Arm) → same_sorts theirs ours ≡ true → (a b : Choice) → Among (map choice_of ours) a → Among (map choice_of theirs) b → a.label ≡ b.label → a.sort ≡ b.sort
+sorts-same : (theirs ours : List Arm) → same_sorts theirs ours ≡ true → (a b : LabelChoice) → Among (map choice_of ours) a → Among (map choice_of theirs) b → a.label ≡ b.label → a.sort ≡ b.sort
 sorts-same theirs [] h a b m k l = absurd m
 sorts-same theirs (x ∷ ours) h a b (inl e) k l =
-    ap (λ (z : Choice). z.sort) (sym e)
-    ∙ none-other theirs x (if-false (list_any (λ z. is_other_sort z x) theirs) (same_sorts theirs ours) h).0 b k (ap (λ (z : Choice). z.label) e ∙ l)
+    ap (λ (z : LabelChoice). z.sort) (sym e)
+    ∙ none-other theirs x (if-false (list_any (λ z. is_other_sort z x) theirs) (same_sorts theirs ours) h).0 b k (ap (λ (z : LabelChoice). z.label) e ∙ l)
 sorts-same theirs (x ∷ ours) h a b (inr m) k l = sorts-same theirs ours (if-false (list_any (λ z. is_other_sort z x) theirs) (same_sorts theirs ours) h).1 a b m k l
 
-same-sorts : (theirs ours : List Arm) → ((a b : Choice) → Among (map choice_of ours) a → Among (map choice_of theirs) b → a.label ≡ b.label → a.sort ≡ b.sort) → same_sorts theirs ours ≡ true
+same-sorts : (theirs ours : List Arm) → ((a b : LabelChoice) → Among (map choice_of ours) a → Among (map choice_of theirs) b → a.label ≡ b.label → a.sort ≡ b.sort) → same_sorts theirs ours ≡ true
 same-sorts theirs [] f = refl
 same-sorts theirs (x ∷ ours) f = go (list_any (λ z. is_other_sort z x) theirs) refl (same-sorts theirs ours (λ a b m k l. f a b (inr m) k l))
   where
@@ -239,7 +239,7 @@ pub agree-turned : (pr : Protocol_data) (role : Role) (one other : ℕ) → Agre
 agree-turned pr role one other (BothSend peer arms theirs t u same) = BothSend peer theirs arms u t (λ c. ((same c).1, (same c).0))
 agree-turned pr role one other (BothReceive peer arms theirs t u same) = BothReceive peer theirs arms u t (λ x y m k e. sym (same y x k m (sym e)))
 
-at-unmap : (arms : List Arm) (i : ℕ) (c : Choice) → slice_get (map choice_of arms) i ≡ Some c → (a : Arm) × (slice_get arms i ≡ Some a) × (choice_of a ≡ c)
+at-unmap : (arms : List Arm) (i : ℕ) (c : LabelChoice) → slice_get (map choice_of arms) i ≡ Some c → (a : Arm) × (slice_get arms i ≡ Some a) × (choice_of a ≡ c)
 at-unmap [] i c h = absurd (cc (h))
 at-unmap (x ∷ arms) zero c h = (x, refl, cc (h))
 at-unmap (x ∷ arms) (suc i) c h = at-unmap arms i c h
@@ -250,11 +250,11 @@ one-sort arms once = λ x y m k e.
     let q = among-at (map choice_of arms) y (contained (map choice_of arms) y k) in
     let a = at-unmap arms p.0 x p.1 in
     let b = at-unmap arms q.0 y q.1 in
-    let same = once p.0 q.0 a.0 b.0 a.1 b.1 (ap (λ (z : Choice). z.label) a.2 ∙ e ∙ sym (ap (λ (z : Choice). z.label) b.2)) in
+    let same = once p.0 q.0 a.0 b.0 a.1 b.1 (ap (λ (z : LabelChoice). z.label) a.2 ∙ e ∙ sym (ap (λ (z : LabelChoice). z.label) b.2)) in
     let P : ℕ → Type 0 = λ z. slice_get (map choice_of arms) z ≡ Some y in
     let q' = subst P (sym same) q.1 in
     let xy : x ≡ y = cc (p.1, q') in
-    ap (λ (z : Choice). z.sort) xy
+    ap (λ (z : LabelChoice). z.sort) xy
 
 pub agree-self : (pr : Protocol_data) (role : Role) (n : ℕ) → IsWellFormed pr → Involves pr role n → Agree pr role n n
 agree-self pr role n wf i = elim i.part [

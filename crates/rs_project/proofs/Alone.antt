@@ -13,7 +13,7 @@ use Rattle.rs_wellformed.specs.WellFormed.{IsWellFormed}
 use Rattle.rs_project.specs.Numbered.{nexts_of}
 use Rattle.rs_project.specs.Marks.{Among, labelled_nexts, labelled_nexts_of, arms_in}
 use Rattle.rs_project.proofs.Cycles.{all-by}
-use Rattle.rs_project.specs.Projection.{Choice, choice_of, choices_of, first_choices, merged_choices}
+use Rattle.rs_project.specs.Projection.{LabelChoice, choice_of, choices_of, first_choices, merged_choices}
 
 abbrev Once : List Arm → Type 0
 Once arms = (i j : ℕ) (a b : Arm) → slice_get arms i ≡ Some a → slice_get arms j ≡ Some b → a.label ≡ b.label → i ≡ j
@@ -57,25 +57,25 @@ start-alone pr t (Talk sender receiver arms) place a wf en at =
 
 -- the choices
 
-abbrev has : Label → List Choice → Bool
+abbrev has : Label → List LabelChoice → Bool
 has label cs = list_any (λ b. b.label.0 == label.0) cs
 
 eqb-cases : (b : Bool) → (b ≡ true) ⊎ (b ≡ false)
 eqb-cases true = inl refl
 eqb-cases false = inr refl
 
-any-end : (f : Choice → Bool) (cs : List Choice) (c : Choice) → list_any f cs ≡ false → f c ≡ false → list_any f (cs ++ (c ∷ [])) ≡ false
+any-end : (f : LabelChoice → Bool) (cs : List LabelChoice) (c : LabelChoice) → list_any f cs ≡ false → f c ≡ false → list_any f (cs ++ (c ∷ [])) ≡ false
 any-end f [] c e g = subst (λ (b : Bool). (b || false) ≡ false) (sym g) refl
 any-end f (x ∷ cs) c e g = elim (eqb-cases (f x)) [
   | inl y ↦ (let bad : true ≡ false = sym (subst (λ (b : Bool). (b || list_any f cs) ≡ true) (sym y) refl) ∙ e in absurd (cc (bad)))
   | inr n ↦ subst (λ (b : Bool). (b || list_any f (cs ++ (c ∷ []))) ≡ false) (sym n) (any-end f cs c (subst (λ (b : Bool). (b || list_any f cs) ≡ false) n e) g)
 ]
 
-first-same : (arms : List Arm) (earlier : List Choice) → Once arms → ((i : ℕ) (a : Arm) → slice_get arms i ≡ Some a → has a.label earlier ≡ false) → first_choices (map choice_of arms) earlier ≡ map choice_of arms
+first-same : (arms : List Arm) (earlier : List LabelChoice) → Once arms → ((i : ℕ) (a : Arm) → slice_get arms i ≡ Some a → has a.label earlier ≡ false) → first_choices (map choice_of arms) earlier ≡ map choice_of arms
 first-same [] earlier once new = refl
 first-same (x ∷ arms) earlier once new =
     subst (λ (b : Bool). (if b then first_choices (map choice_of arms) earlier else choice_of x ∷ first_choices (map choice_of arms) (earlier ++ (choice_of x ∷ []))) ≡ choice_of x ∷ map choice_of arms) (sym (new 0 x refl))
-    (ap (λ (z : List Choice). choice_of x ∷ z) (first-same arms (earlier ++ (choice_of x ∷ [])) (later-once x arms once)
+    (ap (λ (z : List LabelChoice). choice_of x ∷ z) (first-same arms (earlier ++ (choice_of x ∷ [])) (later-once x arms once)
     (λ i a e. any-end (λ b. b.label.0 == a.label.0) earlier (choice_of x) (new (suc i) a e) (apart i a e))))
   where
     apart : (i : ℕ) (a : Arm) → slice_get arms i ≡ Some a → (x.label.0 == a.label.0) ≡ false
@@ -88,7 +88,7 @@ choices-alone : (pr : Protocol_data) (talks : List ℕ) (t : ℕ) (sender receiv
 choices-alone pr talks t sender receiver arms wf et en =
     let flat : flat_map (λ n. choices_of (slice_get pr.nodes n)) talks ≡ map choice_of arms =
     ap (λ (z : List ℕ). flat_map (λ n. choices_of (slice_get pr.nodes n)) z) et ∙ append-nil (choices_of (slice_get pr.nodes t)) ∙ ap (λ o. choices_of o) en in
-    sym (ap (λ (z : List Choice). first_choices z []) flat ∙ first-same arms [] (wf.talks t sender receiver arms en).once (λ i a e. refl))
+    sym (ap (λ (z : List LabelChoice). first_choices z []) flat ∙ first-same arms [] (wf.talks t sender receiver arms en).once (λ i a e. refl))
 
 pub choices-in : (pr : Protocol_data) (t : ℕ) (node : Node) → IsWellFormed pr → slice_get pr.nodes t ≡ Some node → map choice_of (arms_in node) ≡ merged_choices pr (t ∷ [])
 choices-in pr t Finished wf en = sym (ap (λ o. first_choices (choices_of o ++ []) []) en)

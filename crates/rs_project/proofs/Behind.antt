@@ -16,7 +16,7 @@ use Rattle.rs_project.specs.Graph.{Involves}
 use Rattle.rs_project.specs.Marks.{Among, StartMeets, StartEnds, labelled_nexts, labelled_nexts_of}
 use Rattle.rs_project.specs.Projection.{Agree, BothSend, BothReceive, LeadsOn}
 use Rattle.rs_project.specs.Refusals.{IsFront}
-use Rattle.rs_project.specs.Working.{Adds, FaultFrom, FindFault, Finds, FindsFrom, IsFrontBehind, IsFrontFrom, NumberFault}
+use Rattle.rs_project.specs.Working.{AddsFront, FaultFrom, FindFault, FindsFront, FindsFrom, IsFrontBehind, IsFrontFrom, NumberFault}
 use Rattle.rs_project.specs.declared.projecting.ProjFault.{ProjFault}
 use Rattle.rs_project.specs.declared.projecting.ProjFault.TheVariants.{Unmergeable, Unreached, TooManyStates, NoMemory}
 use Rattle.rs_project.proofs.Cycles.{all-by, next-within}
@@ -102,7 +102,7 @@ front-behind pr role talks label f is = record {
 -- behind the label are the starts
 
 pub finds-behind : (pr : Protocol_data) (role : Role) (old : List Front_data) (talks : List ℕ) (label : Label) (starts : List ℕ) (new : List Front_data) (n : ℕ) → starts ≡ starts-of pr talks label
-    → FindsFrom pr role old starts new n → Finds pr role old talks label new n
+    → FindsFrom pr role old starts new n → FindsFront pr role old talks label new n
 finds-behind pr role old talks label starts new n e f =
     let P : List ℕ → Type 0 = λ z. IsFrontFrom pr role z f.front in
     record { front = f.front; is = front-behind pr role talks label f.front (subst P e f.is); adds = f.adds }
@@ -117,7 +117,7 @@ fault-behind pr role old talks label starts e (TooManyStates r) h =
 fault-behind pr role old talks label starts e NoMemory h = tt
 
 pub finds-from : (pr : Protocol_data) (role : Role) (old : List Front_data) (starts : List ℕ) (new : List Front_data) (f : Front_data) (r : Result ℕ ProjFault) → IsFrontFrom pr role starts f
-    → IfOk r (λ n. Adds old f new n) → IfOk r (λ n. FindsFrom pr role old starts new n)
+    → IfOk r (λ n. AddsFront old f new n) → IfOk r (λ n. FindsFrom pr role old starts new n)
 finds-from pr role old starts new f (Ok n) is h = record { front = f; is = is; adds = h }
 finds-from pr role old starts new f (Err e) is h = tt
 

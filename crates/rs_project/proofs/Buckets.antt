@@ -4,8 +4,8 @@ use Rattle.std.proofs.lemmas.List.{get_or-set_same, get_or-set_other, length-set
 use Rattle.std.proofs.lemmas.Bool.Decides.{eqb_tells}
 use Rattle.std.proofs.lemmas.Option.{none-some, same_Some}
 use Rattle.rs_project.specs.Data.{Front_data}
-use Rattle.rs_project.specs.Filing.{AreFiled, IsChained, First, Later, bucket_on}
-use Rattle.rs_project.specs.Working.{IsNew}
+use Rattle.rs_project.specs.Filing.{FrontsAreFiled, IsChained, First, Later, bucket_on}
+use Rattle.rs_project.specs.Working.{FrontIsNew}
 
 pub kept-at : {X : Type 0} (xs : List X) (y : X) (i : ℕ) (x : X) → slice_get xs i ≡ Some x → slice_get (xs ++ (y ∷ [])) i ≡ Some x
 kept-at [] y i x e = absurd (none-some x e)
@@ -48,7 +48,7 @@ zero-at zero (suc n) = refl
 zero-at (suc k) zero = refl
 zero-at (suc k) (suc n) = zero-at k n
 
-pub none-filed : (fs : List Front_data) (heads links : List ℕ) → fs ≡ [] → heads ≡ replicate 251 0 → links ≡ [] → AreFiled fs heads links
+pub none-filed : (fs : List Front_data) (heads links : List ℕ) → fs ≡ [] → heads ≡ replicate 251 0 → links ≡ [] → FrontsAreFiled fs heads links
 none-filed fs heads links ef eh el = rw (ef, eh, el) record {
   buckets = length-replicate {A = ℕ} 251 0;
   size = refl;
@@ -58,7 +58,7 @@ none-filed fs heads links ef eh el = rw (ef, eh, el) record {
 }
 
 pub filed-on : (fs fs' : List Front_data) (heads links heads' links' : List ℕ) (f : Front_data) (b head n : ℕ) → b ≡ bucket_on 0 f.talks → b < 251 → n ≡ length fs → head ≡ get_or heads b 0
-    → fs' ≡ fs ++ (f ∷ []) → links' ≡ links ++ (head ∷ []) → heads' ≡ set heads b (n + 1) → AreFiled fs heads links → AreFiled fs' heads' links'
+    → fs' ≡ fs ++ (f ∷ []) → links' ≡ links ++ (head ∷ []) → heads' ≡ set heads b (n + 1) → FrontsAreFiled fs heads links → FrontsAreFiled fs' heads' links'
 filed-on fs fs' heads links heads' links' f b head n eb lt en eh ef el es a =
     let l = length-append fs (f ∷ []) in let s = a.size in let c251 = a.buckets in
     let within : b < length heads = omega arith in
@@ -89,7 +89,7 @@ filed-on fs fs' heads links heads' links' f b head n eb lt en eh ef el es a =
       ];
     }
 
-pub looked-all : (fs : List Front_data) (heads links : List ℕ) (f : Front_data) (head : ℕ) (o : Option ℕ) → AreFiled fs heads links → head ≡ get_or heads (bucket_on 0 f.talks) 0
-    → MatchOption o ((n : ℕ) → IsChained links head n → slice_get fs n ≡ Some f → ⊥) (λ n. slice_get fs n ≡ Some f) → MatchOption o (IsNew fs f) (λ n. slice_get fs n ≡ Some f)
+pub looked-all : (fs : List Front_data) (heads links : List ℕ) (f : Front_data) (head : ℕ) (o : Option ℕ) → FrontsAreFiled fs heads links → head ≡ get_or heads (bucket_on 0 f.talks) 0
+    → MatchOption o ((n : ℕ) → IsChained links head n → slice_get fs n ≡ Some f → ⊥) (λ n. slice_get fs n ≡ Some f) → MatchOption o (FrontIsNew fs f) (λ n. slice_get fs n ≡ Some f)
 looked-all fs heads links f head (Some n) filed is found = found
 looked-all fs heads links f head None filed is none = λ k e. none k (subst (λ (z : ℕ). IsChained links z k) (sym is) (filed.filed k f e)) e

@@ -7,7 +7,7 @@ use Rattle.rs_model.specs.Data.{Protocol_data}
 use Rattle.rs_model.specs.declared.graph.Arm.{Arm}
 use Rattle.rs_model.specs.declared.graph.Label.{Label}
 use Rattle.rs_project.specs.Marks.{Among}
-use Rattle.rs_project.specs.Projection.{Choice, choice_of, choices_of, first_choices, merged_choices}
+use Rattle.rs_project.specs.Projection.{LabelChoice, choice_of, choices_of, first_choices, merged_choices}
 use Rattle.rs_project.proofs.Lists.{contained, among-left, among-right}
 
 pub arm-choice : (arms : List Arm) (k : ℕ) (arm : Arm) → slice_get arms k ≡ Some arm → Among (map choice_of arms) (choice_of arm)
@@ -16,10 +16,10 @@ arm-choice (a ∷ arms) zero arm h = let e : a ≡ arm = cc (h) in inl (ap choic
 arm-choice (a ∷ arms) (suc k) arm h = inr (arm-choice arms k arm h)
 
 -- whether the label stands at one of the choices
-abbrev pub has_label : Label → List Choice → Bool
+abbrev pub has_label : Label → List LabelChoice → Bool
 has_label l cs = list_any (λ b. b.label.0 == l.0) cs
 
-pub label-last : (l : Label) (cs : List Choice) (c : Choice) → has_label l (cs ++ (c ∷ [])) ≡ (has_label l cs || (c.label.0 == l.0))
+pub label-last : (l : Label) (cs : List LabelChoice) (c : LabelChoice) → has_label l (cs ++ (c ∷ [])) ≡ (has_label l cs || (c.label.0 == l.0))
 label-last l cs c = list_any-append (λ b. b.label.0 == l.0) cs (c ∷ []) ∙ ap (λ (z : Bool). has_label l cs || z) (or-false (c.label.0 == l.0))
   where
     or-false : (b : Bool) → (b || false) ≡ b
@@ -27,14 +27,14 @@ label-last l cs c = list_any-append (λ b. b.label.0 == l.0) cs (c ∷ []) ∙ a
     or-false false = refl
 
 -- a choice with the label
-abbrev pub Labelled : Label → List Choice → Type 0
-Labelled l cs = (d : Choice) × Among cs d × (d.label ≡ l)
+abbrev pub Labelled : Label → List LabelChoice → Type 0
+Labelled l cs = (d : LabelChoice) × Among cs d × (d.label ≡ l)
 
 pub same-label : (x y : Label) → x.0 ≡ y.0 → x ≡ y
 same-label x y e = ap (λ (z : ℕ). record { 0 = z }) e
 
 -- each label stands at a first choice, or stood earlier
-first-label : (cs earlier : List Choice) (c : Choice) → Among cs c
+first-label : (cs earlier : List LabelChoice) (c : LabelChoice) → Among cs c
     → (has_label c.label earlier ≡ true) ⊎ Labelled c.label (first_choices cs earlier)
 first-label [] earlier c h = absurd h
 first-label (a ∷ later) earlier c h = go (has_label a.label earlier) refl h (first-label later earlier c) (first-label later (earlier ++ (a ∷ [])) c)
@@ -56,16 +56,16 @@ first-label (a ∷ later) earlier c h = go (has_label a.label earlier) refl h (f
         → (Among later c → (has_label c.label (earlier ++ (a ∷ [])) ≡ true) ⊎ Labelled c.label (first_choices later (earlier ++ (a ∷ []))))
         → (has_label c.label earlier ≡ true)
         ⊎ Labelled c.label (if b then first_choices later earlier else a ∷ first_choices later (earlier ++ (a ∷ [])))
-    go true e (inl s) skip keep = let P : Choice → Type 0 = λ z. has_label z.label earlier ≡ true in inl (subst P s e)
+    go true e (inl s) skip keep = let P : LabelChoice → Type 0 = λ z. has_label z.label earlier ≡ true in inl (subst P s e)
     go true e (inr h') skip keep = skip h'
-    go false e (inl s) skip keep = inr (a, inl refl, ap (λ (z : Choice). z.label) s)
+    go false e (inl s) skip keep = inr (a, inl refl, ap (λ (z : LabelChoice). z.label) s)
     go false e (inr h') skip keep = kept (keep h')
 
 -- the choices of a member
-abbrev pub member_choices : Protocol_data → ℕ → List Choice
+abbrev pub member_choices : Protocol_data → ℕ → List LabelChoice
 member_choices pr n = choices_of (slice_get pr.nodes n)
 
-flat-has : (pr : Protocol_data) (members : List ℕ) (h : ℕ) (c : Choice) → Among members h → Among (member_choices pr h) c
+flat-has : (pr : Protocol_data) (members : List ℕ) (h : ℕ) (c : LabelChoice) → Among members h → Among (member_choices pr h) c
     → Among (flat_map (λ n. choices_of (slice_get pr.nodes n)) members) c
 flat-has pr [] h c m a = absurd m
 flat-has pr (x ∷ xs) h c (inl e) a =
@@ -75,7 +75,7 @@ flat-has pr (x ∷ xs) h c (inr m) a =
     among-right (member_choices pr x) (flat_map (λ n. choices_of (slice_get pr.nodes n)) xs) c (flat-has pr xs h c m a)
 
 -- each label of a member is merged
-pub merged-label : (pr : Protocol_data) (members : List ℕ) (h : ℕ) (c : Choice) → Contains members h
+pub merged-label : (pr : Protocol_data) (members : List ℕ) (h : ℕ) (c : LabelChoice) → Contains members h
     → Among (member_choices pr h) c → Labelled c.label (merged_choices pr members)
 merged-label pr members h c m a =
     elim (first-label (flat_map (λ n. choices_of (slice_get pr.nodes n)) members) [] c (flat-has pr members h c (contained members h m) a)) [

@@ -21,9 +21,9 @@ use Rattle.rs_project.specs.Data.{Front_data, Projection_data}
 use Rattle.rs_project.specs.Graph.{Involves}
 use Rattle.rs_project.specs.Marks.{Among, IsSurvey, Survey_data}
 use Rattle.rs_project.specs.Numbered.{IsNumberedProjection, nexts_behind, nexts_of}
-use Rattle.rs_project.specs.Projection.{Agree, Choice, choice_of, merged_choices}
+use Rattle.rs_project.specs.Projection.{Agree, LabelChoice, choice_of, merged_choices}
 use Rattle.rs_project.specs.Refusals.{FirstClash, FirstRefusal, Merges, NoneUnreached}
-use Rattle.rs_project.specs.Working.{AreFound, Discovers, Finds, FindsNone, HasShape, IsNew, StateFault, TooManyAt, Working, WorksOn}
+use Rattle.rs_project.specs.Working.{AreFound, Discovers, FindsFront, FindsNone, HasShape, FrontIsNew, StateFault, TooManyAt, Working, WorksOn}
 use Rattle.rs_project.specs.declared.projecting.ProjFault.{ProjFault}
 use Rattle.rs_project.specs.declared.projecting.ProjFault.TheVariants as fault
 use Rattle.rs_project.proofs.Agreeing.{agree-sound, agree-whole, all-all, all-more, before-more, clashes-at, first-of-end, first-of-talks, merges-by}
@@ -133,7 +133,7 @@ same-fronts f g = elim (same-numbers f.talks g.talks) [
 ]
 
 -- the front stands at some place, or at none
-place-or-new : (fs : List Front_data) (f : Front_data) → ((n : ℕ) × (slice_get fs n ≡ Some f)) ⊎ IsNew fs f
+place-or-new : (fs : List Front_data) (f : Front_data) → ((n : ℕ) × (slice_get fs n ≡ Some f)) ⊎ FrontIsNew fs f
 place-or-new [] f = inr (λ k e. cc (e))
 place-or-new (g ∷ fs) f = elim (same-fronts g f) [
   | inl e ↦ inl (0, ap Some e)
@@ -143,13 +143,13 @@ place-or-new (g ∷ fs) f = elim (same-fronts g f) [
   ]
 ]
   where
-    new : (g ≡ f → ⊥) → IsNew fs f → IsNew (g ∷ fs) f
+    new : (g ≡ f → ⊥) → FrontIsNew fs f → FrontIsNew (g ∷ fs) f
     new ne none zero e = ne (same_Some g f e)
     new ne none (suc k) e = none k e
 
 -- the number of what the role meets first behind a label, or that there are too many fronts
 finds-or-none : (pr : Protocol_data) (role : Role) (sv : Survey_data) (fs : List Front_data) (talks : List ℕ) (label : Label) → IsWellFormed pr → IsSurvey pr role sv → length fs ≤ MOST_STATES
-    → ((new : List Front_data) × (n : ℕ) × Finds pr role fs talks label new n) ⊎ FindsNone pr role fs talks label
+    → ((new : List Front_data) × (n : ℕ) × FindsFront pr role fs talks label new n) ⊎ FindsNone pr role fs talks label
 finds-or-none pr role sv fs talks label wf is few =
     let starts = starts-of pr talks label in
     let r = front-any pr role sv starts wf is (among-all (λ s. s < length pr.nodes) starts (starts-within pr talks label wf)) in
@@ -190,12 +190,12 @@ arms-or-too-many pr role sv old talks choices wf is all (suc n) i e a =
     ]
 
 -- arms with these choices
-abbrev arm_with : Choice → Arm
+abbrev arm_with : LabelChoice → Arm
 arm_with c = record { label = c.label; sort = c.sort; next = 0 }
 
-their-choices : (cs : List Choice) → map choice_of (map arm_with cs) ≡ cs
+their-choices : (cs : List LabelChoice) → map choice_of (map arm_with cs) ≡ cs
 their-choices [] = refl
-their-choices (c ∷ cs) = ap (λ (z : List Choice). c ∷ z) (their-choices cs)
+their-choices (c ∷ cs) = ap (λ (z : List LabelChoice). c ∷ z) (their-choices cs)
 
 -- the state that stands for talks which agree
 record Shaped (pr : Protocol_data) (role : Role) (talks : List ℕ) (arms : List Arm) : Type 0 where
@@ -249,14 +249,14 @@ state-or-fault pr role sv fs number wf is found h =
                   front = f;
                   here = at.1;
                   merges = merges;
-                  many = subst (λ (z : List Choice). TooManyAt pr role fs f.talks z) all many;
+                  many = subst (λ (z : List LabelChoice). TooManyAt pr role fs f.talks z) all many;
                 },
               ),
             )
             | inl a ↦ (
                 let whole : map choice_of (take (length choices) choices) ≡ merged_choices pr f.talks = ap (λ (z : List Arm). map choice_of z) (take_all (length choices) choices (omega arith)) ∙ all in
                 let s = shaped pr role f.talks a.arms wf right merges.agree (a.same ∙ whole) in
-                let d : Discovers pr role fs f.talks (merged_choices pr f.talks) a.mid (nexts_of a.arms) = subst (λ (z : List Choice). Discovers pr role fs f.talks z a.mid (nexts_of a.arms)) whole a.discovers in
+                let d : Discovers pr role fs f.talks (merged_choices pr f.talks) a.mid (nexts_of a.arms) = subst (λ (z : List LabelChoice). Discovers pr role fs f.talks z a.mid (nexts_of a.arms)) whole a.discovers in
                 inl (a.mid, s.state, works-on pr role fs a.mid number f f.talks s.state refl at.1 merges (subst (λ (z : List ℕ). Discovers pr role fs f.talks (merged_choices pr f.talks) a.mid z) (sym s.nexts) d) s.shape))
           ])
     ]

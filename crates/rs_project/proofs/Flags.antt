@@ -1,7 +1,7 @@
 -- Flags of nodes.
 use Rattle.std.proofs.Common.{◌≡◌, ◌⊎◌, inl, inr, ℕ, zero, suc, ◌<◌, Bool, true, false, List, [], ◌∷◌, length, set, get_or, replicate, refl, sym, ap, ◌∙◌, arith}
 use Rattle.std.proofs.lemmas.List.{get_or_default}
-use Rattle.rs_project.specs.Marks.{IsOn, unmarked}
+use Rattle.rs_project.specs.Marks.{IsOn, count_of_lowered}
 
 pub on-within : (flags : List Bool) (n : ℕ) → IsOn flags n → n < length flags
 on-within [] n h = absurd (cc (h))
@@ -39,7 +39,7 @@ set-only (b ∷ bs) zero (suc n) h = inl h
 set-only (b ∷ bs) (suc x) zero h = inl h
 set-only (b ∷ bs) (suc x) (suc n) h = elim (set-only bs x n h) [ inl k ↦ inl k | inr e ↦ inr (ap suc e) ]
 
-pub set-unmarked : (flags : List Bool) (x : ℕ) → x < length flags → get_or flags x false ≡ false → suc (unmarked (set flags x true)) ≡ unmarked flags
+pub set-unmarked : (flags : List Bool) (x : ℕ) → x < length flags → get_or flags x false ≡ false → suc (count_of_lowered (set flags x true)) ≡ count_of_lowered flags
 set-unmarked [] x h e = let bad : ⊥ = omega arith in absurd bad
 set-unmarked (true ∷ bs) zero h e = absurd (cc (e))
 set-unmarked (false ∷ bs) zero h e = refl

@@ -5,7 +5,7 @@ use Rattle.rs_model.specs.Data.{Protocol_data}
 use Rattle.rs_model.specs.declared.graph.Role.{Role}
 use Rattle.rs_project.specs.Data.{Front_data}
 use Rattle.rs_project.specs.Order.{IsOnce, Numbered, NoMore, Known, New, Worked, Next}
-use Rattle.rs_project.specs.Projection.{Choice, merged_choices, MeetsBehind, EndsBehind}
+use Rattle.rs_project.specs.Projection.{LabelChoice, merged_choices, MeetsBehind, EndsBehind}
 use Rattle.rs_project.specs.Refusals.{Merges, AreBehind, FirstClash, OfTalks, OfTheEnd}
 use Rattle.rs_project.proofs.Lists.{contains, at-among}
 use Rattle.rs_project.proofs.Numbers.{same-front}
@@ -14,7 +14,7 @@ use Rattle.rs_project.proofs.Numbers.{same-front}
 abbrev pub Same : List Front_data → List Front_data → ℕ → Type 0
 Same fs gs known = (i : ℕ) → i < known → (f : Front_data) × (slice_get fs i ≡ Some f) × (slice_get gs i ≡ Some f)
 
-pub same-numbers : (pr : Protocol_data) (role : Role) (fs gs : List Front_data) (talks : List ℕ) → IsOnce fs → IsOnce gs → (known mid mid' : ℕ) (ns ns' : List ℕ) (cs : List Choice) → Same fs gs known
+pub same-numbers : (pr : Protocol_data) (role : Role) (fs gs : List Front_data) (talks : List ℕ) → IsOnce fs → IsOnce gs → (known mid mid' : ℕ) (ns ns' : List ℕ) (cs : List LabelChoice) → Same fs gs known
     → Numbered known ns mid → Numbered known ns' mid' → AreBehind pr role fs talks cs ns → AreBehind pr role gs talks cs ns' → (ns ≡ ns') × (mid ≡ mid') × Same fs gs mid
 same-numbers pr role fs gs talks o o' known _ _ _ _ cs ag (NoMore _) (NoMore _) h h' = (refl, refl, ag)
 same-numbers pr role fs gs talks o o' known _ _ _ _ [] ag (NoMore _) (Known _ n _ ns lt k) h h' = elim h' [ ]

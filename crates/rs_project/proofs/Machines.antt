@@ -14,17 +14,17 @@ use Rattle.rs_model.specs.declared.machines.State.TheVariants.{Puts, Takes}
 use Rattle.rs_model.specs.Talks.{Talks}
 use Rattle.rs_wellformed.specs.WellFormed.{IsWellFormed}
 use Rattle.rs_project.specs.Data.{Projection_data}
-use Rattle.rs_project.specs.Projection.{Choice, choice_of, choices_of, first_choices, merged_choices, AreArmsOf, IsStateOf, IsDone, IsPuts, IsTakes, IsProjection}
+use Rattle.rs_project.specs.Projection.{LabelChoice, choice_of, choices_of, first_choices, merged_choices, AreArmsOf, IsStateOf, IsDone, IsPuts, IsTakes, IsProjection}
 use Rattle.rs_project.specs.Marks.{Among}
 use Rattle.rs_project.proofs.Lists.{contains}
 use Rattle.rs_project.proofs.Choices.{has_label, label-last, merged-label, arm-choice}
 
 -- no choice has the label
-abbrev pub Unlabelled : Label → List Choice → Type 0
-Unlabelled l cs = (c : Choice) → Among cs c → c.label ≢ l
+abbrev pub Unlabelled : Label → List LabelChoice → Type 0
+Unlabelled l cs = (c : LabelChoice) → Among cs c → c.label ≢ l
 
 -- no label stands twice
-abbrev pub Once : List Choice → Type 0
+abbrev pub Once : List LabelChoice → Type 0
 Once [] = Unit {0}
 Once (c ∷ cs) = Unlabelled c.label cs × Once cs
 
@@ -37,7 +37,7 @@ or-right false b h = h
 or-right true b h = absurd (cc (h))
 
 -- no first choice has the label of an earlier one
-first-new : (cs earlier : List Choice) (c : Choice) → Among (first_choices cs earlier) c → has_label c.label earlier ≡ false
+first-new : (cs earlier : List LabelChoice) (c : LabelChoice) → Among (first_choices cs earlier) c → has_label c.label earlier ≡ false
 first-new [] earlier c h = absurd h
 first-new (a ∷ later) earlier c h = go (has_label a.label earlier) refl (first-new later earlier c) (first-new later (earlier ++ (a ∷ [])) c) h
   where
@@ -47,13 +47,13 @@ first-new (a ∷ later) earlier c h = go (has_label a.label earlier) refl (first
         → Among (if b then first_choices later earlier else a ∷ first_choices later (earlier ++ (a ∷ []))) c
         → has_label c.label earlier ≡ false
     go true e skip keep h' = skip h'
-    go false e skip keep (inl s) = let P : Choice → Type 0 = λ z. has_label z.label earlier ≡ false in subst P s e
+    go false e skip keep (inl s) = let P : LabelChoice → Type 0 = λ z. has_label z.label earlier ≡ false in subst P s e
     go false e skip keep (inr h') = or-left (has_label c.label earlier) (a.label.0 == c.label.0) (sym (label-last c.label earlier a) ∙ keep h')
 
 differs : (x y : Label) → (x.0 == y.0) ≡ false → y ≢ x
 differs x y h e = elim (eqb_tells x.0 y.0) [ inl t ↦ cc (t.0, h) | inr t ↦ t.1 (ap (λ (z : Label). z.0) (sym e)) ]
 
-first-once : (cs earlier : List Choice) → Once (first_choices cs earlier)
+first-once : (cs earlier : List LabelChoice) → Once (first_choices cs earlier)
 first-once [] earlier = tt
 first-once (a ∷ later) earlier = go (has_label a.label earlier) (first-once later earlier) (first-once later (earlier ++ (a ∷ [])))
   where
@@ -84,7 +84,7 @@ arms-some pr members talk x y [] arms m n ne c none = ne refl
 arms-some pr members talk x y (a ∷ theirs) arms m n ne c none =
     let Q : Option Node → Type 0 = λ z. Among (choices_of z) (choice_of a) in
     let l = merged-label pr members talk (choice_of a) m (subst Q (sym n) (inl refl)) in
-    let R : List Choice → Type 0 = λ z. Among z l.0 in
+    let R : List LabelChoice → Type 0 = λ z. Among z l.0 in
     let S : List Arm → Type 0 = λ z. Among (map choice_of z) l.0 in
     subst S none (subst R (sym c) l.1)
 
@@ -99,7 +99,7 @@ state-fits pr p pj q x y members talk theirs arms wf ip m n ar ne hq = record {
   some = arms-some pr members talk x y theirs arms m n (wf.talks talk x y theirs n).some ar.choices;
   other = λ h. ne (h ∙ ip.onto);
   known = hq;
-  once = (let P : List Choice → Type 0 = λ z. Once z in once-arms arms (subst P (sym ar.choices) (first-once (flat_map (λ k. choices_of (slice_get pr.nodes k)) members) [])));
+  once = (let P : List LabelChoice → Type 0 = λ z. Once z in once-arms arms (subst P (sym ar.choices) (first-once (flat_map (λ k. choices_of (slice_get pr.nodes k)) members) [])));
   nexts = λ i a h.
       let s = ar.nexts i a h in
       let w = slice_get_within pj.sets a.next s.members s.is in

@@ -10,7 +10,7 @@ use Rattle.rs_model.specs.declared.graph.Role.{Role}
 use Rattle.rs_wellformed.specs.WellFormed.{IsWellFormed}
 use Rattle.rs_project.specs.Data.{Front_data}
 use Rattle.rs_project.specs.Graph.{IsUnreached}
-use Rattle.rs_project.specs.Marks.{Among, AllAwaited, AreCommon, HasFlags, IsLive, IsOn, IsSettled, IsSpread, IsSurvey, Spreading, StartEnds, StartMeets, Survey_data, involves_role, leads_on, nexts_of_node, unmarked}
+use Rattle.rs_project.specs.Marks.{Among, AllAwaited, AreCommon, HasFlags, IsLive, IsOn, IsSettled, IsSpread, IsSurvey, Spreading, StartEnds, StartMeets, Survey_data, involves_role, leads_on, nexts_of_node, count_of_lowered}
 use Rattle.rs_project.specs.Refusals.{IsFront, NoneUnreached}
 use Rattle.rs_project.proofs.Cycles.{is-live, least-so-far, nexts-within, none-at-all, none-more, passes-unreached, round-found, round-marked, round-of, unreached-by}
 use Rattle.rs_project.proofs.Flags.{none-on, off-flag, on-decide, on-within, set-on, set-unmarked}
@@ -30,7 +30,7 @@ record Marked (pr : Protocol_data) (th : List Bool) (starts : List ℕ) (marks :
   pub marks' : List Bool
   pub todo' : List ℕ
   pub size : length marks' ≡ length marks
-  pub owed : unmarked marks' + length todo' ≡ unmarked marks + length todo
+  pub owed : count_of_lowered marks' + length todo' ≡ count_of_lowered marks + length todo
   pub going : Spreading pr th starts marks' todo' []
 
 mark-all : (pr : Protocol_data) (th : List Bool) (starts soon : List ℕ) (marks : List Bool) (todo : List ℕ) → ((x : ℕ) → Among soon x → x < length marks)
@@ -49,7 +49,7 @@ mark-all pr th starts (x ∷ soon) marks todo w s = elim (on-decide marks x) [
 ]
 
 spread-on : (pr : Protocol_data) (th : List Bool) (starts : List ℕ) → IsWellFormed pr → (k : ℕ) (marks : List Bool) (todo : List ℕ) → length marks ≡ length pr.nodes
-    → unmarked marks + length todo ≤ k → Spreading pr th starts marks todo [] → (all : List Bool) × IsSpread pr th starts all
+    → count_of_lowered marks + length todo ≤ k → Spreading pr th starts marks todo [] → (all : List Bool) × IsSpread pr th starts all
 spread-on pr th starts wf k marks [] size le s = (marks, spread-whole pr th starts marks size s)
 spread-on pr th starts wf zero marks (x ∷ todo) size le s = absurd (omega (arith, le))
 spread-on pr th starts wf (suc k) marks (x ∷ todo) size le s =
@@ -71,7 +71,7 @@ spread-any pr th starts wf w =
     let none = replicate (length pr.nodes) false in
     let size : length none ≡ length pr.nodes = length-replicate (length pr.nodes) false in
     let m = mark-all pr th starts starts none [] (λ x h. (let k = w x h in omega (arith, k, size))) (begun pr th starts none (none-on (length pr.nodes))) in
-    spread-on pr th starts wf (unmarked m.marks' + length m.todo') m.marks' m.todo' (m.size ∙ size) (omega arith) m.going
+    spread-on pr th starts wf (count_of_lowered m.marks' + length m.todo') m.marks' m.todo' (m.size ∙ size) (omega arith) m.going
 
 -- a node that isn't flagged and leads to a flagged one
 record IsOpen (pr : Protocol_data) (flags : List Bool) : Type 0 where
@@ -134,7 +134,7 @@ already pr flags size all = record {
 open-within : (pr : Protocol_data) (flags : List Bool) → length flags ≡ length pr.nodes → (o : IsOpen pr flags) → o.number < length flags
 open-within pr flags size o = let w = at-short pr.nodes o.number o.node o.is in omega (arith, w, size)
 
-settle : (pr : Protocol_data) (k : ℕ) (flags : List Bool) → unmarked flags ≤ k → length flags ≡ length pr.nodes → Settles pr flags
+settle : (pr : Protocol_data) (k : ℕ) (flags : List Bool) → count_of_lowered flags ≤ k → length flags ≡ length pr.nodes → Settles pr flags
 settle pr zero flags le size = elim (open-or-settled pr flags (length pr.nodes) (omega arith)) [
   | inr all ↦ already pr flags size all
   | inl o ↦ (let u = set-unmarked flags o.number (open-within pr flags size o) (off-flag flags o.number o.off) in absurd (omega (arith, u, le)))
@@ -176,7 +176,7 @@ pub survey-any : (pr : Protocol_data) (role : Role) → (sv : Survey_data) × Is
 survey-any pr role =
     let involved : List Bool = map (λ (k : Node). involves_role role k) pr.nodes in
     let size : length involved ≡ length pr.nodes = length-map pr.nodes (λ (k : Node). involves_role role k) in
-    let s = settle pr (unmarked involved) involved (omega arith) size in
+    let s = settle pr (count_of_lowered involved) involved (omega arith) size in
     let z = s.size in (
       record { protocol = pr; role = role; involved = involved; awaited = s.flags'; passing = without s.flags' involved },
       is-survey pr role involved s.flags' (without s.flags' involved) refl s.size (without-size s.flags' involved ∙ s.size ∙ sym size) s.sound s.has s.settled

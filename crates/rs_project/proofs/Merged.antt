@@ -6,13 +6,13 @@ use Rattle.rs_model.specs.declared.graph.Arm.{Arm}
 use Rattle.rs_model.specs.declared.graph.Label.{Label}
 use Rattle.rs_model.specs.declared.graph.Node.{Node}
 use Rattle.rs_project.specs.Marks.{labelled_nexts_of}
-use Rattle.rs_project.specs.Projection.{Choice, choice_of, choices_of, first_choices}
+use Rattle.rs_project.specs.Projection.{LabelChoice, choice_of, choices_of, first_choices}
 
 append-nothing : {A : Type 0} (xs : List A) → xs ++ [] ≡ xs
 append-nothing [] = refl
 append-nothing (x ∷ xs) = ap (λ z. x ∷ z) (append-nothing xs)
 
-first-append : (xs ys earlier : List Choice) → first_choices (xs ++ ys) earlier ≡ first_choices xs earlier ++ first_choices ys (earlier ++ first_choices xs earlier)
+first-append : (xs ys earlier : List LabelChoice) → first_choices (xs ++ ys) earlier ≡ first_choices xs earlier ++ first_choices ys (earlier ++ first_choices xs earlier)
 first-append [] ys earlier = ap (λ z. first_choices ys z) (sym (append-nothing earlier))
 first-append (c ∷ cs) ys earlier = go (list_any (λ b. b.label.0 == c.label.0) earlier) (first-append cs ys earlier) (first-append cs ys (earlier ++ (c ∷ [])))
   where
@@ -25,20 +25,20 @@ first-append (c ∷ cs) ys earlier = go (list_any (λ b. b.label.0 == c.label.0)
     go false skip keep =
         let rest = first_choices cs (earlier ++ (c ∷ [])) in
         let e : (earlier ++ (c ∷ [])) ++ rest ≡ earlier ++ (c ∷ rest) = append_assoc earlier (c ∷ []) rest in
-        let P : List Choice → Type 0 = λ z. c ∷ first_choices (cs ++ ys) (earlier ++ (c ∷ [])) ≡ c ∷ (rest ++ first_choices ys z) in
+        let P : List LabelChoice → Type 0 = λ z. c ∷ first_choices (cs ++ ys) (earlier ++ (c ∷ [])) ≡ c ∷ (rest ++ first_choices ys z) in
         subst P e (ap (λ z. c ∷ z) keep)
 
 -- what was added is what the first choices add
-pub first-on : (xs ys acc new : List Choice) → new ≡ acc ++ first_choices xs acc → acc ++ first_choices (xs ++ ys) acc ≡ new ++ first_choices ys new
+pub first-on : (xs ys acc new : List LabelChoice) → new ≡ acc ++ first_choices xs acc → acc ++ first_choices (xs ++ ys) acc ≡ new ++ first_choices ys new
 first-on xs ys acc new e =
-    let P : List Choice → Type 0 = λ z. acc ++ first_choices (xs ++ ys) acc ≡ z ++ first_choices ys z in
+    let P : List LabelChoice → Type 0 = λ z. acc ++ first_choices (xs ++ ys) acc ≡ z ++ first_choices ys z in
     subst P (sym e) (ap (λ z. acc ++ z) (first-append xs ys acc) ∙ sym (append_assoc acc (first_choices xs acc) (first_choices ys (acc ++ first_choices xs acc))))
 
 pub labels-any : (label : Label) (arms : List Arm) → list_any (λ b. b.label.0 == label.0) (map choice_of arms) ≡ list_any (λ a. a.label.0 == label.0) arms
 labels-any label [] = refl
 labels-any label (a ∷ arms) = ap (λ z. (a.label.0 == label.0) || z) (labels-any label arms)
 
-arms-suc : (arms : List Arm) (i : ℕ) (a : Arm) (acc new total : List Choice) → slice_get arms i ≡ Some a → new ≡ acc ++ first_choices (choice_of a ∷ []) acc
+arms-suc : (arms : List Arm) (i : ℕ) (a : Arm) (acc new total : List LabelChoice) → slice_get arms i ≡ Some a → new ≡ acc ++ first_choices (choice_of a ∷ []) acc
     → acc ++ first_choices (map choice_of (drop i arms)) acc ≡ total → new ++ first_choices (map choice_of (drop (suc i) arms)) new ≡ total
 arms-suc [] i a acc new total is e h = absurd (cc (is))
 arms-suc (x ∷ arms) zero a acc new total is e h =
@@ -47,14 +47,14 @@ arms-suc (x ∷ arms) zero a acc new total is e h =
     sym (first-on (choice_of x ∷ []) (map choice_of arms) acc new (subst P (sym s) e)) ∙ h
 arms-suc (x ∷ arms) (suc i) a acc new total is e h = arms-suc arms i a acc new total is e h
 
-pub arms-on : (arms : List Arm) (i : ℕ) (a : Arm) (acc new total : List Choice) → slice_get arms i ≡ Some a → new ≡ acc ++ first_choices (choice_of a ∷ []) acc
+pub arms-on : (arms : List Arm) (i : ℕ) (a : Arm) (acc new total : List LabelChoice) → slice_get arms i ≡ Some a → new ≡ acc ++ first_choices (choice_of a ∷ []) acc
     → acc ++ first_choices (map choice_of (drop i arms)) acc ≡ total → new ++ first_choices (map choice_of (drop (i + 1) arms)) new ≡ total
 arms-on arms i a acc new total is e h =
     let q : suc i ≡ i + 1 = omega arith in
     let P : ℕ → Type 0 = λ z. new ++ first_choices (map choice_of (drop z arms)) new ≡ total in
     subst P q (arms-suc arms i a acc new total is e h)
 
-choices-suc : (pr : Protocol_data) (talks : List ℕ) (i n : ℕ) (node : Node) (acc new total : List Choice) → slice_get talks i ≡ Some n → slice_get pr.nodes n ≡ Some node
+choices-suc : (pr : Protocol_data) (talks : List ℕ) (i n : ℕ) (node : Node) (acc new total : List LabelChoice) → slice_get talks i ≡ Some n → slice_get pr.nodes n ≡ Some node
     → new ≡ acc ++ first_choices (choices_of (Some node)) acc
     → acc ++ first_choices (flat_map (λ k. choices_of (slice_get pr.nodes k)) (drop i talks)) acc ≡ total
     → new ++ first_choices (flat_map (λ k. choices_of (slice_get pr.nodes k)) (drop (suc i) talks)) new ≡ total
@@ -66,7 +66,7 @@ choices-suc pr (x ∷ talks) zero n node acc new total is at e h =
     sym (first-on (choices_of (slice_get pr.nodes x)) (flat_map (λ k. choices_of (slice_get pr.nodes k)) talks) acc new (subst Q (sym s) (subst P (sym at) e))) ∙ h
 choices-suc pr (x ∷ talks) (suc i) n node acc new total is at e h = choices-suc pr talks i n node acc new total is at e h
 
-pub choices-on : (pr : Protocol_data) (talks : List ℕ) (i n : ℕ) (node : Node) (acc new total : List Choice) → slice_get talks i ≡ Some n → slice_get pr.nodes n ≡ Some node
+pub choices-on : (pr : Protocol_data) (talks : List ℕ) (i n : ℕ) (node : Node) (acc new total : List LabelChoice) → slice_get talks i ≡ Some n → slice_get pr.nodes n ≡ Some node
     → new ≡ acc ++ first_choices (choices_of (Some node)) acc
     → acc ++ first_choices (flat_map (λ k. choices_of (slice_get pr.nodes k)) (drop i talks)) acc ≡ total
     → new ++ first_choices (flat_map (λ k. choices_of (slice_get pr.nodes k)) (drop (i + 1) talks)) new ≡ total
@@ -104,12 +104,12 @@ any-labelled label arms seen b c s e k =
     let P : List Arm → Type 0 = λ z. b ≡ list_any (λ a. a.label.0 == label.0) z in
     labels-any label arms ∙ sym (subst P s e) ∙ k
 
-pub add-known : (a : Arm) (acc : List Choice) → list_any (λ b. b.label.0 == a.label.0) acc ≡ true → acc ≡ acc ++ first_choices (choice_of a ∷ []) acc
+pub add-known : (a : Arm) (acc : List LabelChoice) → list_any (λ b. b.label.0 == a.label.0) acc ≡ true → acc ≡ acc ++ first_choices (choice_of a ∷ []) acc
 add-known a acc e =
     let P : Bool → Type 0 = λ z. acc ≡ acc ++ (if z then [] else choice_of a ∷ []) in
     subst P (sym e) (sym (append-nothing acc))
 
-pub add-new : (a : Arm) (acc new : List Choice) → list_any (λ b. b.label.0 == a.label.0) acc ≡ false → new ≡ acc ++ (choice_of a ∷ []) → new ≡ acc ++ first_choices (choice_of a ∷ []) acc
+pub add-new : (a : Arm) (acc new : List LabelChoice) → list_any (λ b. b.label.0 == a.label.0) acc ≡ false → new ≡ acc ++ (choice_of a ∷ []) → new ≡ acc ++ first_choices (choice_of a ∷ []) acc
 add-new a acc new e n =
     let P : Bool → Type 0 = λ z. new ≡ acc ++ (if z then [] else choice_of a ∷ []) in
     subst P (sym e) n

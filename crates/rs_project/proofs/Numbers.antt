@@ -13,9 +13,9 @@ use Rattle.rs_project.specs.Graph.{Involves}
 use Rattle.rs_project.specs.Marks.{Among, IsSurvey, Survey_data}
 use Rattle.rs_project.specs.Order.{IsOnce, Numbered, NoMore, Known, New, Worked, AllDone, Next}
 use Rattle.rs_project.specs.Numbered.{nexts_of}
-use Rattle.rs_project.specs.Projection.{Choice, choice_of, choices_of, first_choices, merged_choices, LeadsOn, MeetsBehind, EndsBehind}
+use Rattle.rs_project.specs.Projection.{LabelChoice, choice_of, choices_of, first_choices, merged_choices, LeadsOn, MeetsBehind, EndsBehind}
 use Rattle.rs_project.specs.Refusals.{IsFront, IsFrontAt, AreBehind}
-use Rattle.rs_project.specs.Working.{IsFrontBehind, IsNew, Keeps, Adds, AreFound, Finds, FindsNone, FindFault, ArmsFault, Discovers, TooManyAt}
+use Rattle.rs_project.specs.Working.{IsFrontBehind, FrontIsNew, KeepsFronts, AddsFront, AreFound, FindsFront, FindsNone, FindFault, ArmsFault, Discovers, TooManyAt}
 use Rattle.rs_project.specs.declared.projecting.ProjFault.{ProjFault}
 use Rattle.rs_project.specs.declared.projecting.ProjFault.TheVariants.{Unmergeable, Unreached, TooManyStates, NoMemory}
 use Rattle.rs_project.proofs.Lists.{contained, contains, at-among, at-short, among-left, among-split, at-map}
@@ -87,7 +87,7 @@ at-push [] y (suc i) x h = absurd (cc (h))
 at-push (z ∷ xs) y zero x h = inl h
 at-push (z ∷ xs) y (suc i) x h = elim (at-push xs y i x h) [ inl k ↦ inl k | inr p ↦ inr (ap suc p.0, p.1) ]
 
-pub once-push : (fs : List Front_data) (f : Front_data) → IsOnce fs → IsNew fs f → IsOnce (fs ++ (f ∷ []))
+pub once-push : (fs : List Front_data) (f : Front_data) → IsOnce fs → FrontIsNew fs f → IsOnce (fs ++ (f ∷ []))
 once-push fs f once new = λ i j x a b. elim (at-push fs f i x a) [
   | inl p ↦ elim (at-push fs f j x b) [ inl q ↦ once i j x p q | inr q ↦ absurd (new i (p ∙ ap Some (sym q.1))) ]
   | inr p ↦ elim (at-push fs f j x b) [ inl q ↦ absurd (new j (q ∙ ap Some (sym p.1))) | inr q ↦ p.0 ∙ sym q.0 ]
@@ -108,25 +108,25 @@ worked-push k known _ after _ row (AllDone _ _) h n = Next k known after after r
 worked-push k known mid after _ row (Next _ _ m _ r rows lt nu w) h n = Next k known m after r (rows ++ (row ∷ [])) lt nu (worked-push (suc k) m mid after rows row w (omega arith) n)
 
 -- rows of numbers behind choices
-pub behind-kept : (pr : Protocol_data) (role : Role) (old new : List Front_data) (talks : List ℕ) → Keeps old new → (cs : List Choice) (ns : List ℕ) → AreBehind pr role old talks cs ns → AreBehind pr role new talks cs ns
+pub behind-kept : (pr : Protocol_data) (role : Role) (old new : List Front_data) (talks : List ℕ) → KeepsFronts old new → (cs : List LabelChoice) (ns : List ℕ) → AreBehind pr role old talks cs ns → AreBehind pr role new talks cs ns
 behind-kept pr role old new talks kept [] [] h = tt
 behind-kept pr role old new talks kept [] (n ∷ ns) h = absurd h
 behind-kept pr role old new talks kept (c ∷ cs) [] h = absurd h
 behind-kept pr role old new talks kept (c ∷ cs) (n ∷ ns) h =
     (record { front = h.0.front; stands = kept n h.0.front h.0.stands; is = h.0.is }, behind-kept pr role old new talks kept cs ns h.1)
 
-pub behind-push : (pr : Protocol_data) (role : Role) (fs : List Front_data) (talks : List ℕ) (cs : List Choice) (ns : List ℕ) (c : Choice) (n : ℕ) → AreBehind pr role fs talks cs ns
+pub behind-push : (pr : Protocol_data) (role : Role) (fs : List Front_data) (talks : List ℕ) (cs : List LabelChoice) (ns : List ℕ) (c : LabelChoice) (n : ℕ) → AreBehind pr role fs talks cs ns
     → IsFrontAt fs n (MeetsBehind pr role talks c.label) (EndsBehind pr role talks c.label) → AreBehind pr role fs talks (cs ++ (c ∷ [])) (ns ++ (n ∷ []))
 behind-push pr role fs talks [] [] c n h at = (at, tt)
 behind-push pr role fs talks [] (m ∷ ns) c n h at = absurd h
 behind-push pr role fs talks (d ∷ cs) [] c n h at = absurd h
 behind-push pr role fs talks (d ∷ cs) (m ∷ ns) c n h at = (h.0, behind-push pr role fs talks cs ns c n h.1 at)
 
-keeps-adds : (old new : List Front_data) (f : Front_data) (n : ℕ) → Adds old f new n → Keeps old new
+keeps-adds : (old new : List Front_data) (f : Front_data) (n : ℕ) → AddsFront old f new n → KeepsFronts old new
 keeps-adds old new f n (inl p) = λ k g h. (let P : List Front_data → Type 0 = λ z. slice_get z k ≡ Some g in subst P (sym p.1) h)
 keeps-adds old new f n (inr p) = λ k g h. (let P : List Front_data → Type 0 = λ z. slice_get z k ≡ Some g in subst P (sym p.1) (at-left old (f ∷ []) k g h))
 
-stands-adds : (old new : List Front_data) (f : Front_data) (n : ℕ) → Adds old f new n → slice_get new n ≡ Some f
+stands-adds : (old new : List Front_data) (f : Front_data) (n : ℕ) → AddsFront old f new n → slice_get new n ≡ Some f
 stands-adds old new f n (inl p) = let P : List Front_data → Type 0 = λ z. slice_get z n ≡ Some f in subst P (sym p.1) p.0
 stands-adds old new f n (inr p) =
     let P : List Front_data → Type 0 = λ z. slice_get z n ≡ Some f in
@@ -134,7 +134,7 @@ stands-adds old new f n (inr p) =
     subst P (sym p.1) (subst Q (sym p.0) (at-last old f))
 
 found-adds : (pr : Protocol_data) (role : Role) (old new : List Front_data) (f : Front_data) (n : ℕ) → AreFound pr role old → ((t : ℕ) → Among f.talks t → Involves pr role t)
-    → (f.talks ≡ [] → f.ends ≡ true) → Adds old f new n → AreFound pr role new
+    → (f.talks ≡ [] → f.ends ≡ true) → AddsFront old f new n → AreFound pr role new
 found-adds pr role old new f n found right told (inl p) = let P : List Front_data → Type 0 = λ z. AreFound pr role z in subst P (sym p.1) found
 found-adds pr role old new f n found right told (inr p) =
     let P : List Front_data → Type 0 = λ z. AreFound pr role z in
@@ -151,7 +151,7 @@ found-adds pr role old new f n found right told (inr p) =
       ];
     }
 
-numbered-adds : (known : ℕ) (old new : List Front_data) (f : Front_data) (n : ℕ) (ns : List ℕ) → Numbered known ns (length old) → Adds old f new n → Numbered known (ns ++ (n ∷ [])) (length new)
+numbered-adds : (known : ℕ) (old new : List Front_data) (f : Front_data) (n : ℕ) (ns : List ℕ) → Numbered known ns (length old) → AddsFront old f new n → Numbered known (ns ++ (n ∷ [])) (length new)
 numbered-adds known old new f n ns nu (inl p) =
     let P : List Front_data → Type 0 = λ z. Numbered known (ns ++ (n ∷ [])) (length z) in
     subst P (sym p.1) (numbered-known known (length old) n ns nu (at-short old n f p.0))
@@ -163,7 +163,7 @@ numbered-adds known old new f n ns nu (inr p) =
     subst P (sym p.1) (subst Q l (subst R (sym p.0) (numbered-new known (length old) ns nu)))
 
 -- the label stands at an arm of some member
-choice-from : (cs earlier : List Choice) (c : Choice) → Among (first_choices cs earlier) c → Among cs c
+choice-from : (cs earlier : List LabelChoice) (c : LabelChoice) → Among (first_choices cs earlier) c → Among cs c
 choice-from [] earlier c h = absurd h
 choice-from (x ∷ cs) earlier c h = go (list_any (λ b. b.label.0 == x.label.0) earlier) (λ k. choice-from cs earlier c k) (λ k. choice-from cs (earlier ++ (x ∷ [])) c k) h
   where
@@ -189,12 +189,12 @@ flat-to f (z ∷ xs) x y (inr h) k = among-right' (f z) (flat_map f xs) y (flat-
     among-right' [] vs u m = m
     among-right' (w ∷ us) vs u m = inr (among-right' us vs u m)
 
-arm-from : (arms : List Arm) (c : Choice) → Among (map choice_of arms) c → (place : ℕ) × (a : Arm) × (slice_get arms place ≡ Some a) × (choice_of a ≡ c)
+arm-from : (arms : List Arm) (c : LabelChoice) → Among (map choice_of arms) c → (place : ℕ) × (a : Arm) × (slice_get arms place ≡ Some a) × (choice_of a ≡ c)
 arm-from [] c h = absurd h
 arm-from (a ∷ arms) c (inl e) = (zero, a, refl, e)
 arm-from (a ∷ arms) c (inr h) = let r = arm-from arms c h in (suc r.0, r.1, r.2, r.3)
 
-node-choice : (pr : Protocol_data) (talks : List ℕ) (t : ℕ) (c : Choice) (o : Option Node) → Among talks t → slice_get pr.nodes t ≡ o → Among (choices_of o) c → (next : ℕ) × LeadsOn pr talks c.label next
+node-choice : (pr : Protocol_data) (talks : List ℕ) (t : ℕ) (c : LabelChoice) (o : Option Node) → Among talks t → slice_get pr.nodes t ≡ o → Among (choices_of o) c → (next : ℕ) × LeadsOn pr talks c.label next
 node-choice pr talks t c None m at h = absurd h
 node-choice pr talks t c (Some Finished) m at h = absurd h
 node-choice pr talks t c (Some (Talk sender receiver arms)) m at h =
@@ -205,13 +205,13 @@ node-choice pr talks t c (Some (Talk sender receiver arms)) m at h =
         member = contains talks t m;
         place = r.0;
         step = record { sender = sender; receiver = receiver; arms = arms; arm = r.1; talks = at; stands = r.2; leads = refl };
-        its_label = ap (λ (z : Choice). z.label) r.3;
+        its_label = ap (λ (z : LabelChoice). z.label) r.3;
       },
     )
 
-pub choice-leads : (pr : Protocol_data) (talks : List ℕ) (c : Choice) → Among (merged_choices pr talks) c → (next : ℕ) × LeadsOn pr talks c.label next
+pub choice-leads : (pr : Protocol_data) (talks : List ℕ) (c : LabelChoice) → Among (merged_choices pr talks) c → (next : ℕ) × LeadsOn pr talks c.label next
 choice-leads pr talks c h =
-    let f : ℕ → List Choice = λ n. choices_of (slice_get pr.nodes n) in
+    let f : ℕ → List LabelChoice = λ n. choices_of (slice_get pr.nodes n) in
     let r = flat-from f talks c (choice-from (flat_map f talks) [] c h) in
     node-choice pr talks r.0 c (slice_get pr.nodes r.0) r.1 refl r.2
 
@@ -229,8 +229,8 @@ right-behind pr role talks label f front t m = ((front.talks t).0 (contains f.ta
 pub discovers-none : (pr : Protocol_data) (role : Role) (fs : List Front_data) (talks : List ℕ) → AreFound pr role fs → Discovers pr role fs talks [] fs []
 discovers-none pr role fs talks found = record { found = found; kept = λ n f h. h; numbered = NoMore (length fs); behind = tt }
 
-pub discovers-more : (pr : Protocol_data) (role : Role) (sv : Survey_data) (old mid new : List Front_data) (talks : List ℕ) (cs : List Choice) (c : Choice) (row : List ℕ) (n : ℕ) → IsSurvey pr role sv
-    → Among (merged_choices pr talks) c → Discovers pr role old talks cs mid row → Finds pr role mid talks c.label new n → Discovers pr role old talks (cs ++ (c ∷ [])) new (row ++ (n ∷ []))
+pub discovers-more : (pr : Protocol_data) (role : Role) (sv : Survey_data) (old mid new : List Front_data) (talks : List ℕ) (cs : List LabelChoice) (c : LabelChoice) (row : List ℕ) (n : ℕ) → IsSurvey pr role sv
+    → Among (merged_choices pr talks) c → Discovers pr role old talks cs mid row → FindsFront pr role mid talks c.label new n → Discovers pr role old talks (cs ++ (c ∷ [])) new (row ++ (n ∷ []))
 discovers-more pr role sv old mid new talks cs c row n is m d f =
     let on = choice-leads pr talks c m in
     let k = keeps-adds mid new f.front n f.adds in
@@ -266,11 +266,11 @@ among-choices choices i a h = at-among (map choice_of choices) i (choice_of a) (
 pub arm-more : (pr : Protocol_data) (role : Role) (sv : Survey_data) (old mid new : List Front_data) (talks : List ℕ) (choices : List Arm) (i : ℕ) (a : Arm) (arms more : List Arm) (n : ℕ) → IsSurvey pr role sv
     → map choice_of choices ≡ merged_choices pr talks → slice_get choices i ≡ Some a
     → more ≡ arms ++ (record { label = a.label; sort = a.sort; next = n } ∷ [])
-    → Discovers pr role old talks (map choice_of (take i choices)) mid (nexts_of arms) → Finds pr role mid talks a.label new n
+    → Discovers pr role old talks (map choice_of (take i choices)) mid (nexts_of arms) → FindsFront pr role mid talks a.label new n
     → Discovers pr role old talks (map choice_of (take (i + 1) choices)) new (nexts_of more)
 arm-more pr role sv old mid new talks choices i a arms more n is e at m d f =
-    let P : List Choice → Type 0 = λ z. Among z (choice_of a) in
-    let Q : List Choice → List ℕ → Type 0 = λ y z. Discovers pr role old talks y new z in
+    let P : List LabelChoice → Type 0 = λ z. Among z (choice_of a) in
+    let Q : List LabelChoice → List ℕ → Type 0 = λ y z. Discovers pr role old talks y new z in
     let j : suc i ≡ i + 1 = omega arith in
     let R : ℕ → Type 0 = λ z. Discovers pr role old talks (map choice_of (take z choices)) new (nexts_of more) in
     subst R j (subst₂ Q (sym (take-more choices i a at)) (sym (ap nexts_of m ∙ nexts-last arms record { label = a.label; sort = a.sort; next = n }))

@@ -7,7 +7,7 @@ use Rattle.rs_model.specs.declared.graph.Role.{Role}
 use Rattle.rs_project.specs.Data.{Front_data}
 use Rattle.rs_project.specs.Graph.{MeetsFirst, MeetsTheEnd}
 use Rattle.rs_project.specs.Order.{IsOnce, Numbered, NoMore, Known, New, Worked, AllDone, Next}
-use Rattle.rs_project.specs.Projection.{Choice, merged_choices, MeetsBehind, EndsBehind}
+use Rattle.rs_project.specs.Projection.{LabelChoice, merged_choices, MeetsBehind, EndsBehind}
 use Rattle.rs_project.specs.Refusals.{IsFrontAt, Merges, AreBehind, FirstClash, ComesTo, ComesToAClash, ComesToTooMany, FirstRefusal}
 use Rattle.rs_project.specs.declared.projecting.ProjFault.{ProjFault}
 use Rattle.rs_project.specs.declared.projecting.ProjFault.TheVariants.{Unmergeable, Unreached, TooManyStates, NoMemory}
@@ -110,7 +110,7 @@ numbered-split known after (n ∷ ns) ms (Known _ _ _ _ lt k) = let r = numbered
 numbered-split known after (n ∷ ns) ms (New _ _ _ k) = let r = numbered-split (suc known) after ns ms k in (r.0, New known r.0 ns r.1, r.2)
 
 -- a row behind choices, split where the choices are
-record SplitRow (pr : Protocol_data) (role : Role) (gs : List Front_data) (talks : List ℕ) (before : List Choice) (c : Choice) (row : List ℕ) : Type 0 where
+record SplitRow (pr : Protocol_data) (role : Role) (gs : List Front_data) (talks : List ℕ) (before : List LabelChoice) (c : LabelChoice) (row : List ℕ) : Type 0 where
   ns : List ℕ
   n : ℕ
   ms : List ℕ
@@ -118,7 +118,7 @@ record SplitRow (pr : Protocol_data) (role : Role) (gs : List Front_data) (talks
   behind : AreBehind pr role gs talks before ns
   at : IsFrontAt gs n (MeetsBehind pr role talks c.label) (EndsBehind pr role talks c.label)
 
-split-row : (pr : Protocol_data) (role : Role) (gs : List Front_data) (talks : List ℕ) (before : List Choice) (c : Choice) (after : List Choice) (row : List ℕ) → AreBehind pr role gs talks (before ++ (c ∷ after)) row
+split-row : (pr : Protocol_data) (role : Role) (gs : List Front_data) (talks : List ℕ) (before : List LabelChoice) (c : LabelChoice) (after : List LabelChoice) (row : List ℕ) → AreBehind pr role gs talks (before ++ (c ∷ after)) row
     → SplitRow pr role gs talks before c row
 split-row pr role gs talks [] c after [] h = absurd h
 split-row pr role gs talks [] c after (n ∷ row) h = record { ns = []; n = n; ms = row; is = refl; behind = tt; at = h.0 }
@@ -132,7 +132,7 @@ pub no-overflow : (pr : Protocol_data) (role : Role) (t : ComesToTooMany pr role
 no-overflow pr role t gs once few b = go b.alike.known b.alike.one b.alike.other b.alike.same
   where
     s : SplitRow pr role gs t.front.talks t.before t.choice b.r
-    s = let P : List Choice → Type 0 = λ z. AreBehind pr role gs t.front.talks z b.r in split-row pr role gs t.front.talks t.before t.choice t.after b.r (subst P t.choices b.behind)
+    s = let P : List LabelChoice → Type 0 = λ z. AreBehind pr role gs t.front.talks z b.r in split-row pr role gs t.front.talks t.before t.choice t.after b.r (subst P t.choices b.behind)
 
     last : (mid m1 mid' : ℕ) → mid ≡ m1 → mid ≡ MOST_STATES → Same t.fronts gs mid → Numbered m1 (s.n ∷ s.ms) mid' → mid' ≤ MOST_STATES → ⊥
     last mid m1 mid' e f same (Known _ _ _ _ lt k) le =

@@ -12,7 +12,7 @@ use Rattle.rs_project.specs.Data.{Front_data, Projection_data}
 use Rattle.rs_project.specs.Graph.{MeetsFirst, MeetsTheEnd}
 use Rattle.rs_project.specs.Order.{Worked, AllDone, Next}
 use Rattle.rs_project.specs.Numbered.{IsNumberedProjection, nexts_of, nexts_behind}
-use Rattle.rs_project.specs.Projection.{IsSet, Choice, choice_of, merged_choices, MeetsBehind, EndsBehind, IsStateOf, IsDone, IsPuts, IsTakes}
+use Rattle.rs_project.specs.Projection.{IsSet, LabelChoice, choice_of, merged_choices, MeetsBehind, EndsBehind, IsStateOf, IsDone, IsPuts, IsTakes}
 use Rattle.rs_project.specs.Refusals.{IsFrontAt, Merges, AreBehind, FirstRefusal}
 use Rattle.rs_project.specs.declared.projecting.ProjFault.{ProjFault}
 use Rattle.rs_project.specs.declared.projecting.ProjFault.TheVariants.{Unmergeable, Unreached, TooManyStates, NoMemory}
@@ -74,11 +74,11 @@ state-behind pr role sets members st (IsDone n d) =
     subst P (sym d) (subst Q (sym n) tt)
 state-behind pr role sets members st (IsPuts peer arms n each d ar) =
     let P : State → Type 0 = λ z. AreBehind pr role (fronts-of sets) members (merged_choices pr members) (nexts_behind z) in
-    let Q : List Choice → Type 0 = λ z. AreBehind pr role (fronts-of sets) members z (nexts_of arms) in
+    let Q : List LabelChoice → Type 0 = λ z. AreBehind pr role (fronts-of sets) members z (nexts_of arms) in
     subst P (sym d) (subst Q ar.choices (arms-behind pr role sets members arms ar.nexts))
 state-behind pr role sets members st (IsTakes peer arms n each d ar) =
     let P : State → Type 0 = λ z. AreBehind pr role (fronts-of sets) members (merged_choices pr members) (nexts_behind z) in
-    let Q : List Choice → Type 0 = λ z. AreBehind pr role (fronts-of sets) members z (nexts_of arms) in
+    let Q : List LabelChoice → Type 0 = λ z. AreBehind pr role (fronts-of sets) members z (nexts_of arms) in
     subst P (sym d) (subst Q ar.choices (arms-behind pr role sets members arms ar.nexts))
 
 rows-at : (states : List State) (k : ℕ) (r : List ℕ) → slice_get (map nexts_behind states) k ≡ Some r → (st : State) × (slice_get states k ≡ Some st) × (nexts_behind st ≡ r)
@@ -194,7 +194,7 @@ same-arms (a ∷ as') [] c n = absurd (cc (c))
 same-arms (a ∷ as') (b ∷ bs) c n =
     let ec : choice_of a ≡ choice_of b = cc (c) in
     let en : a.next ≡ b.next = cc (n) in
-    let mk : Choice → ℕ → Arm = λ x y. record { label = x.label; sort = x.sort; next = y } in
+    let mk : LabelChoice → ℕ → Arm = λ x y. record { label = x.label; sort = x.sort; next = y } in
     ap₂ (λ (u : Arm) (us : List Arm). u ∷ us) (ap₂ mk ec en) (same-arms as' bs (cc (c)) (cc (n)))
 
 some-member : (members : List ℕ) → members ≢ [] → (talk : ℕ) × Contains members talk

@@ -12,9 +12,9 @@ use Rattle.rs_project.specs.Graph.{Involves, MeetsFirst, MeetsTheEnd}
 use Rattle.rs_project.specs.Marks.{Among, IsSurvey, Survey_data, StartMeets, StartEnds}
 use Rattle.rs_project.specs.Order.{Numbered, NoMore, Worked, AllDone}
 use Rattle.rs_project.specs.Numbered.{IsNumberedProjection, nexts_of, nexts_behind}
-use Rattle.rs_project.specs.Projection.{IsSet, Choice, choice_of, merged_choices, MeetsBehind, EndsBehind, IsStateOf, IsDone, IsPuts, IsTakes}
+use Rattle.rs_project.specs.Projection.{IsSet, LabelChoice, choice_of, merged_choices, MeetsBehind, EndsBehind, IsStateOf, IsDone, IsPuts, IsTakes}
 use Rattle.rs_project.specs.Refusals.{IsFront, IsFrontAt, Merges, AreBehind, ComesTo, FirstRefusal, NoneUnreached}
-use Rattle.rs_project.specs.Working.{Keeps, AreFound, Discovers, TooManyAt, HasShape, WorksOn, ArmsFault, StateFault, IsDoneWith, Working}
+use Rattle.rs_project.specs.Working.{KeepsFronts, AreFound, Discovers, TooManyAt, HasShape, WorksOn, ArmsFault, StateFault, IsDoneWith, Working}
 use Rattle.rs_project.specs.declared.projecting.ProjFault.{ProjFault}
 use Rattle.rs_project.specs.declared.projecting.ProjFault.TheVariants.{Unmergeable, Unreached, TooManyStates, NoMemory}
 use Rattle.rs_project.proofs.Lists.{contained, contains, at-short, at-within, at-map}
@@ -78,14 +78,14 @@ map-length : (states : List State) → length (map nexts_behind states) ≡ leng
 map-length [] = refl
 map-length (x ∷ states) = ap suc (map-length states)
 
-at-kept : (old new : List Front_data) (k : ℕ) (f : Front_data) → Keeps old new → k < length old → slice_get new k ≡ Some f → slice_get old k ≡ Some f
+at-kept : (old new : List Front_data) (k : ℕ) (f : Front_data) → KeepsFronts old new → k < length old → slice_get new k ≡ Some f → slice_get old k ≡ Some f
 at-kept old new k f kept h at =
     let w = at-within old k h in
     let n = kept k w.0 w.1 in
     let e : w.0 ≡ f = cc (n, at) in
     w.1 ∙ ap Some e
 
-done-kept : (pr : Protocol_data) (role : Role) (old new : List Front_data) (f : Front_data) (st : State) → Keeps old new → IsDoneWith pr role old f st → IsDoneWith pr role new f st
+done-kept : (pr : Protocol_data) (role : Role) (old new : List Front_data) (f : Front_data) (st : State) → KeepsFronts old new → IsDoneWith pr role old f st → IsDoneWith pr role new f st
 done-kept pr role old new f st kept d = record {
   merges = d.merges;
   behind = behind-kept pr role old new f.talks kept (merged_choices pr f.talks) (nexts_behind st) d.behind;
@@ -124,7 +124,7 @@ rows-at [] k r h = absurd (cc (h))
 rows-at (x ∷ states) zero r h = (x, refl, cc (h))
 rows-at (x ∷ states) (suc k) r h = rows-at states k r h
 
-comes-to : (pr : Protocol_data) (role : Role) (fronts mid : List Front_data) (states : List State) (row : List ℕ) (front : Front_data) → Working pr role fronts states → Keeps fronts mid → AreFound pr role mid
+comes-to : (pr : Protocol_data) (role : Role) (fronts mid : List Front_data) (states : List State) (row : List ℕ) (front : Front_data) → Working pr role fronts states → KeepsFronts fronts mid → AreFound pr role mid
     → Numbered (length fronts) row (length mid) → slice_get fronts (length states) ≡ Some front → ComesTo pr role mid (map nexts_behind states) row front
 comes-to pr role fronts mid states row front w kept found nu here =
     let l = map-length states in
@@ -220,13 +220,13 @@ state-of pr role fronts f Done set d = IsDone d.shape refl
 state-of pr role fronts f (Puts peer arms) set d = IsPuts peer arms d.shape.0 d.shape.1 refl record {
   choices = d.shape.2;
   nexts = λ place a at.
-      let P : List Choice → Type 0 = λ z. AreBehind pr role fronts f.talks z (nexts_of arms) in
+      let P : List LabelChoice → Type 0 = λ z. AreBehind pr role fronts f.talks z (nexts_of arms) in
       set a.next (MeetsBehind pr role f.talks a.label) (EndsBehind pr role f.talks a.label) (behind-at pr role fronts f.talks arms (subst P (sym d.shape.2) d.behind) place a at);
 }
 state-of pr role fronts f (Takes peer arms) set d = IsTakes peer arms d.shape.0 d.shape.1 refl record {
   choices = d.shape.2;
   nexts = λ place a at.
-      let P : List Choice → Type 0 = λ z. AreBehind pr role fronts f.talks z (nexts_of arms) in
+      let P : List LabelChoice → Type 0 = λ z. AreBehind pr role fronts f.talks z (nexts_of arms) in
       set a.next (MeetsBehind pr role f.talks a.label) (EndsBehind pr role f.talks a.label) (behind-at pr role fronts f.talks arms (subst P (sym d.shape.2) d.behind) place a at);
 }
 

@@ -5,7 +5,7 @@ use Rattle.std.proofs.lemmas.List.{drop-append-le, drop_more, length-append, len
 use Rattle.rs_model.specs.Data.{Protocol_data}
 use Rattle.rs_model.specs.declared.graph.Node.{Node}
 use Rattle.rs_model.specs.declared.graph.Role.{Role}
-use Rattle.rs_project.specs.Marks.{Among, AreListed, IsOn, IsSpread, IsSurvey, Marks_data, Spreading, StartEnds, StartMeets, Survey_data, Walking, cleared, nexts_of_node, unmarked, with_mark}
+use Rattle.rs_project.specs.Marks.{Among, AreListed, IsOn, IsSpread, IsSurvey, Marks_data, Spreading, StartEnds, StartMeets, Survey_data, Walking, flags_without, nexts_of_node, count_of_lowered, with_mark}
 use Rattle.rs_project.specs.Refusals.{IsFront}
 use Rattle.rs_project.proofs.Agreeing.{or-none-left, or-none-right}
 use Rattle.rs_project.proofs.Cycles.{all-by}
@@ -36,7 +36,7 @@ unset-only (b ∷ bs) zero (suc n) h = (h, λ e. omega (arith, e))
 unset-only (b ∷ bs) (suc x) zero h = (h, λ e. omega (arith, e))
 unset-only (b ∷ bs) (suc x) (suc n) h = (let r = unset-only bs x n h in (r.0, λ e. r.1 (omega (arith, e))))
 
-cleared-on : (ns : List ℕ) (flags : List Bool) (n : ℕ) → IsOn (cleared ns flags) n → IsOn flags n × (Among ns n → ⊥)
+cleared-on : (ns : List ℕ) (flags : List Bool) (n : ℕ) → IsOn (flags_without ns flags) n → IsOn flags n × (Among ns n → ⊥)
 cleared-on [] flags n h = (h, λ m. m)
 cleared-on (m ∷ ns) flags n h =
     let r = cleared-on ns (set flags m false) n h in
@@ -51,10 +51,10 @@ resized-on (b ∷ bs) (suc count) more zero h = h
 resized-on (b ∷ bs) (suc count) more (suc n) h = resized-on bs count more n h
 
 -- no flag is left once those that are listed are taken back
-pub none-left : (flags : List Bool) (numbers : List ℕ) → AreListed flags numbers → (n : ℕ) → IsOn (cleared numbers flags) n → ⊥
+pub none-left : (flags : List Bool) (numbers : List ℕ) → AreListed flags numbers → (n : ℕ) → IsOn (flags_without numbers flags) n → ⊥
 none-left flags numbers l n h = let r = cleared-on numbers flags n h in r.1 ((l n).0 r.0)
 
-pub none-resized : (flags fs rs : List Bool) (numbers : List ℕ) (count more : ℕ) → AreListed flags numbers → fs ≡ cleared numbers flags
+pub none-resized : (flags fs rs : List Bool) (numbers : List ℕ) (count more : ℕ) → AreListed flags numbers → fs ≡ flags_without numbers flags
     → rs ≡ take count fs ++ replicate more false → (n : ℕ) → IsOn rs n → ⊥
 none-resized flags fs rs numbers count more l e r n h =
     let P : List Bool → Type 0 = λ z. IsOn z n in
@@ -85,7 +85,7 @@ walk-now pr th starts m done x soon lt w = record {
 
 -- what a mark costs
 pub mark-owed : (m : Marks_data) (x : ℕ) → x < length m.flags → get_or m.flags x false ≡ false
-    → unmarked (with_mark m x).flags + length (with_mark m x).numbers ≡ unmarked m.flags + length m.numbers
+    → count_of_lowered (with_mark m x).flags + length (with_mark m x).numbers ≡ count_of_lowered m.flags + length m.numbers
 mark-owed m x lt off =
     let u = set-unmarked m.flags x lt off in
     let l = length-append m.numbers (x ∷ []) in

@@ -14,7 +14,7 @@ pub data IsChained (links : List ℕ) : ℕ → ℕ → Type 0 where
   Later : (m next n : ℕ) → slice_get links m ≡ Some next → IsChained links next n → IsChained links (suc m) n
 
 -- there are 251 buckets; the number of each front stands in the chain that begins at the head of the bucket of its talks, and chains fall
-pub record AreFiled (fronts : List Front_data) (heads links : List ℕ) : Type 0 where
+pub record FrontsAreFiled (fronts : List Front_data) (heads links : List ℕ) : Type 0 where
   pub buckets : length heads ≡ 251
   pub size : length links ≡ length fronts
   pub within : (b : ℕ) → slice_index_or heads b 0 ≤ length fronts
@@ -36,7 +36,7 @@ with_number None number numbers = numbers
 with_number (Some talk) number numbers = slice_set numbers talk number
 
 -- .. and there are at most 1,024
-pub record AreKept (fronts : List Front_data) (heads links numbers : List ℕ) : Type 0 where
-  pub filed : AreFiled fronts heads links
+pub record FrontsAreKept (fronts : List Front_data) (heads links numbers : List ℕ) : Type 0 where
+  pub filed : FrontsAreFiled fronts heads links
   pub lone : AreLone fronts numbers
   pub few : length fronts ≤ MOST_STATES

@@ -21,9 +21,9 @@ abbrev pub IsOn : List Bool → ℕ → Type 0
 IsOn flags n = slice_index_or flags n false ≡ true
 
 -- how many flags don't stand
-abbrev pub unmarked : List Bool → ℕ
-unmarked [] = 0
-unmarked (b ∷ bs) = if b then unmarked bs else suc (unmarked bs)
+abbrev pub count_of_lowered : List Bool → ℕ
+count_of_lowered [] = 0
+count_of_lowered (b ∷ bs) = if b then count_of_lowered bs else suc (count_of_lowered bs)
 
 -- the flags of all nodes at which a step is made stand
 abbrev pub AllOn : List Bool → List PathStep → Type 0
@@ -71,9 +71,9 @@ abbrev pub with_mark : Marks_data → ℕ → Marks_data
 with_mark marks n = record { flags = slice_set marks.flags n true; numbers = marks.numbers ++ (n ∷ []) }
 
 -- the flags without those of these nodes
-abbrev pub cleared : List ℕ → List Bool → List Bool
-cleared [] flags = flags
-cleared (n ∷ ns) flags = cleared ns (slice_set flags n false)
+abbrev pub flags_without : List ℕ → List Bool → List Bool
+flags_without [] flags = flags
+flags_without (n ∷ ns) flags = flags_without ns (slice_set flags n false)
 
 -- marks that spread so far: so many of the marked nodes, the first ones, were gone on from, and the nodes of `soon` are
 -- still to be marked
@@ -165,7 +165,7 @@ pub record IsSurvey (protocol : Protocol_data) (role : Role) (survey : Survey_da
   pub passing : (n : ℕ) → IsOn survey.passing n ↔ PassesBy protocol role n
 
 -- the protocol is well formed, its nodes have numbers below 2^32, and the survey tells the truth of each
-pub record IsKnown (known : Survey_data) : Type 0 where
+pub record IsTrueSurvey (known : Survey_data) : Type 0 where
   pub well_formed : IsWellFormed known.protocol
   pub few : length known.protocol.nodes < 2 ^ 32
   pub survey : IsSurvey known.protocol known.role known

@@ -25,28 +25,28 @@ pub record IsSet (sets : List (List ℕ)) (number : ℕ) (Meets : ℕ → Type 0
   pub ends : (members ≡ []) ↔ Ends
 
 -- what an arm says: a label, and the sort of the value that goes with it
-pub record Choice : Type 0 where
+pub record LabelChoice : Type 0 where
   pub label : Label
   pub sort : Sort
 
 -- the choice that an arm says
-abbrev pub choice_of : Arm → Choice
+abbrev pub choice_of : Arm → LabelChoice
 choice_of arm = record { label = arm.label; sort = arm.sort }
 
 -- those of a node, in the order of its arms
-abbrev pub choices_of : Option Node → List Choice
+abbrev pub choices_of : Option Node → List LabelChoice
 choices_of None = []
 choices_of (Some Finished) = []
 choices_of (Some (Talk sender receiver arms)) = map choice_of arms
 
 -- the arms have the same labels, and the same sort for each label
 abbrev pub HaveSameChoices : List Arm → List Arm → Type 0
-HaveSameChoices arms others = (c : Choice) → Contains (map choice_of arms) c ↔ Contains (map choice_of others) c
+HaveSameChoices arms others = (c : LabelChoice) → Contains (map choice_of arms) c ↔ Contains (map choice_of others) c
 
 -- where both have a label, they have it with the same sort
 abbrev pub HaveSameSorts : List Arm → List Arm → Type 0
 HaveSameSorts arms others =
-    (a b : Choice) → Contains (map choice_of arms) a → Contains (map choice_of others) b → a.label ≡ b.label → a.sort ≡ b.sort
+    (a b : LabelChoice) → Contains (map choice_of arms) a → Contains (map choice_of others) b → a.label ≡ b.label → a.sort ≡ b.sort
 
 -- two talks don't clash: the role can do the one where it can't tell it from the other. It sends in both, to one peer,
 -- and has the same choices; or it receives in both, from one peer, and each label tells one sort.
@@ -57,14 +57,14 @@ pub data Agree (protocol : Protocol_data) (role : Role) (one other : ℕ) : Type
       → HaveSameSorts arms others → Agree protocol role one other
 
 -- the choices without those whose label stands at an earlier one, or among those of the second list
-abbrev pub first_choices : List Choice → List Choice → List Choice
+abbrev pub first_choices : List LabelChoice → List LabelChoice → List LabelChoice
 first_choices [] earlier = []
 first_choices (c ∷ later) earlier =
     if list_any (λ b. b.label.0 == c.label.0) earlier then first_choices later earlier
     else c ∷ first_choices later (earlier ++ (c ∷ []))
 
 -- those of the members, one member after the other, each label once
-abbrev pub merged_choices : Protocol_data → List ℕ → List Choice
+abbrev pub merged_choices : Protocol_data → List ℕ → List LabelChoice
 merged_choices protocol members = first_choices (flat_map (λ n. choices_of (slice_get protocol.nodes n)) members) []
 
 -- some member has an arm with the label that leads to the next node

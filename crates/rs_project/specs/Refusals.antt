@@ -7,7 +7,7 @@ use Rattle.rs_model.specs.declared.graph.Role.{Role}
 use Rattle.rs_project.specs.Data.{Front_data}
 use Rattle.rs_project.specs.Graph.{MeetsFirst, MeetsTheEnd, IsUnreached}
 use Rattle.rs_project.specs.Order.{IsOnce, Worked}
-use Rattle.rs_project.specs.Projection.{Choice, Agree, merged_choices, MeetsBehind, EndsBehind}
+use Rattle.rs_project.specs.Projection.{LabelChoice, Agree, merged_choices, MeetsBehind, EndsBehind}
 use Rattle.rs_project.specs.declared.projecting.ProjFault.{ProjFault}
 use Rattle.rs_project.specs.declared.projecting.ProjFault.TheVariants.{Unmergeable, Unreached, TooManyStates, NoMemory}
 
@@ -29,7 +29,7 @@ pub record Merges (protocol : Protocol_data) (role : Role) (front : Front_data) 
   pub alone : front.ends ≡ true → front.talks ≡ []
 
 -- the numbers are those of the fronts behind the choices of these talks, one by one
-abbrev pub AreBehind : Protocol_data → Role → List Front_data → List ℕ → List Choice → List ℕ → Type 0
+abbrev pub AreBehind : Protocol_data → Role → List Front_data → List ℕ → List LabelChoice → List ℕ → Type 0
 AreBehind protocol role fronts talks [] [] = Unit {0}
 AreBehind protocol role fronts talks [] (n ∷ ns) = ⊥
 AreBehind protocol role fronts talks (c ∷ cs) [] = ⊥
@@ -79,9 +79,9 @@ pub record ComesToTooMany (protocol : Protocol_data) (role : Role) : Type 0 wher
   pub comes : ComesTo protocol role fronts rows row front
   pub many : length fronts ≡ MOST_STATES
   pub merges : Merges protocol role front
-  pub before : List Choice
-  pub choice : Choice
-  pub after : List Choice
+  pub before : List LabelChoice
+  pub choice : LabelChoice
+  pub after : List LabelChoice
   pub choices : merged_choices protocol front.talks ≡ before ++ (choice ∷ after)
   pub behind : AreBehind protocol role fronts front.talks before row
   pub another : (n : ℕ) → IsFrontAt fronts n (MeetsBehind protocol role front.talks choice.label) (EndsBehind protocol role front.talks choice.label) → ⊥

@@ -14,7 +14,7 @@ use Rattle.rs_project.specs.Graph.{Involves, MeetsFirst, MeetsTheEnd}
 use Rattle.rs_project.specs.Marks.{Among, StartEnds, StartMeets}
 use Rattle.rs_project.specs.Order.{IsOnce, Numbered, Worked}
 use Rattle.rs_project.specs.Numbered.{nexts_behind}
-use Rattle.rs_project.specs.Projection.{Choice, choice_of, merged_choices, MeetsBehind, EndsBehind}
+use Rattle.rs_project.specs.Projection.{LabelChoice, choice_of, merged_choices, MeetsBehind, EndsBehind}
 use Rattle.rs_project.specs.Refusals.{IsFront, IsFrontAt, Merges, AreBehind, FirstClash}
 use Rattle.rs_project.specs.declared.projecting.ProjFault.{ProjFault}
 use Rattle.rs_project.specs.declared.projecting.ProjFault.TheVariants.{Unmergeable, Unreached, TooManyStates, NoMemory}
@@ -28,22 +28,22 @@ abbrev pub IsFrontFrom : Protocol_data → Role → List ℕ → Front_data → 
 IsFrontFrom protocol role starts front = IsFront front (StartMeets protocol role starts) (StartEnds protocol role starts)
 
 -- the front stands nowhere among these
-abbrev pub IsNew : List Front_data → Front_data → Type 0
-IsNew fronts front = (k : ℕ) → slice_get fronts k ≡ Some front → ⊥
+abbrev pub FrontIsNew : List Front_data → Front_data → Type 0
+FrontIsNew fronts front = (k : ℕ) → slice_get fronts k ≡ Some front → ⊥
 
 -- each front keeps its number
-abbrev pub Keeps : List Front_data → List Front_data → Type 0
-Keeps old new = (n : ℕ) (f : Front_data) → slice_get old n ≡ Some f → slice_get new n ≡ Some f
+abbrev pub KeepsFronts : List Front_data → List Front_data → Type 0
+KeepsFronts old new = (n : ℕ) (f : Front_data) → slice_get old n ≡ Some f → slice_get new n ≡ Some f
 
 -- the number of a front in a list, to which it is added where it is new and there is room
-abbrev pub Adds : List Front_data → Front_data → List Front_data → ℕ → Type 0
-Adds old front new n =
+abbrev pub AddsFront : List Front_data → Front_data → List Front_data → ℕ → Type 0
+AddsFront old front new n =
     ((slice_get old n ≡ Some front) × (new ≡ old))
-    ⊎ ((n ≡ length old) × (new ≡ old ++ (front ∷ [])) × (length old < MOST_STATES) × IsNew old front)
+    ⊎ ((n ≡ length old) × (new ≡ old ++ (front ∷ [])) × (length old < MOST_STATES) × FrontIsNew old front)
 
 -- .. and where there is no room
 abbrev pub NumberFault : Role → List Front_data → Front_data → ProjFault → Type 0
-NumberFault role old front (TooManyStates r) = (r ≡ role) × (length old ≡ MOST_STATES) × IsNew old front
+NumberFault role old front (TooManyStates r) = (r ≡ role) × (length old ≡ MOST_STATES) × FrontIsNew old front
 NumberFault role old front (Unmergeable r a b) = ⊥
 NumberFault role old front (Unreached r n) = ⊥
 NumberFault role old front NoMemory = Unit {0}
@@ -52,14 +52,14 @@ NumberFault role old front NoMemory = Unit {0}
 pub record FindsFrom (protocol : Protocol_data) (role : Role) (old : List Front_data) (starts : List ℕ) (new : List Front_data) (n : ℕ) : Type 0 where
   pub front : Front_data
   pub is : IsFrontFrom protocol role starts front
-  pub adds : Adds old front new n
+  pub adds : AddsFront old front new n
 
 -- there are 1,024 fronts, and the one from the starts is another one
 pub record FindsNoneFrom (protocol : Protocol_data) (role : Role) (old : List Front_data) (starts : List ℕ) : Type 0 where
   pub front : Front_data
   pub is : IsFrontFrom protocol role starts front
   pub many : length old ≡ MOST_STATES
-  pub new : IsNew old front
+  pub new : FrontIsNew old front
 
 -- what a fault of finding the front from the starts tells
 abbrev pub FaultFrom : Protocol_data → Role → List Front_data → List ℕ → ProjFault → Type 0
@@ -69,17 +69,17 @@ FaultFrom protocol role old starts (Unreached r n) = ⊥
 FaultFrom protocol role old starts NoMemory = Unit {0}
 
 -- the number of the front behind a label
-pub record Finds (protocol : Protocol_data) (role : Role) (old : List Front_data) (talks : List ℕ) (label : Label) (new : List Front_data) (n : ℕ) : Type 0 where
+pub record FindsFront (protocol : Protocol_data) (role : Role) (old : List Front_data) (talks : List ℕ) (label : Label) (new : List Front_data) (n : ℕ) : Type 0 where
   pub front : Front_data
   pub is : IsFrontBehind protocol role talks label front
-  pub adds : Adds old front new n
+  pub adds : AddsFront old front new n
 
 -- there are 1,024 fronts, and the one behind the label is another one
 pub record FindsNone (protocol : Protocol_data) (role : Role) (old : List Front_data) (talks : List ℕ) (label : Label) : Type 0 where
   pub front : Front_data
   pub is : IsFrontBehind protocol role talks label front
   pub many : length old ≡ MOST_STATES
-  pub new : IsNew old front
+  pub new : FrontIsNew old front
 
 -- what a fault of finding the front behind the label tells
 abbrev pub FindFault : Protocol_data → Role → List Front_data → List ℕ → Label → ProjFault → Type 0
@@ -97,25 +97,25 @@ pub record AreFound (protocol : Protocol_data) (role : Role) (fronts : List Fron
   pub told : (k : ℕ) (f : Front_data) → slice_get fronts k ≡ Some f → f.talks ≡ [] → f.ends ≡ true
 
 -- behind these choices stand the fronts with the numbers of the row, and those that weren't found before were added
-pub record Discovers (protocol : Protocol_data) (role : Role) (old : List Front_data) (talks : List ℕ) (choices : List Choice) (new : List Front_data) (row : List ℕ) : Type 0 where
+pub record Discovers (protocol : Protocol_data) (role : Role) (old : List Front_data) (talks : List ℕ) (choices : List LabelChoice) (new : List Front_data) (row : List ℕ) : Type 0 where
   pub found : AreFound protocol role new
-  pub kept : Keeps old new
+  pub kept : KeepsFronts old new
   pub numbered : Numbered (length old) row (length new)
   pub behind : AreBehind protocol role new talks choices row
 
 -- the work on the choices comes to one whose front is none of 1,024
-pub record TooManyAt (protocol : Protocol_data) (role : Role) (old : List Front_data) (talks : List ℕ) (choices : List Choice) : Type 0 where
+pub record TooManyAt (protocol : Protocol_data) (role : Role) (old : List Front_data) (talks : List ℕ) (choices : List LabelChoice) : Type 0 where
   pub fronts : List Front_data
   pub row : List ℕ
-  pub before : List Choice
-  pub choice : Choice
-  pub after : List Choice
+  pub before : List LabelChoice
+  pub choice : LabelChoice
+  pub after : List LabelChoice
   pub split : choices ≡ before ++ (choice ∷ after)
   pub discovers : Discovers protocol role old talks before fronts row
   pub none : FindsNone protocol role fronts talks choice.label
 
 -- what a fault of the work on the choices tells
-abbrev pub ArmsFault : Protocol_data → Role → List Front_data → List ℕ → List Choice → ProjFault → Type 0
+abbrev pub ArmsFault : Protocol_data → Role → List Front_data → List ℕ → List LabelChoice → ProjFault → Type 0
 ArmsFault protocol role old talks choices (TooManyStates r) = (r ≡ role) × TooManyAt protocol role old talks choices
 ArmsFault protocol role old talks choices (Unmergeable r a b) = ⊥
 ArmsFault protocol role old talks choices (Unreached r n) = ⊥

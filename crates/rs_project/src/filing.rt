@@ -1,7 +1,7 @@
 ghost use Rattle.std.specs.Prelude.{◌≡◌, ◌<◌, ◌≤◌, ◌++◌, ◌∷◌, [], ℕ, true, false, length, slice_get, slice_index_or, Some, IfOk, IfSome, OnOk, OnErr, MatchOption};
 ghost use Rattle.rs_model.specs.declared.limits.TheConstants.{MOST_STATES};
 ghost use Rattle.rs_project.specs.Filing.{IsChained, bucket_on, lone_front, with_number};
-ghost use Rattle.rs_project.specs.Working.{IsNew};
+ghost use Rattle.rs_project.specs.Working.{FrontIsNew};
 
 use crate::fronts::Front;
 use rs_model::NoMemory;
@@ -24,13 +24,13 @@ pub struct Fronts {
 impl Model for Fronts {
     ghost use Rattle.std.specs.Prelude.{List};
     ghost use Rattle.rs_project.specs.Data.{Front_data};
-    ghost use Rattle.rs_project.specs.Filing.{AreKept};
+    ghost use Rattle.rs_project.specs.Filing.{FrontsAreKept};
 
     ghost Value = { List Front_data };
 
     ghost view = { λ f. f.items.items };
 
-    ghost invariant = { λ f. AreKept f.items.items f.heads.items f.links.items f.lone.items };
+    ghost invariant = { λ f. FrontsAreKept f.items.items f.heads.items f.links.items f.lone.items };
 }
 
 impl Fronts {
@@ -71,7 +71,7 @@ impl Fronts {
 
     /// The number of the front, where it was found before.
     pub fn number_of(&self, front: &Front) -> Option<u32>
-        ensures { MatchOption result (IsNew self.now front.now) (λ n. slice_get self.now n ≡ Some front.now) }
+        ensures { MatchOption result (FrontIsNew self.now front.now) (λ n. slice_get self.now n ≡ Some front.now) }
     {
         let head = self.heads[bucket_of(&front.talks)];
         number_along(&self.items, &self.links, head, front)
@@ -79,7 +79,7 @@ impl Fronts {
 
     /// The number of the front of this talk alone, where it was found before.
     pub fn number_of_lone(&self, talk: u32) -> Option<u32>
-        ensures { MatchOption result (IsNew self.now (lone_front talk)) (λ n. slice_get self.now n ≡ Some (lone_front talk)) }
+        ensures { MatchOption result (FrontIsNew self.now (lone_front talk)) (λ n. slice_get self.now n ≡ Some (lone_front talk)) }
     {
         let number = number_at(&self.lone, talk);
         if number == 0 {

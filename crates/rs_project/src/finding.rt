@@ -4,7 +4,7 @@ ghost use Rattle.rs_project.specs.Filing.{lone_front};
 ghost use Rattle.rs_project.specs.Marks.{arms_in};
 ghost use Rattle.rs_project.specs.Numbered.{nexts_of};
 ghost use Rattle.rs_project.specs.Projection.{choice_of, merged_choices};
-ghost use Rattle.rs_project.specs.Working.{Adds, AreFound, ArmsFault, Discovers, FaultFrom, FindsFrom, IsNew, NumberFault};
+ghost use Rattle.rs_project.specs.Working.{AddsFront, AreFound, ArmsFault, Discovers, FaultFrom, FindsFrom, FrontIsNew, NumberFault};
 
 use crate::ProjFault;
 use crate::filing::Fronts;
@@ -111,7 +111,7 @@ fn number_of_lone(
     fronts: &mut Fronts,
     talk: u32,
 ) -> Result<u32, ProjFault>
-    ensures ok { IfOk result (λ n. Adds fronts.old (lone_front talk) fronts.new n) }
+    ensures ok { IfOk result (λ n. AddsFront fronts.old (lone_front talk) fronts.new n) }
     ensures err { IfErr result (λ e. NumberFault role fronts.old (lone_front talk) e) }
 {
     if let Some(known) = fronts.number_of_lone(talk) {
@@ -123,7 +123,7 @@ fn number_of_lone(
 
 // The number of a front, which is added where it is new.
 fn number_of(role: Role, fronts: &mut Fronts, front: Front) -> Result<u32, ProjFault>
-    ensures ok { IfOk result (λ n. Adds fronts.old front fronts.new n) }
+    ensures ok { IfOk result (λ n. AddsFront fronts.old front fronts.new n) }
     ensures err { IfErr result (λ e. NumberFault role fronts.old front e) }
 {
     if let Some(number) = fronts.number_of(&front) {
@@ -133,8 +133,8 @@ fn number_of(role: Role, fronts: &mut Fronts, front: Front) -> Result<u32, ProjF
 }
 
 fn add_new(role: Role, fronts: &mut Fronts, front: Front) -> Result<u32, ProjFault>
-    requires { IsNew fronts.old front }
-    ensures ok { IfOk result (λ n. Adds fronts.old front fronts.new n) }
+    requires { FrontIsNew fronts.old front }
+    ensures ok { IfOk result (λ n. AddsFront fronts.old front fronts.new n) }
     ensures err { IfErr result (λ e. NumberFault role fronts.old front e) }
 {
     let number = fronts.len();

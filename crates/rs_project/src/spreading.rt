@@ -1,7 +1,7 @@
 ghost use Rattle.std.specs.Prelude.{◌≡◌, ◌+◌, ◌<◌, ◌≤◌, ◌∷◌, [], ℕ, Bool, List, length, replicate, false, slice_index_or, IfOk, OnOk};
 ghost use Rattle.std.specs.List.{All};
 ghost use Rattle.rs_model.specs.Data.{Protocol_data};
-ghost use Rattle.rs_project.specs.Marks.{AreListed, IsOn, IsSpread, LeadsWithin, Walking, cleared, nexts_of_node, unmarked, with_mark};
+ghost use Rattle.rs_project.specs.Marks.{AreListed, IsOn, IsSpread, LeadsWithin, Walking, flags_without, nexts_of_node, count_of_lowered, with_mark};
 ghost use Rattle.rs_project.specs.Numbered.{nexts_of};
 ghost use Rattle.rs_wellformed.specs.WellFormed.{IsWellFormed};
 
@@ -82,7 +82,7 @@ impl Marks {
     fn mark_behind(&mut self, node: &Node) -> Result<(), NoMemory>
         requires { LeadsWithin (length self.old.flags) node.now }
         ensures size { OnOk result (length self.new.flags ≡ length self.old.flags) }
-        ensures owed { OnOk result (unmarked self.new.flags + length self.new.numbers ≡ unmarked self.old.flags + length self.old.numbers) }
+        ensures owed { OnOk result (count_of_lowered self.new.flags + length self.new.numbers ≡ count_of_lowered self.old.flags + length self.old.numbers) }
         ensures keeps { OnOk result ((protocol : Protocol_data) (through : List Bool) (starts : List ℕ) (done : ℕ) → Walking protocol through starts self.old done (nexts_of_node node.now) → Walking protocol through starts self.new done []) }
     {
         match node {
@@ -94,7 +94,7 @@ impl Marks {
     fn mark_nexts(&mut self, arms: &[Arm]) -> Result<(), NoMemory>
         requires { All (λ a. a.next < length self.old.flags) arms.now }
         ensures size { OnOk result (length self.new.flags ≡ length self.old.flags) }
-        ensures owed { OnOk result (unmarked self.new.flags + length self.new.numbers ≡ unmarked self.old.flags + length self.old.numbers) }
+        ensures owed { OnOk result (count_of_lowered self.new.flags + length self.new.numbers ≡ count_of_lowered self.old.flags + length self.old.numbers) }
         ensures keeps { OnOk result ((protocol : Protocol_data) (through : List Bool) (starts : List ℕ) (done : ℕ) → Walking protocol through starts self.old done (nexts_of arms.now) → Walking protocol through starts self.new done []) }
     {
         for arm in arms {
@@ -117,7 +117,7 @@ impl Marks {
     fn mark(&mut self, number: u32) -> Result<(), NoMemory>
         requires { number < length self.old.flags }
         ensures size { OnOk result (length self.new.flags ≡ length self.old.flags) }
-        ensures owed { OnOk result (unmarked self.new.flags + length self.new.numbers ≡ unmarked self.old.flags + length self.old.numbers) }
+        ensures owed { OnOk result (count_of_lowered self.new.flags + length self.new.numbers ≡ count_of_lowered self.old.flags + length self.old.numbers) }
         ensures keeps { OnOk result ((protocol : Protocol_data) (through : List Bool) (starts soon : List ℕ) (done : ℕ) → Walking protocol through starts self.old done (number ∷ soon) → Walking protocol through starts self.new done soon) }
     {
         if !self.has(number) {
@@ -171,7 +171,7 @@ impl Marks {
 
 fn take_back(flags: &mut Vec<bool>, numbers: &[u32])
     requires { All (λ n. n < length flags.old.items) numbers.now }
-    ensures { flags.new.items ≡ cleared numbers.now flags.old.items }
+    ensures { flags.new.items ≡ flags_without numbers.now flags.old.items }
 {
     for number in numbers {
         flags[*number as usize] = false;

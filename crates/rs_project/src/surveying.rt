@@ -2,7 +2,7 @@ ghost use Rattle.std.specs.Prelude.{◌≡◌, ◌↔◌, ◌≤◌, ◌<◌, �
 ghost use Rattle.rs_model.specs.declared.graph.Node.{Node};
 ghost use Rattle.rs_model.specs.declared.graph.Role.{Role};
 ghost use Rattle.rs_project.specs.Graph.{Involves, IsIdle};
-ghost use Rattle.rs_project.specs.Marks.{AllAwaited, HasFlags, IsOn, IsSettled, LeadsWithin, any_on, involves_role, leads_on, unmarked};
+ghost use Rattle.rs_project.specs.Marks.{AllAwaited, HasFlags, IsOn, IsSettled, LeadsWithin, any_on, involves_role, leads_on, count_of_lowered};
 ghost use Rattle.rs_wellformed.specs.WellFormed.{IsWellFormed};
 ghost use Rattle.std.specs.List.{All};
 
@@ -22,13 +22,13 @@ pub struct Survey<'a> {
 }
 
 impl<'a> Model for Survey<'a> {
-    ghost use Rattle.rs_project.specs.Marks.{IsKnown, Survey_data};
+    ghost use Rattle.rs_project.specs.Marks.{IsTrueSurvey, Survey_data};
 
     ghost Value = { Survey_data };
 
     ghost view = { λ s. record { protocol = s.protocol.now; role = s.role; involved = s.involved.items; awaited = s.awaited.items; passing = s.passing.items } };
 
-    ghost invariant = { λ s. IsKnown (record { protocol = s.protocol.now; role = s.role; involved = s.involved.items; awaited = s.awaited.items; passing = s.passing.items }) };
+    ghost invariant = { λ s. IsTrueSurvey (record { protocol = s.protocol.now; role = s.role; involved = s.involved.items; awaited = s.awaited.items; passing = s.passing.items }) };
 }
 
 /// What is known of the protocol's nodes for the role.
@@ -102,7 +102,7 @@ fn await_more(protocol: &Protocol, awaited: &mut Vec<bool>) -> bool
     ensures size { length awaited.new.items ≡ length protocol.now.nodes }
     ensures sound { (role : Role) → AllAwaited protocol.now role awaited.old.items → AllAwaited protocol.now role awaited.new.items }
     ensures has { HasFlags awaited.old.items awaited.new.items }
-    ensures less { result ≡ true → unmarked awaited.new.items < unmarked awaited.old.items }
+    ensures less { result ≡ true → count_of_lowered awaited.new.items < count_of_lowered awaited.old.items }
     ensures settled { result ≡ false → IsSettled protocol.now awaited.new.items }
 {
     let mut more = false;
@@ -124,7 +124,7 @@ fn await_one(protocol: &Protocol, awaited: &mut Vec<bool>, number: usize) -> boo
     ensures size { length awaited.new.items ≡ length protocol.now.nodes }
     ensures sound { (role : Role) → AllAwaited protocol.now role awaited.old.items → AllAwaited protocol.now role awaited.new.items }
     ensures has { HasFlags awaited.old.items awaited.new.items }
-    ensures less { result ≡ true → unmarked awaited.new.items < unmarked awaited.old.items }
+    ensures less { result ≡ true → count_of_lowered awaited.new.items < count_of_lowered awaited.old.items }
     ensures same { result ≡ false → awaited.new.items ≡ awaited.old.items }
     ensures settled { result ≡ false → (node : Node) → slice_get protocol.now.nodes number ≡ Some node → leads_on awaited.old.items node ≡ true → IsOn awaited.old.items number }
 {

@@ -9,7 +9,7 @@ use Rattle.rs_core.specs.Choices.{AreWellFormed}
 use Rattle.rs_core.specs.Core.{arm_with}
 use Rattle.rs_core.proofs.Stands.{here-is}
 use Rattle.rs_slots.specs.declared.parcels.Parcel.{Parcel}
-use Rattle.rs_rings.specs.Acts.{numbered, MayPut, MayTake}
+use Rattle.rs_rings.specs.Acts.{role_of_number, MayPut, MayTake}
 
 -- the arm that is found by its label stands at some place, and has the label
 pub arm_at : (arms : List Arm) (l : Label) (arm : Arm) → arm_with arms l ≡ Some arm → (place : ℕ) × (slice_get arms place ≡ Some arm) × (arm.label ≡ l)
@@ -45,16 +45,16 @@ same_next arms x once i j a b p q u v =
 
 pub put_once : (ms : List Machine_data) (p q s : ℕ) (x : Parcel) (n m : ℕ) → AreWellFormed ms → MayPut ms p q s x n → MayPut ms p q s x m → n ≡ m
 put_once ms p q s x n m well_formed a b =
-    let at = here-is (slice_get ms p) s (Puts (numbered q) a.arms) a.puts in
-    let fit = (well_formed.fits p at.0 at.1).puts s (numbered q) a.arms at.2 in
-    let one : Some (Puts (numbered q) b.arms) ≡ Some (Puts (numbered q) a.arms) = sym b.puts ∙ a.puts in
+    let at = here-is (slice_get ms p) s (Puts (role_of_number q) a.arms) a.puts in
+    let fit = (well_formed.fits p at.0 at.1).puts s (role_of_number q) a.arms at.2 in
+    let one : Some (Puts (role_of_number q) b.arms) ≡ Some (Puts (role_of_number q) a.arms) = sym b.puts ∙ a.puts in
     let arms : b.arms ≡ a.arms = cc (one) in
     a.goes ∙ same_next a.arms x fit.once a.place b.place a.arm b.arm a.picks (ap (λ (l : List Arm). slice_get l b.place) (sym arms) ∙ b.picks) a.same_label b.same_label ∙ sym b.goes
 
 pub take_once : (ms : List Machine_data) (q p s : ℕ) (x : Parcel) (n m : ℕ) → AreWellFormed ms → MayTake ms q p s x n → MayTake ms q p s x m → n ≡ m
 take_once ms q p s x n m well_formed a b =
-    let at = here-is (slice_get ms q) s (Takes (numbered p) a.arms) a.takes in
-    let fit = (well_formed.fits q at.0 at.1).takes s (numbered p) a.arms at.2 in
-    let one : Some (Takes (numbered p) b.arms) ≡ Some (Takes (numbered p) a.arms) = sym b.takes ∙ a.takes in
+    let at = here-is (slice_get ms q) s (Takes (role_of_number p) a.arms) a.takes in
+    let fit = (well_formed.fits q at.0 at.1).takes s (role_of_number p) a.arms at.2 in
+    let one : Some (Takes (role_of_number p) b.arms) ≡ Some (Takes (role_of_number p) a.arms) = sym b.takes ∙ a.takes in
     let arms : b.arms ≡ a.arms = cc (one) in
     a.goes ∙ same_next a.arms x fit.once a.place b.place a.arm b.arm a.picks (ap (λ (l : List Arm). slice_get l b.place) (sym arms) ∙ b.picks) a.same_label b.same_label ∙ sym b.goes

@@ -8,7 +8,7 @@ use lib.ListN.{get_elem?}
 use Rattle.rs_model.specs.declared.limits.TheConstants.{MOST_CAPACITY}
 use Rattle.rs_slots.specs.declared.parcels.Parcel.{Parcel}
 use Rattle.rs_rings.specs.Closed.{loose_from, sender_of, receiver_of}
-use Rattle.rs_rings.specs.Emptied.{content_of, found_one, found, Emptied, RingHolds}
+use Rattle.rs_rings.specs.Emptied.{content_of, loose_in_slot, loose_in_slots, Emptied, RingHolds}
 use Rattle.rs_slots.specs.Places.{ring_count, ring_of, column, IsPair}
 use Rattle.rs_rings.specs.declared.loose.Loose.{Loose}
 use native.Mathlib.Nat.{add-mod_left}
@@ -31,9 +31,9 @@ emptied_more old new low i le e full = record {
 }
 
 -- what is found in one slot more
-pub found_more : (xs : List (Option Parcel)) (p q from i : ℕ) (o : Option Parcel) → from ≤ i → get_elem? xs i ≡ some o → found xs p q from (i + 1 - from) ≡ found xs p q from (i - from) ++ content_of p q o
+pub found_more : (xs : List (Option Parcel)) (p q from i : ℕ) (o : Option Parcel) → from ≤ i → get_elem? xs i ≡ some o → loose_in_slots xs p q from (i + 1 - from) ≡ loose_in_slots xs p q from (i - from) ++ content_of p q o
 found_more xs p q from i o le e = let m : ℕ = i - from in let a : i + 1 - from ≡ suc m = omega arith in let b : from + m ≡ i = omega arith in
-    ap (found xs p q from) a ∙ ap (λ (z : ℕ). found xs p q from m ++ found_one p q (get_elem? xs z)) b ∙ ap (λ z. found xs p q from m ++ found_one p q z) e
+    ap (loose_in_slots xs p q from) a ∙ ap (λ (z : ℕ). loose_in_slots xs p q from m ++ loose_in_slot p q (get_elem? xs z)) b ∙ ap (λ z. loose_in_slots xs p q from m ++ loose_in_slot p q z) e
 
 take_more : (p q : ℕ) (ys : List Parcel) (m : ℕ) → map (loose_from p q) (take (suc m) ys) ≡ map (loose_from p q) (take m ys) ++ content_of p q (slice_get ys m)
 take_more p q [] zero = refl
@@ -46,11 +46,11 @@ get_drop ys zero m = let z : m ≡ zero + m = omega arith in ap (slice_get ys) z
 get_drop [] (suc o) m = refl
 get_drop (y ∷ ys) (suc o) m = let z : suc (o + m) ≡ suc o + m = omega arith in get_drop ys o m ∙ ap (slice_get (y ∷ ys)) z
 
-found_is : (xs : List (Option Parcel)) (p q from m : ℕ) (ys : List Parcel) (o : ℕ) → ((i : ℕ) → i < m → get_elem? xs (from + i) ≡ some (slice_get ys (o + i))) → found xs p q from m ≡ map (loose_from p q) (take m (drop o ys))
+found_is : (xs : List (Option Parcel)) (p q from m : ℕ) (ys : List Parcel) (o : ℕ) → ((i : ℕ) → i < m → get_elem? xs (from + i) ≡ some (slice_get ys (o + i))) → loose_in_slots xs p q from m ≡ map (loose_from p q) (take m (drop o ys))
 found_is xs p q from zero ys o at = refl
 found_is xs p q from (suc m) ys o at =
-    ap (λ (l : List Loose). l ++ found_one p q (get_elem? xs (from + m))) (found_is xs p q from m ys o (λ i l. at i (omega arith)))
-    ∙ ap (λ z. map (loose_from p q) (take m (drop o ys)) ++ found_one p q z) (at m (omega arith) ∙ ap some (sym (get_drop ys o m)))
+    ap (λ (l : List Loose). l ++ loose_in_slot p q (get_elem? xs (from + m))) (found_is xs p q from m ys o (λ i l. at i (omega arith)))
+    ∙ ap (λ z. map (loose_from p q) (take m (drop o ys)) ++ loose_in_slot p q z) (at m (omega arith) ∙ ap some (sym (get_drop ys o m)))
     ∙ sym (take_more p q (drop o ys) m)
 
 take_none : (r : ℕ) → (let e : List Parcel = [] in take r e ≡ e)
@@ -69,10 +69,10 @@ halves p q (y ∷ l) (suc m) r le = ap (λ (z : List Loose). loose_from p q y �
 
 -- the two halves of a ring's slots
 pub ring_found : (xs : List (Option Parcel)) (cap base g : ℕ) (left : List Parcel) (p q : ℕ) → 1 ≤ cap → RingHolds xs cap base g left
-    → found xs p q (base + g % cap) (base + cap - (base + g % cap)) ++ found xs p q base (base + g % cap - base) ≡ map (loose_from p q) left
+    → loose_in_slots xs p q (base + g % cap) (base + cap - (base + g % cap)) ++ loose_in_slots xs p q base (base + g % cap - base) ≡ map (loose_from p q) left
 ring_found xs cap base g left p q pos holds =
-    (λ i. found xs p q (base + f) (hi i) ++ found xs p q base (lo i))
-    ∙ ap (λ (l : List Loose). l ++ found xs p q base f) (found_is xs p q (base + f) (cap - f) left 0 upper)
+    (λ i. loose_in_slots xs p q (base + f) (hi i) ++ loose_in_slots xs p q base (lo i))
+    ∙ ap (λ (l : List Loose). l ++ loose_in_slots xs p q base f) (found_is xs p q (base + f) (cap - f) left 0 upper)
     ∙ ap (λ (l : List Loose). map (loose_from p q) (take (cap - f) left) ++ l) (found_is xs p q base f left (cap - f) lower)
     ∙ halves p q left (cap - f) f (let l = holds.0 in omega arith)
   where

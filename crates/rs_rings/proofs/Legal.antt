@@ -24,7 +24,7 @@ use Rattle.std.proofs.lemmas.Option.{slice_get_within}
 use Rattle.rs_core.proofs.Stands.{here-is}
 use Rattle.rs_slots.specs.declared.parcels.Parcel.{Parcel}
 use Rattle.rs_rings.specs.declared.views.Part.{Part}
-use Rattle.rs_rings.specs.Acts.{numbered, sent_act, got_act, message_of, Happened, parcels_sent, parcels_got, parcel_sent, parcel_got}
+use Rattle.rs_rings.specs.Acts.{role_of_number, sent_act, got_act, message_of, Happened, parcels_sent, parcels_got, parcel_sent, parcel_got}
 use Rattle.rs_rings.specs.Rule.{configuration_of, histories_of, AreLegal}
 use Rattle.rs_rings.specs.Steps.{HasFittingArm}
 use Rattle.rs_rings.proofs.Parts.{at_put, put_case}
@@ -75,11 +75,11 @@ module _ (ms : List Machine_data) (known : ℕ → Part) where
       (λ i. ((λ r. hs r i), record { at = λ r. ss r i; queue = λ x y. map message_of (drop (length (parcels_got x (hs y i))) (parcels_sent y (hs x i))) })) lives
 
   module _ (p q : ℕ) (apart : p ≢ q) (m : Parcel) (arms : List Arm) (arm : Arm) (at : (place : ℕ) × (slice_get arms place ≡ Some arm) × (arm.label ≡ m.label)) (has : HasSort m.value arm.sort) where
-    pub sends : (a' : Part) → state_at ms (configuration_of known) p ≡ Some (Puts (numbered q) arms) → a'.state ≡ arm.next → a'.history ≡ (known p).history ++ sent_act q m ∷ [] → length (parcels_got p (known q).history) ≤ length (parcels_sent q (known p).history)
+    pub sends : (a' : Part) → state_at ms (configuration_of known) p ≡ Some (Puts (role_of_number q) arms) → a'.state ≡ arm.next → a'.history ≡ (known p).history ++ sent_act q m ∷ [] → length (parcels_got p (known q).history) ≤ length (parcels_sent q (known p).history)
         → (step : Sends ms (configuration_of known) p at.0 m.value (configuration_of (at_put known p a'))) × (Sent step.peer step.arm.label m.value ≡ sent_act q m)
     sends a' puts st hist le = let known' : ℕ → Part = at_put known p a' in (
       record {
-        peer = numbered q;
+        peer = role_of_number q;
         arms = arms;
         arm = arm;
         puts = puts;
@@ -97,14 +97,14 @@ module _ (ms : List Machine_data) (known : ℕ → Part) where
             let g : parcels_got x (known' y).history ≡ parcels_got x (known y).history = put_case known p a' y (λ z. parcels_got x z.history ≡ parcels_got x (known y).history) (λ e. ap (parcels_got x) hist ∙ last_none (parcel_got x) (known p).history (sent_act q m) refl ∙ ap (λ (k : ℕ). parcels_got x (known k).history) (sym e)) (λ _. refl) in
             λ i. map message_of (drop (length (g i)) (s i));
       },
-      ap (λ l. Sent (numbered q) l m.value) at.2,
+      ap (λ l. Sent (role_of_number q) l m.value) at.2,
     )
 
-    pub receives : (b' : Part) → state_at ms (configuration_of known) q ≡ Some (Takes (numbered p) arms) → b'.state ≡ arm.next → b'.history ≡ (known q).history ++ got_act p m ∷ [] → get_elem? (parcels_sent q (known p).history) (length (parcels_got p (known q).history)) ≡ some m
+    pub receives : (b' : Part) → state_at ms (configuration_of known) q ≡ Some (Takes (role_of_number p) arms) → b'.state ≡ arm.next → b'.history ≡ (known q).history ++ got_act p m ∷ [] → get_elem? (parcels_sent q (known p).history) (length (parcels_got p (known q).history)) ≡ some m
         → (step : Receives ms (configuration_of known) q (configuration_of (at_put known q b'))) × (Got step.peer step.message.label step.message.value ≡ got_act p m)
     receives b' takes st hist first = let known' : ℕ → Part = at_put known q b' in (
       record {
-        peer = numbered p;
+        peer = role_of_number p;
         arms = arms;
         place = at.0;
         arm = arm;
@@ -128,10 +128,10 @@ module _ (ms : List Machine_data) (known : ℕ → Part) where
     )
 
     -- the histories after a send are legal, and the act happened
-    pub legal_sent : (a' : Part) → AreLegal ms known → state_at ms (configuration_of known) p ≡ Some (Puts (numbered q) arms) → a'.state ≡ arm.next → a'.history ≡ (known p).history ++ sent_act q m ∷ [] → length (parcels_got p (known q).history) ≤ length (parcels_sent q (known p).history)
+    pub legal_sent : (a' : Part) → AreLegal ms known → state_at ms (configuration_of known) p ≡ Some (Puts (role_of_number q) arms) → a'.state ≡ arm.next → a'.history ≡ (known p).history ++ sent_act q m ∷ [] → length (parcels_got p (known q).history) ≤ length (parcels_sent q (known p).history)
         → AreLegal ms (at_put known p a') × Happened ms p (known p).history (sent_act q m)
     legal_sent a' lives puts st hist le = let told = sends a' puts st hist le in let step : Sends ms (configuration_of known) p at.0 m.value (configuration_of (at_put known p a')) = told.0 in
-        let event : Event = Send (numbered p) at.0 m.value in
+        let event : Event = Send (role_of_number p) at.0 m.value in
         let did : action_of ms (configuration_of known) event (configuration_of (at_put known p a')) step ≡ sent_act q m = told.1 in (
           legal_step ms (histories_of known) (histories_of (at_put known p a')) (configuration_of known) event (configuration_of (at_put known p a')) lives step
               (put_case known p a' p (λ z. z.history ≡ (known p).history ++ (action_of ms (configuration_of known) event (configuration_of (at_put known p a')) step ∷ [])) (λ _. hist ∙ ap (λ (a : Action). (known p).history ++ a ∷ []) (sym did)) (λ no'. absurd (no' refl)))
@@ -139,10 +139,10 @@ module _ (ms : List Machine_data) (known : ℕ → Part) where
           record { histories = histories_of known; before = configuration_of known; event = event; after = configuration_of (at_put known p a'); legal = lives; own = refl; whose = refl; step = step; did = did },
         )
 
-    pub legal_got : (b' : Part) → AreLegal ms known → state_at ms (configuration_of known) q ≡ Some (Takes (numbered p) arms) → b'.state ≡ arm.next → b'.history ≡ (known q).history ++ got_act p m ∷ [] → get_elem? (parcels_sent q (known p).history) (length (parcels_got p (known q).history)) ≡ some m
+    pub legal_got : (b' : Part) → AreLegal ms known → state_at ms (configuration_of known) q ≡ Some (Takes (role_of_number p) arms) → b'.state ≡ arm.next → b'.history ≡ (known q).history ++ got_act p m ∷ [] → get_elem? (parcels_sent q (known p).history) (length (parcels_got p (known q).history)) ≡ some m
         → AreLegal ms (at_put known q b') × Happened ms q (known q).history (got_act p m)
     legal_got b' lives takes st hist first = let told = receives b' takes st hist first in let step : Receives ms (configuration_of known) q (configuration_of (at_put known q b')) = told.0 in
-        let event : Event = Receive (numbered q) in (
+        let event : Event = Receive (role_of_number q) in (
           legal_step ms (histories_of known) (histories_of (at_put known q b')) (configuration_of known) event (configuration_of (at_put known q b')) lives step
               (put_case known q b' q (λ z. z.history ≡ (known q).history ++ (action_of ms (configuration_of known) event (configuration_of (at_put known q b')) step ∷ [])) (λ _. hist ∙ ap (λ (a : Action). (known q).history ++ a ∷ []) (sym told.1)) (λ no'. absurd (no' refl)))
               (λ r ne. put_case known q b' r (λ z. z.history ≡ (known r).history) (λ e. absurd (ne e)) (λ _. refl)),
@@ -150,17 +150,17 @@ module _ (ms : List Machine_data) (known : ℕ → Part) where
         )
 
 -- where the machines are safe and well_formed formed, the head of the queue fits
-pub fitting_arm : (ms : List Machine_data) (c : Configuration) (q p : ℕ) (arms : List Arm) (m : Parcel) (later : List Message) → IsSafe ms → AreWellFormed ms → IsReachable ms c → state_at ms c q ≡ Some (Takes (numbered p) arms) → c.queue p q ≡ message_of m ∷ later → HasFittingArm arms m
+pub fitting_arm : (ms : List Machine_data) (c : Configuration) (q p : ℕ) (arms : List Arm) (m : Parcel) (later : List Message) → IsSafe ms → AreWellFormed ms → IsReachable ms c → state_at ms c q ≡ Some (Takes (role_of_number p) arms) → c.queue p q ≡ message_of m ∷ later → HasFittingArm arms m
 fitting_arm ms c q p arms m later safe well_formed reach takes head = by (arm_with arms m.label) refl
   where
     wrong : ((place : ℕ) (arm : Arm) → slice_get arms place ≡ Some arm → arm.label ≡ m.label → HasSort m.value arm.sort → ⊥) → ⊥
-    wrong none' = safe.fits c reach record { role = q; peer = numbered p; arms = arms; message = message_of m; later = later; takes = takes; oldest = head; no_arm = none' }
+    wrong none' = safe.fits c reach record { role = q; peer = role_of_number p; arms = arms; message = message_of m; later = later; takes = takes; oldest = head; no_arm = none' }
 
     sorted : (arm : Arm) → arm_with arms m.label ≡ Some arm → (b : Bool) → fits m.value arm.sort ≡ b → HasFittingArm arms m
     sorted arm e true is = record { arm = arm; chosen = e; has = is }
     sorted arm e false is = absurd (wrong (λ place arm' there named has. let found = arm_at arms m.label arm e in
-        let at = here-is (slice_get ms q) (c.at q) (Takes (numbered p) arms) takes in
-        let once : place ≡ found.0 = ((well_formed.fits q at.0 at.1).takes (c.at q) (numbered p) arms at.2).once place found.0 arm' arm there found.1 (named ∙ sym found.2) in
+        let at = here-is (slice_get ms q) (c.at q) (Takes (role_of_number p) arms) takes in
+        let once : place ≡ found.0 = ((well_formed.fits q at.0 at.1).takes (c.at q) (role_of_number p) arms at.2).once place found.0 arm' arm there found.1 (named ∙ sym found.2) in
         let same' : Some arm' ≡ Some arm = sym there ∙ ap (slice_get arms) once ∙ found.1 in
         let same : arm' ≡ arm = cc in true≢false (sym has ∙ ap (λ (a : Arm). fits m.value a.sort) same ∙ is)))
 

@@ -12,9 +12,9 @@ use Rattle.rs_rings.specs.declared.views.View.{View}
 use Rattle.rs_rings.specs.declared.views.Key.{Key}
 use Rattle.rs_slots.specs.Places.{IsPair}
 use Rattle.rs_rings.specs.Acts.{parcels_sent, parcels_got}
-use Rattle.rs_rings.specs.Places.{head_of, tail_of, place_of}
+use Rattle.rs_rings.specs.Places.{head_word_of, tail_of, place_of}
 use Rattle.rs_rings.specs.Rule.{RingRule, ring_facts, AllRings}
-use Rattle.rs_rings.specs.Views.{last_found, is_putting, taken_from}
+use Rattle.rs_rings.specs.Views.{last_found, is_putting, parcel_in_hand}
 use Rattle.rs_rings.proofs.Parts.{at_put, put_case}
 
 abbrev pub Homes : Type 0
@@ -28,7 +28,7 @@ abbrev pub SendsAs : ℕ → Part → Part → Type 0
 SendsAs y a a' = (parcels_sent y a'.history ≡ parcels_sent y a.history) × (last_found y a'.heads ≡ last_found y a.heads) × (is_putting y a'.middle ≡ is_putting y a.middle)
 
 abbrev pub TakesAs : ℕ → Part → Part → Type 0
-TakesAs y a a' = (parcels_got y a'.history ≡ parcels_got y a.history) × (last_found y a'.tails ≡ last_found y a.tails) × (taken_from y a'.middle ≡ taken_from y a.middle)
+TakesAs y a a' = (parcels_got y a'.history ≡ parcels_got y a.history) × (last_found y a'.tails ≡ last_found y a.tails) × (parcel_in_hand y a'.middle ≡ parcel_in_hand y a.middle)
 
 module _ (key : Key) (p q : ℕ) (words words' : List ℕ) (homes homes' : Homes) where
   abbrev n : ℕ
@@ -39,7 +39,7 @@ module _ (key : Key) (p q : ℕ) (words words' : List ℕ) (homes homes' : Homes
 
   -- the words and slots of the other rings stay
   abbrev pub Else : Type 0
-  Else = (x y : ℕ) → IsPair n x y → ((x ≡ p) × (y ≡ q) → ⊥) → (slice_index words' (tail_of n x y) ≡ slice_index words (tail_of n x y)) × (slice_index words' (head_of n x y) ≡ slice_index words (head_of n x y))
+  Else = (x y : ℕ) → IsPair n x y → ((x ≡ p) × (y ≡ q) → ⊥) → (slice_index words' (tail_of n x y) ≡ slice_index words (tail_of n x y)) × (slice_index words' (head_word_of n x y) ≡ slice_index words (head_word_of n x y))
       × ((k : ℕ) → get_elem? homes' (place_of n cap x y k) ≡ get_elem? homes (place_of n cap x y k))
 
   other_facts : (x y : ℕ) (a b a' b' : Part) → IsPair n x y → ((x ≡ p) × (y ≡ q) → ⊥) → Else → SendsAs y a a' → TakesAs x b b' → ring_facts n cap words homes x y a b ≡ ring_facts n cap words' homes' x y a' b'

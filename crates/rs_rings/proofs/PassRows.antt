@@ -18,11 +18,11 @@ use Rattle.rs_core.specs.Histories.{Action, Sent, Got, History}
 use Rattle.rs_rings.proofs.Arms.{arm_at, arm_found}
 use Rattle.rs_core.proofs.Stands.{here-is}
 use Rattle.rs_slots.specs.declared.parcels.Parcel.{Parcel}
-use Rattle.rs_rings.specs.Acts.{numbered, sent_act, got_act, MayPut, parcels_sent, parcels_got, parcel_sent, parcel_got}
+use Rattle.rs_rings.specs.Acts.{role_of_number, sent_act, got_act, MayPut, parcels_sent, parcels_got, parcel_sent, parcel_got}
 use Rattle.rs_rings.specs.Passes.{CanPut, CanTake, IsChanged}
 use Rattle.rs_rings.specs.Rows.{row_at, with_sent_count, with_got_count, new_row, either_row, row_at_start, RowShows, IsBetweenCalls}
 use Rattle.rs_rings.specs.Told.{arms_in, IsAfter}
-use Rattle.rs_rings.specs.Views.{starting, speaks, the_part, without, left_by, alone, joined, start_of, gaining, sending, taking, getting}
+use Rattle.rs_rings.specs.Views.{starting, speaks, the_part, without, view_without_role, alone, joint_view, start_of, gaining, sending, taking, getting}
 use Rattle.rs_rings.specs.declared.rows.Row.{Row}
 use Rattle.rs_rings.specs.declared.views.Middle.TheVariants.{Idle}
 use Rattle.rs_rings.specs.declared.views.Part.{Part}
@@ -114,7 +114,7 @@ kept_got m m' items items' q p x n next count l kept says a is noted = let t = k
     (λ k ne. noted k ∙ at_else k q (with_got_count p count next (row_at items k)) (row_at items k) ne)
 
 -- a cut
-pub kept_left : (v : View) (items items' : Items) (r : ℕ) → IsBetweenCalls (v, []) items → ((k : ℕ) → row_at items' k ≡ (if k == r then None else row_at items k)) → IsBetweenCalls (left_by r v, []) items'
+pub kept_left : (v : View) (items items' : Items) (r : ℕ) → IsBetweenCalls (v, []) items → ((k : ℕ) → row_at items' k ≡ (if k == r then None else row_at items k)) → IsBetweenCalls (view_without_role r v, []) items'
 kept_left v items items' r kept cut = record {
   empty = refl;
   few = λ k s. kept.few k (still k s);
@@ -150,7 +150,7 @@ kept_alone v items items' r kept says cut = record {
     part k same = subst (λ (b : Bool). (if b then the_part r v.parts else the_part k []) ≡ the_part r v.parts) (sym (eq-eqb k (the_part r v.parts).role (same ∙ sym role))) refl
 
 -- a join
-pub kept_joined : (v w : View) (items others items' : Items) → IsBetweenCalls (v, []) items → IsBetweenCalls (w, []) others → ((k : ℕ) → k < 16 → row_at items' k ≡ either_row (row_at items k) (row_at others k)) → IsBetweenCalls (joined v w, []) items'
+pub kept_joined : (v w : View) (items others items' : Items) → IsBetweenCalls (v, []) items → IsBetweenCalls (w, []) others → ((k : ℕ) → k < 16 → row_at items' k ≡ either_row (row_at items k) (row_at others k)) → IsBetweenCalls (joint_view v w, []) items'
 kept_joined v w items others items' one two both = record {
   empty = refl;
   few = λ k s. ⊎_elim (λ a. one.few k a) (λ no'. two.few k (sym (speaks_right k v.parts w.parts no') ∙ s)) (bool_cases (speaks k v.parts));
@@ -225,11 +225,11 @@ pub record IsPairOf (ms : List Machine_data) (p q : ℕ) : Type 0 where
 
 pub put_pair : (ms : List Machine_data) (p : ℕ) (q : Role) (s : ℕ) (x : Parcel) → AreWellFormed ms → CanPut ms p q s x → IsPairOf ms p q.0
 put_pair ms p q s x well_formed can = let at = here-is (slice_get ms p) s (Puts q can.1.arms) can.1.puts in let fit = (well_formed.fits p at.0 at.1).puts s q can.1.arms at.2 in
-    record { one = slice_get_within ms p at.0 at.1; other = fit.known; differ = λ e. fit.other (ap numbered (sym e ∙ sym (well_formed.role p at.0 at.1))) }
+    record { one = slice_get_within ms p at.0 at.1; other = fit.known; differ = λ e. fit.other (ap role_of_number (sym e ∙ sym (well_formed.role p at.0 at.1))) }
 
 pub take_pair : (ms : List Machine_data) (q : ℕ) (p : Role) (s : ℕ) → AreWellFormed ms → CanTake ms q p s → IsPairOf ms q p.0
 take_pair ms q p s well_formed can = let at = here-is (slice_get ms q) s (Takes p can.arms) can.takes in let fit = (well_formed.fits q at.0 at.1).takes s p can.arms at.2 in
-    record { one = slice_get_within ms q at.0 at.1; other = fit.known; differ = λ e. fit.other (ap numbered (sym e ∙ sym (well_formed.role q at.0 at.1))) }
+    record { one = slice_get_within ms q at.0 at.1; other = fit.known; differ = λ e. fit.other (ap role_of_number (sym e ∙ sym (well_formed.role q at.0 at.1))) }
 
 -- no more parcels than acts
 pub few_parcels : (f : Action → List Parcel) → ((a : Action) → length (f a) ≤ 1) → (h : History) → length (flat_map f h) ≤ length h

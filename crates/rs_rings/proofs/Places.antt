@@ -4,15 +4,15 @@ use native.Mathlib.Decide.{dec_le}
 use mathlib.Core.Logic.{dite}
 use Rattle.rs_slots.specs.Places.{ring_count, ring_of, IsPair}
 use Rattle.rs_slots.proofs.Places as lay
-use Rattle.rs_rings.specs.Places.{head_of, tail_of, place_of}
+use Rattle.rs_rings.specs.Places.{head_word_of, tail_of, place_of}
 
-pub heads_apart : (n p q x y : ℕ) → IsPair n p q → IsPair n x y → head_of n p q ≡ head_of n x y → (p ≡ x) × (q ≡ y)
+pub heads_apart : (n p q x y : ℕ) → IsPair n p q → IsPair n x y → head_word_of n p q ≡ head_word_of n x y → (p ≡ x) × (q ≡ y)
 heads_apart n p q x y a b e = lay.one_ring n p q x y a b (lay.one_head (ring_of n p q) (ring_of n x y) e)
 
 pub tails_apart : (n p q x y : ℕ) → IsPair n p q → IsPair n x y → tail_of n p q ≡ tail_of n x y → (p ≡ x) × (q ≡ y)
 tails_apart n p q x y a b e = lay.one_ring n p q x y a b (lay.one_tail (ring_of n p q) (ring_of n x y) e)
 
-pub head_no_tail : (n p q x y : ℕ) → head_of n p q ≢ tail_of n x y
+pub head_no_tail : (n p q x y : ℕ) → head_word_of n p q ≢ tail_of n x y
 head_no_tail n p q x y e = lay.head_no_tail (ring_of n p q) (ring_of n x y) e
 
 pub slots_apart : (n cap p q x y k m : ℕ) → 0 < cap → IsPair n p q → IsPair n x y → place_of n cap p q k ≡ place_of n cap x y m → ((p ≡ x) × (q ≡ y)) × (k % cap ≡ m % cap)
@@ -29,7 +29,7 @@ next_turn n cap p q k = lay.next_turn cap (ring_of n p q) k
 pub slot_below : (n cap p q k : ℕ) → 0 < cap → IsPair n p q → place_of n cap p q k < ring_count n * cap
 slot_below n cap p q k pos a = lay.slot_below n cap (ring_of n p q) k pos (lay.ring_below n p q a)
 
-pub head_below : (n p q : ℕ) → IsPair n p q → head_of n p q < 2 * ring_count n
+pub head_below : (n p q : ℕ) → IsPair n p q → head_word_of n p q < 2 * ring_count n
 head_below n p q a = let i : ℕ = ring_of n p q in let m : ℕ = ring_count n in let l : i < m = lay.ring_below n p q a in let g : 2 * i < 2 * m = omega arith in g
 
 pub tail_below : (n p q : ℕ) → IsPair n p q → tail_of n p q < 2 * ring_count n

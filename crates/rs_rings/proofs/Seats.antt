@@ -17,10 +17,10 @@ use Rattle.rs_core.specs.Configurations.{Configuration, state_at, state_of}
 use Rattle.rs_core.specs.Histories.{History, IsLegal}
 use Rattle.rs_core.specs.Safety.{IsSafe, CanMove, MaySend, MayReceive, CanStep, AllEnded}
 use Rattle.rs_rings.specs.Acts.{message_of, parcels_sent, parcels_got}
-use Rattle.rs_rings.specs.Places.{head_of, tail_of, place_of}
-use Rattle.rs_rings.specs.Rule.{Spoken, Shows, machines_of, configuration_of, histories_of, first_view}
+use Rattle.rs_rings.specs.Places.{head_word_of, tail_of, place_of}
+use Rattle.rs_rings.specs.Rule.{Spoken, RingsShow, machines_of, configuration_of, histories_of, first_view}
 use Rattle.rs_rings.specs.Told.{Ends}
-use Rattle.rs_rings.specs.Views.{speaks, the_part, history_in, left_in, first_part, first_parts, start_of, without, left_by, alone, joined, spent_view}
+use Rattle.rs_rings.specs.Views.{speaks, the_part, history_in, parcels_under_way, first_part, first_parts, start_of, without, view_without_role, alone, joint_view, spent_view}
 use Rattle.rs_slots.specs.Places.{ring_count}
 use Rattle.rs_model.specs.declared.machines.State.TheVariants.{Done}
 use Rattle.rs_rings.proofs.OneRing.{at_below, at_snoc_where}
@@ -79,9 +79,9 @@ bool_cases true = inl refl
 bool_cases false = inr refl
 
 module _ (n : ℕ) (owner : ℕ → ℕ) (known : ℕ → Part) (views : List View) (sp : Spoken n owner known views) (id : ℕ) (v : View) (at : get_elem? views id ≡ some v) where
-  pub spoken_split : (r : ℕ) → speaks r v.parts ≡ true → Spoken n (at_put owner r (length views)) known (set views id (left_by r v) ++ alone r v ∷ [])
-  spoken_split r says = let mine = sp.only id v r at says in let kn = known_is n owner known views sp id v at r says in let role = the_role r v.parts says in let vs : List View = set views id (left_by r v) in let k : ℕ = length views in
-      let long : length vs ≡ k = length-set views id (left_by r v) in record {
+  pub spoken_split : (r : ℕ) → speaks r v.parts ≡ true → Spoken n (at_put owner r (length views)) known (set views id (view_without_role r v) ++ alone r v ∷ [])
+  spoken_split r says = let mine = sp.only id v r at says in let kn = known_is n owner known views sp id v at r says in let role = the_role r v.parts says in let vs : List View = set views id (view_without_role r v) in let k : ℕ = length views in
+      let long : length vs ≡ k = length-set views id (view_without_role r v) in record {
         each = λ y l. let e = sp.each y l in dite (ℕ_discrete y r)
             (λ is. (
               alone r v,
@@ -91,40 +91,40 @@ module _ (n : ℕ) (owner : ℕ → ℕ) (known : ℕ → Part) (views : List Vi
             ))
             (λ ne. let o : at_put owner r k y ≡ owner y = put_case owner r k y (λ z. z ≡ owner y) (λ e'. absurd (ne e')) (λ _. refl) in dite (ℕ_discrete (owner y) id)
             (λ own. let same : e.0 ≡ v = some-injective e.0 v (sym e.1 ∙ ap (get_elem? views) own ∙ at) in (
-              left_by r v,
-              ap (get_elem? (vs ++ alone r v ∷ [])) (o ∙ own) ∙ at_longer vs (alone r v ∷ []) id (left_by r v) (set_here views id (left_by r v) (at_below views id v at)),
+              view_without_role r v,
+              ap (get_elem? (vs ++ alone r v ∷ [])) (o ∙ own) ∙ at_longer vs (alone r v ∷ []) id (view_without_role r v) (set_here views id (view_without_role r v) (at_below views id v at)),
               speaks_without y r v.parts ne ∙ ap (λ (d : View). speaks y d.parts) (sym same) ∙ e.2,
               the_without y r v.parts ne ∙ ap (λ (d : View). the_part y d.parts) (sym same) ∙ e.3,
             ))
-            (λ not. (e.0, ap (get_elem? (vs ++ alone r v ∷ [])) o ∙ at_longer vs (alone r v ∷ []) (owner y) e.0 (set_else views id (owner y) (left_by r v) not ∙ e.1), e.2, e.3)));
+            (λ not. (e.0, ap (get_elem? (vs ++ alone r v ∷ [])) o ∙ at_longer vs (alone r v ∷ []) (owner y) e.0 (set_else views id (owner y) (view_without_role r v) not ∙ e.1), e.2, e.3)));
         only = λ j d y there s. ⊎_elim
             (λ old. ⊎_elim
             (λ t. let s' : speaks y (without r v.parts) ≡ true = ap (λ (u : View). speaks y u.parts) t.1 ∙ s in dite (ℕ_discrete y r) (λ is. absurd (true≢false (sym s' ∙ ap (λ (z : ℕ). speaks z (without r v.parts)) is ∙ speaks_gone r v.parts)))
             (λ ne. let o = sp.only id v y at (sym (speaks_without y r v.parts ne) ∙ s') in (put_case owner r k y (λ z. z ≡ j) (λ e'. absurd (ne e')) (λ _. o.0 ∙ sym t.0), o.1)))
             (λ t. let o = sp.only j d y t.1 s in (put_case owner r k y (λ z. z ≡ j) (λ is. absurd (t.0 (sym o.0 ∙ ap owner is ∙ mine.0))) (λ _. o.0), o.1))
-            (at_set views id j (left_by r v) d old))
+            (at_set views id j (view_without_role r v) d old))
             (λ t. let is : y ≡ r = speaks_one y (the_part r v.parts) (ap (λ (u : View). speaks y u.parts) t.1 ∙ s) ∙ role in (put_case owner r k y (λ z. z ≡ j) (λ _. sym (t.0 ∙ long)) (λ no. absurd (no is)), subst (λ (z : ℕ). z < n) (sym is) mine.1))
             (at_snoc_where vs (alone r v) d j there);
       }
 
-  pub spoken_join : (other : ℕ) (w : View) → other ≢ id → get_elem? views other ≡ some w → Spoken n (λ y. if owner y == other then id else owner y) known (set (set views id (joined v w)) other spent_view)
-  spoken_join other w apart at' = let us : List View = set views id (joined v w) in let vs : List View = set us other spent_view in let there : get_elem? vs id ≡ some (joined v w) = set_else us other id spent_view (λ e. apart (sym e)) ∙ set_here views id (joined v w) (at_below views id v at) in record {
+  pub spoken_join : (other : ℕ) (w : View) → other ≢ id → get_elem? views other ≡ some w → Spoken n (λ y. if owner y == other then id else owner y) known (set (set views id (joint_view v w)) other spent_view)
+  spoken_join other w apart at' = let us : List View = set views id (joint_view v w) in let vs : List View = set us other spent_view in let there : get_elem? vs id ≡ some (joint_view v w) = set_else us other id spent_view (λ e. apart (sym e)) ∙ set_here views id (joint_view v w) (at_below views id v at) in record {
     each = λ y l. let e = sp.each y l in elim (eqb_tells (owner y) other) [
       | inl h ↦ let same : e.0 ≡ w = some-injective e.0 w (sym e.1 ∙ ap (get_elem? views) h.1 ∙ at') in
           let quiet : speaks y v.parts ≡ false = ⊎_elim (λ s. absurd (apart (sym h.1 ∙ (sp.only id v y at s).0))) (λ s. s) (bool_cases (speaks y v.parts)) in (
-            joined v w,
+            joint_view v w,
             ap (λ b. get_elem? vs (if b then id else owner y)) h.0 ∙ there,
             speaks_right y v.parts w.parts quiet ∙ ap (λ (d : View). speaks y d.parts) (sym same) ∙ e.2,
             the_right y v.parts w.parts quiet ∙ ap (λ (d : View). the_part y d.parts) (sym same) ∙ e.3,
           )
       | inr h ↦ dite (ℕ_discrete (owner y) id)
           (λ own. let same : e.0 ≡ v = some-injective e.0 v (sym e.1 ∙ ap (get_elem? views) own ∙ at) in let s : speaks y v.parts ≡ true = ap (λ (d : View). speaks y d.parts) (sym same) ∙ e.2 in (
-            joined v w,
+            joint_view v w,
             ap (λ b. get_elem? vs (if b then id else owner y)) h.0 ∙ ap (get_elem? vs) own ∙ there,
             speaks_left y v.parts w.parts s,
             the_left y v.parts w.parts s ∙ ap (λ (d : View). the_part y d.parts) (sym same) ∙ e.3,
           ))
-          (λ not. (e.0, ap (λ b. get_elem? vs (if b then id else owner y)) h.0 ∙ set_else us other (owner y) spent_view h.1 ∙ set_else views id (owner y) (joined v w) not ∙ e.1, e.2, e.3))
+          (λ not. (e.0, ap (λ b. get_elem? vs (if b then id else owner y)) h.0 ∙ set_else us other (owner y) spent_view h.1 ∙ set_else views id (owner y) (joint_view v w) not ∙ e.1, e.2, e.3))
     ];
     only = λ j d y found s. ⊎_elim
         (λ t. absurd (true≢false (sym s ∙ ap (λ (u : View). speaks y u.parts) (sym t.1))))
@@ -134,12 +134,12 @@ module _ (n : ℕ) (owner : ℕ → ℕ) (known : ℕ → Part) (views : List Vi
         (λ quiet. let o = sp.only other w y at' (sym (speaks_right y v.parts w.parts quiet) ∙ s') in (ap (λ b. if b then id else owner y) (eq-eqb (owner y) other o.0) ∙ sym t'.0, o.1))
         (bool_cases (speaks y v.parts)))
         (λ t'. let o = sp.only j d y t'.1 s in (ap (λ b. if b then id else owner y) (ne_eqb (owner y) other (λ e. t.0 (sym o.0 ∙ e))) ∙ o.0, o.1))
-        (at_set views id j (joined v w) d t.1))
+        (at_set views id j (joint_view v w) d t.1))
         (at_set us other j spent_view d found);
   }
 
 -- kind 5
-pub splits : (key : Key) (id : ℕ) (v : View) (r : ℕ) → speaks r v.parts ≡ true → Splits (Shows key) id v (left_by r v) (alone r v)
+pub splits : (key : Key) (id : ℕ) (v : View) (r : ℕ) → speaks r v.parts ≡ true → Splits (RingsShow key) id v (view_without_role r v) (alone r v)
 splits key id v r says s sh at = record {
   owner = at_put sh.owner r (length s.views);
   known = sh.known;
@@ -155,14 +155,14 @@ splits key id v r says s sh at = record {
 }
 
 -- kind 6
-pub joins : (key : Key) (id : ℕ) (v : View) (other : ℕ) (w : View) → Joins (Shows key) id v other w (joined v w) spent_view
+pub joins : (key : Key) (id : ℕ) (v : View) (other : ℕ) (w : View) → Joins (RingsShow key) id v other w (joint_view v w) spent_view
 joins key id v other w s sh at apart at' = record {
   owner = λ y. if sh.owner y == other then id else sh.owner y;
   known = sh.known;
   roomy = sh.roomy;
   word_count = sh.word_count;
   slot_count = sh.slot_count;
-  spoken = spoken_join key.roles sh.owner sh.known s.views sh.spoken id v at other w apart (sym (set_else s.views id other (joined v w) apart) ∙ at');
+  spoken = spoken_join key.roles sh.owner sh.known s.views sh.spoken id v at other w apart (sym (set_else s.views id other (joint_view v w) apart) ∙ at');
   rings = sh.rings;
   machine_count = sh.machine_count;
   safe = sh.safe;
@@ -189,7 +189,7 @@ none_moves ms c ended (p, l, m) = by m
     by (MaySend peer arms e) = let d = ended p l in cc
     by (MayReceive peer arms message later e q) = let d = ended p l in cc
 
-pub ends : (key : Key) (id : ℕ) (v : View) (s : State (Option Parcel) View) → ((r : ℕ) → r < key.roles → speaks r v.parts ≡ true) → Seen (Shows key) id v s → Ends (machines_of key) key.roles v
+pub ends : (key : Key) (id : ℕ) (v : View) (s : State (Option Parcel) View) → ((r : ℕ) → r < key.roles → speaks r v.parts ≡ true) → Seen (RingsShow key) id v s → Ends (machines_of key) key.roles v
 ends key id v s all t = let sh = t.0 in let n : ℕ = key.roles in let ms : List Machine_data = machines_of key in let last : Configuration = configuration_of sh.known in
     let kn = known_is n sh.owner sh.known s.views sh.spoken id v t.1 in
     let same : (r : ℕ) → (sh.known r).history ≡ history_in v r = λ r. dite (dec_le (suc r) n) (λ l. ap (λ (z : Part). z.history) (kn r (all r l)).1)
@@ -197,9 +197,9 @@ ends key id v s all t = let sh = t.0 in let n : ℕ = key.roles in let ms : List
     no_acts ms (histories_of sh.known) last sh.legal r (subst (λ (k : ℕ). k ≤ r) (sym sh.machine_count) high) ∙ sym (the_blank r v.parts quiet)) in
     let legal : IsLegal ms (history_in v) last = subst (λ (h : ℕ → History). IsLegal ms h last) (λ i r. same r i) sh.legal in
     let states : (r : ℕ) → r < n → last.at r ≡ (the_part r v.parts).state = λ r l. ap (λ (z : Part). z.state) (kn r (all r l)).1 in
-    let queues : (p q : ℕ) → p < n → q < n → p ≢ q → (parcels_sent q (history_in v p) ≡ parcels_got p (history_in v q) ++ left_in v p q) × (last.queue p q ≡ map message_of (left_in v p q)) = λ p q a b apart.
+    let queues : (p q : ℕ) → p < n → q < n → p ≢ q → (parcels_sent q (history_in v p) ≡ parcels_got p (history_in v q) ++ parcels_under_way v p q) × (last.queue p q ≡ map message_of (parcels_under_way v p q)) = λ p q a b apart.
     let left : List Parcel = drop (length (parcels_got p (sh.known q).history)) (parcels_sent q (sh.known p).history) in
-    let is : left ≡ left_in v p q = λ i. drop (length (parcels_got p (same q i))) (parcels_sent q (same p i)) in
+    let is : left ≡ parcels_under_way v p q = λ i. drop (length (parcels_got p (same q i))) (parcels_sent q (same p i)) in
     (ap (parcels_sent q) (sym (same p)) ∙ (sh.rings p q a b apart).order ∙ (λ i. parcels_got p (same q i) ++ is i), ap (λ (l : List Parcel). map message_of l) is) in
     record {
       last = last;
@@ -209,7 +209,7 @@ ends key id v s all t = let sh = t.0 in let n : ℕ = key.roles in let ms : List
       over = λ over. let ended : (r : ℕ) → r < length ms → state_at ms last r ≡ Some Done = λ r l. let l' : r < n = subst (λ (k : ℕ). r < k) sh.machine_count l in ap (λ (k : ℕ). state_of (slice_get ms r) k) (states r l') ∙ over r l' in
           let all_over : AllEnded ms last = ⊎_elim (λ c. absurd (none_moves ms last ended c)) (λ a. a) (sh.safe.goes_on last (reached ms (histories_of sh.known) last sh.legal)) in (
             all_over,
-            λ p q a b apart. let t = queues p q a b apart in let empty : left_in v p q ≡ [] = none_left (left_in v p q) (sym t.1 ∙ all_over.empty p q (subst (λ (k : ℕ). p < k) (sym sh.machine_count) a) (subst (λ (k : ℕ). q < k) (sym sh.machine_count) b) apart) in
+            λ p q a b apart. let t = queues p q a b apart in let empty : parcels_under_way v p q ≡ [] = none_left (parcels_under_way v p q) (sym t.1 ∙ all_over.empty p q (subst (λ (k : ℕ). p < k) (sym sh.machine_count) a) (subst (λ (k : ℕ). q < k) (sym sh.machine_count) b) apart) in
                 t.0 ∙ ap (λ (l : List Parcel). parcels_got p (history_in v q) ++ l) empty ∙ append-nil (parcels_got p (history_in v q)),
           );
     }
@@ -242,7 +242,7 @@ one_view v d zero e = (refl, some-injective v d e)
 one_view v d (suc j) e = absurd (some-ne-none d (sym e))
 
 pub begins : (key : Key) (words count : ℕ) → 0 < key.capacity → length (machines_of key) ≡ key.roles → IsSafe (machines_of key) → AreWellFormed (machines_of key) → words ≡ 2 * ring_count key.roles → count ≡ ring_count key.roles * key.capacity
-    → Shows key (opening (replicate words 0) (replicate count None) (first_view key))
+    → RingsShow key (opening (replicate words 0) (replicate count None) (first_view key))
 begins key words count pos machine_count safe well_formed w c = let ms : List Machine_data = machines_of key in let n : ℕ = key.roles in record {
   owner = λ _. 0;
   known = first_part ms;
@@ -255,7 +255,7 @@ begins key words count pos machine_count safe well_formed w c = let ms : List Ma
   };
   rings = λ p q a b apart. record {
     tail_is = zeros words (tail_of n p q);
-    head_is = zeros words (head_of n p q);
+    head_is = zeros words (head_word_of n p q);
     order = refl;
     room = zero-le;
     full = λ k x lo at or. absurd (some-ne-none x (sym at));

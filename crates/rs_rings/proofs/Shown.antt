@@ -9,10 +9,10 @@ use Rattle.rs_core.specs.Histories.{IsLegal}
 use Rattle.rs_slots.specs.Places.{IsPair}
 use Rattle.rs_slots.specs.declared.parcels.Parcel.{Parcel}
 use Rattle.rs_rings.specs.Acts.{message_of, sent_act, got_act, parcels_sent, parcels_got, SendsParcel, ReceivesParcel}
-use Rattle.rs_rings.specs.Places.{head_of, tail_of}
-use Rattle.rs_rings.specs.Rule.{Shows, RingFacts, RingRule, ring_facts, Spoken, AreLegal, configuration_of, histories_of, machines_of}
+use Rattle.rs_rings.specs.Places.{head_word_of, tail_of}
+use Rattle.rs_rings.specs.Rule.{RingsShow, RingFacts, RingRule, ring_facts, Spoken, AreLegal, configuration_of, histories_of, machines_of}
 use Rattle.rs_rings.specs.Shown.{RingShown, Shown, IsSameAmong, Moves, LoadsHeadOf, StoresTailOf, LoadsTailOf, StoresHeadOf, SplitsOff, JoinsIn}
-use Rattle.rs_rings.specs.Views.{the_part, sending, getting, taken_from}
+use Rattle.rs_rings.specs.Views.{the_part, sending, getting, parcel_in_hand}
 use Rattle.rs_rings.specs.declared.views.Key.{Key}
 use Rattle.rs_rings.specs.declared.views.Part.{Part}
 use Rattle.rs_rings.specs.declared.views.View.{View}
@@ -26,7 +26,7 @@ abbrev St : Type 0
 St = State (Option Parcel) View
 
 -- a ring shows what is known of its two roles
-ring_shown : (key : Key) (s : St) (sh : Shows key s) (p q : ℕ) → IsPair key.roles p q → RingShown key s p q (sh.known p) (sh.known q)
+ring_shown : (key : Key) (s : St) (sh : RingsShow key s) (p q : ℕ) → IsPair key.roles p q → RingShown key s p q (sh.known p) (sh.known q)
 ring_shown key s sh p q pair =
     let f : RingFacts = ring_facts key.roles key.capacity s.words s.homes p q (sh.known p) (sh.known q) in
     let r : RingRule key.capacity f = sh.rings p q pair.sender pair.receiver pair.differ in
@@ -43,7 +43,7 @@ ring_shown key s sh p q pair =
     }
 
 -- a table shows a configuration that has the states and the queues of what is known of the roles
-shown_by : (key : Key) (t : St) (sh : Shows key t) (known : ℕ → Part) (c : Configuration) → ((r : ℕ) → r < key.roles → sh.known r ≡ known r)
+shown_by : (key : Key) (t : St) (sh : RingsShow key t) (known : ℕ → Part) (c : Configuration) → ((r : ℕ) → r < key.roles → sh.known r ≡ known r)
     → ((r : ℕ) → c.at r ≡ (known r).state)
     → ((p q : ℕ) → c.queue p q ≡ map message_of (drop (length (parcels_got p (known q).history)) (parcels_sent q (known p).history)))
     → IsLegal (machines_of key) (histories_of known) c → Shown key t c
@@ -57,7 +57,7 @@ shown_by key t sh known c same states queues legal = record {
   reachable = reached (machines_of key) (histories_of known) c legal;
 }
 
-pub shown : (key : Key) (s : St) → Shows key s → (c : Configuration) × Shown key s c
+pub shown : (key : Key) (s : St) → RingsShow key s → (c : Configuration) × Shown key s c
 shown key s sh = (configuration_of sh.known, shown_by key s sh sh.known (configuration_of sh.known) (λ r l. refl) (λ r. refl) (λ p q. refl) sh.legal)
 
 -- two configurations that a table shows are the same, since each role has one view
@@ -85,7 +85,7 @@ spoken_once n o o' k k' views a b r l =
     sym e.3 ∙ ap (λ (v : View). the_part r v.parts) (sym view) ∙ f.3
 
 -- the views speak for what a shown configuration knows
-spoken_shown : (key : Key) (s : St) (c : Configuration) (sh : Shows key s) (x : Shown key s c) → Spoken key.roles sh.owner x.known s.views
+spoken_shown : (key : Key) (s : St) (c : Configuration) (sh : RingsShow key s) (x : Shown key s c) → Spoken key.roles sh.owner x.known s.views
 spoken_shown key s c sh x = record {
   each = λ r l. let e = sh.spoken.each r l in let a = x.spoken r l in
       let seat : sh.owner r ≡ a.0 = a.5 (sh.owner r) e.0 e.1 e.2 in
@@ -94,7 +94,7 @@ spoken_shown key s c sh x = record {
   only = sh.spoken.only;
 }
 
-module _ (key : Key) (s t : St) (c : Configuration) (sh : Shows key s) (th : Shows key t) (x : Shown key s c) where
+module _ (key : Key) (s t : St) (c : Configuration) (sh : RingsShow key s) (th : RingsShow key t) (x : Shown key s c) where
   -- where all views know the same, the same is shown
   stays : (o : ℕ → ℕ) → Spoken key.roles o x.known t.views → Shown key t c
   stays o sp = shown_by key t th x.known c (spoken_once key.roles th.owner o th.known x.known t.views th.spoken sp) x.states x.queues x.legal
@@ -144,13 +144,13 @@ module _ (key : Key) (s t : St) (c : Configuration) (sh : Shows key s) (th : Sho
 
   module _ (p q : ℕ) (pair : IsPair key.roles p q) where
     pub loads_head : LoadsHeadOf key s t p q → Shown key t c
-    loads_head l = let n : ℕ = slice_index s.words (head_of key.roles p q) in let a : Part = l.knew in let role = role_of_knew l.moves in
+    loads_head l = let n : ℕ = slice_index s.words (head_word_of key.roles p q) in let a : Part = l.knew in let role = role_of_knew l.moves in
         ⊎_elim
-        (λ is. looks p a l.knows (head_of key.roles p q) n pair.sender (ap (λ (z : Part). z.role) is ∙ role) l.moves (ap (λ (z : Part). z.state) is) (ap (λ (z : Part). z.history) is))
-        (λ is. looks p a l.knows (head_of key.roles p q) n pair.sender (ap (λ (z : Part). z.role) is ∙ role) l.moves (ap (λ (z : Part). z.state) is) (ap (λ (z : Part). z.history) is))
+        (λ is. looks p a l.knows (head_word_of key.roles p q) n pair.sender (ap (λ (z : Part). z.role) is ∙ role) l.moves (ap (λ (z : Part). z.state) is) (ap (λ (z : Part). z.history) is))
+        (λ is. looks p a l.knows (head_word_of key.roles p q) n pair.sender (ap (λ (z : Part). z.role) is ∙ role) l.moves (ap (λ (z : Part). z.state) is) (ap (λ (z : Part). z.history) is))
         l.looks
       where
-        role_of_knew : Moves s t p (head_of key.roles p q) (slice_index s.words (head_of key.roles p q)) l.knew l.knows → l.knew.role ≡ p
+        role_of_knew : Moves s t p (head_word_of key.roles p q) (slice_index s.words (head_word_of key.roles p q)) l.knew l.knows → l.knew.role ≡ p
         role_of_knew m = ap (λ (z : Part). z.role) (sym m.knew) ∙ the_role p m.view.parts m.speaks
 
     pub loads_tail : LoadsTailOf key s t p q → Shown key t c
@@ -187,7 +187,7 @@ module _ (key : Key) (s t : St) (c : Configuration) (sh : Shows key s) (th : Sho
     stores_head m l =
         let ms : List Machine_data = machines_of key in
         let b : Part = getting p m l.next l.knew in
-        let w : ℕ = head_of key.roles p q in
+        let w : ℕ = head_word_of key.roles p q in
         let new : ℕ = slice_index s.words w + 1 in
         let role : b.role ≡ q = ap (λ (z : Part). z.role) (sym l.moves.knew) ∙ the_role q l.moves.view.parts l.moves.speaks in
         let knew : l.knew ≡ x.known q = here q l.knew b w new pair.receiver role l.moves in
@@ -195,7 +195,7 @@ module _ (key : Key) (s t : St) (c : Configuration) (sh : Shows key s) (th : Sho
         let picked : (place : ℕ) × (slice_get l.may.arms place ≡ Some l.may.arm) × (l.may.arm.label ≡ m.label) = (l.may.place, l.may.picks, l.may.same_label) in
         let takes = ap (λ (z : Part). state_of (slice_get ms q) z.state) (sym knew) ∙ l.may.takes in
         let history : b.history ≡ (x.known q).history ++ got_act p m ∷ [] = ap (λ (z : Part). z.history ++ got_act p m ∷ []) knew in
-        let first = (x.rings p q pair).takes m (ap (λ (z : Part). taken_from p z.middle) (sym knew) ∙ ap (taken_from p) l.middle ∙ taken_here p m) in
+        let first = (x.rings p q pair).takes m (ap (λ (z : Part). parcel_in_hand p z.middle) (sym knew) ∙ ap (parcel_in_hand p) l.middle ∙ taken_here p m) in
         let told = receives ms x.known p q pair.differ m l.may.arms l.may.arm picked l.may.has_sort b takes l.may.goes history first in
         let lived = legal_got ms x.known p q pair.differ m l.may.arms l.may.arm picked l.may.has_sort b legal_known takes l.may.goes history first in (
           configuration_of known,

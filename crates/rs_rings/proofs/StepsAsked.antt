@@ -13,9 +13,9 @@ use Rattle.rs_model.specs.declared.machines.State.{State}
 use Rattle.rs_model.specs.Data.{Machine_data}
 use Rattle.rs_core.specs.Configurations.{state_of}
 use Rattle.rs_core.specs.Core.{arm_with}
-use Rattle.rs_rings.specs.Acts.{numbered, sent_act, got_act, Happened, MayPut, MayTake, parcels_sent, parcels_got}
-use Rattle.rs_rings.specs.Places.{head_of, tail_of, place_of}
-use Rattle.rs_rings.specs.Rule.{Shows, machines_of}
+use Rattle.rs_rings.specs.Acts.{role_of_number, sent_act, got_act, Happened, MayPut, MayTake, parcels_sent, parcels_got}
+use Rattle.rs_rings.specs.Places.{head_word_of, tail_of, place_of}
+use Rattle.rs_rings.specs.Rule.{RingsShow, machines_of}
 use Rattle.rs_rings.specs.Steps.{HasFittingArm, Call, LoadsHead, StoresTail, LoadsTail, StoresHead, GivesFilled, GivesEmptied, own}
 use Rattle.rs_rings.specs.Told.{TakesFrom, arms_in, IsAfter}
 use Rattle.rs_rings.specs.Views.{speaks, the_part, with_part, sending, taking, getting}
@@ -50,27 +50,27 @@ module _ (key : Key) (w : Call) (n cap p q : ℕ) (kn : key.roles ≡ n) (kc : k
   lift : (F : ℕ → ℕ → Call → Type 0) → F key.roles key.capacity (named key.roles key.capacity p q w.next w.arms (machines_of key)) → F n cap w
   lift F x = subst (λ (z : ℕ × ℕ × Call). F z.0 z.1 z.2) (λ i. (kn i, kc i, (let e : named key.roles key.capacity p q w.next w.arms (machines_of key) ≡ w = (λ j. named (kn j) (kc j) p q w.next w.arms (machines_of key)) ∙ sym (is_named w n cap p q (machines_of key) nm) in e) i)) x
 
-  pub head_asks : (i : ℕ) → i ≡ head_of n p q → (me : M) → speaks p me.0.parts ≡ true → q < n → (the_part p me.0.parts).middle ≡ Idle
-      → Allows (Shows key) slots id me i (λ k. k) (LoadsHead w (step slots i 0 0 none) me)
-  head_asks i at me says below idle = subst (λ (i : ℕ). Allows (Shows key) slots id me i (λ k. k) (LoadsHead w (step slots i 0 0 none) me)) (sym at) (lift (λ a b u. q < a → Allows (Shows key) slots id me (head_of a p q) (λ k. k) (LoadsHead u (step slots (head_of a p q) 0 0 none) me))
+  pub head_asks : (i : ℕ) → i ≡ head_word_of n p q → (me : M) → speaks p me.0.parts ≡ true → q < n → (the_part p me.0.parts).middle ≡ Idle
+      → Allows (RingsShow key) slots id me i (λ k. k) (LoadsHead w (step slots i 0 0 none) me)
+  head_asks i at me says below idle = subst (λ (i : ℕ). Allows (RingsShow key) slots id me i (λ k. k) (LoadsHead w (step slots i 0 0 none) me)) (sym at) (lift (λ a b u. q < a → Allows (RingsShow key) slots id me (head_word_of a p q) (λ k. k) (LoadsHead u (step slots (head_word_of a p q) 0 0 none) me))
       (λ below'. sees_head key slots id me p q w.next w.arms apart says below' idle) below)
 
-  pub tail_asks : (i : ℕ) → i ≡ tail_of n p q → (me : M) → speaks q me.0.parts ≡ true → p < n → (the_part q me.0.parts).middle ≡ Idle → state_of (slice_get (machines_of key) q) (the_part q me.0.parts).state ≡ Some (Takes (numbered p) w.arms)
-      → Allows (Shows key) slots id me i (λ k. k) (LoadsTail w (step slots i 0 0 none) me)
-  tail_asks i at me says low idle stands = subst (λ (i : ℕ). Allows (Shows key) slots id me i (λ k. k) (LoadsTail w (step slots i 0 0 none) me)) (sym at) (lift (λ a b u. p < a → Allows (Shows key) slots id me (tail_of a p q) (λ k. k) (LoadsTail u (step slots (tail_of a p q) 0 0 none) me))
+  pub tail_asks : (i : ℕ) → i ≡ tail_of n p q → (me : M) → speaks q me.0.parts ≡ true → p < n → (the_part q me.0.parts).middle ≡ Idle → state_of (slice_get (machines_of key) q) (the_part q me.0.parts).state ≡ Some (Takes (role_of_number p) w.arms)
+      → Allows (RingsShow key) slots id me i (λ k. k) (LoadsTail w (step slots i 0 0 none) me)
+  tail_asks i at me says low idle stands = subst (λ (i : ℕ). Allows (RingsShow key) slots id me i (λ k. k) (LoadsTail w (step slots i 0 0 none) me)) (sym at) (lift (λ a b u. p < a → Allows (RingsShow key) slots id me (tail_of a p q) (λ k. k) (LoadsTail u (step slots (tail_of a p q) 0 0 none) me))
       (λ low'. sees_tail key slots id me p q w.next w.arms apart says low' idle stands) low)
 
   pub store_asks : (i : ℕ) → i ≡ tail_of n p q → (me : M) (v : View) (cs : List (ℕ × Option Parcel)) (sent new : ℕ) (x : Parcel) → speaks p v.parts ≡ true → q < n → (the_part p v.parts).middle ≡ Putting q → sent ≡ length (parcels_sent q (the_part p v.parts).history) → new ≡ sent + 1 → MayPut (machines_of key) p q (the_part p v.parts).state x w.next
-      → me ≡ (v, (place_of n cap p q sent, Some x) ∷ cs) → Allows (Shows key) slots id me i (λ _. new) (λ _. StoresTail w (step slots i new 0 none) me new)
-  store_asks i at me v cs sent new x says below busy is more may here = subst (λ (i : ℕ). Allows (Shows key) slots id me i (λ _. new) (λ _. StoresTail w (step slots i new 0 none) me new)) (sym at) (lift (λ a b u. q < a → me ≡ (v, (place_of a b p q sent, Some x) ∷ cs) → Allows (Shows key) slots id me (tail_of a p q) (λ _. new) (λ _. StoresTail u (step slots (tail_of a p q) new 0 none) me new))
-      (λ below' here'. subst (λ (m : M). Allows (Shows key) slots id m (tail_of key.roles p q) (λ _. new) (λ _. StoresTail (named key.roles key.capacity p q w.next w.arms (machines_of key)) (step slots (tail_of key.roles p q) new 0 none) m new))
-      (sym (here' ∙ (λ i. (v, (place_of key.roles key.capacity p q (is i), Some x) ∷ cs)))) (subst (λ (nx : ℕ). Allows (Shows key) slots id (v, (place_of key.roles key.capacity p q (length (parcels_sent q (the_part p v.parts).history)), Some x) ∷ cs) (tail_of key.roles p q) (λ _. new) (λ _. StoresTail (named key.roles key.capacity p q nx w.arms (machines_of key)) (step slots (tail_of key.roles p q) new 0 none) (v, (place_of key.roles key.capacity p q (length (parcels_sent q (the_part p v.parts).history)), Some x) ∷ cs) new)) (sym may.goes) (stores_tail key slots id v cs p q new apart x w.arms may.arms may.arm (may.place, may.picks, may.same_label) may.has_sort says below' busy (more ∙ ap (λ (k : ℕ). k + 1) is) may.puts))) below here)
+      → me ≡ (v, (place_of n cap p q sent, Some x) ∷ cs) → Allows (RingsShow key) slots id me i (λ _. new) (λ _. StoresTail w (step slots i new 0 none) me new)
+  store_asks i at me v cs sent new x says below busy is more may here = subst (λ (i : ℕ). Allows (RingsShow key) slots id me i (λ _. new) (λ _. StoresTail w (step slots i new 0 none) me new)) (sym at) (lift (λ a b u. q < a → me ≡ (v, (place_of a b p q sent, Some x) ∷ cs) → Allows (RingsShow key) slots id me (tail_of a p q) (λ _. new) (λ _. StoresTail u (step slots (tail_of a p q) new 0 none) me new))
+      (λ below' here'. subst (λ (m : M). Allows (RingsShow key) slots id m (tail_of key.roles p q) (λ _. new) (λ _. StoresTail (named key.roles key.capacity p q w.next w.arms (machines_of key)) (step slots (tail_of key.roles p q) new 0 none) m new))
+      (sym (here' ∙ (λ i. (v, (place_of key.roles key.capacity p q (is i), Some x) ∷ cs)))) (subst (λ (nx : ℕ). Allows (RingsShow key) slots id (v, (place_of key.roles key.capacity p q (length (parcels_sent q (the_part p v.parts).history)), Some x) ∷ cs) (tail_of key.roles p q) (λ _. new) (λ _. StoresTail (named key.roles key.capacity p q nx w.arms (machines_of key)) (step slots (tail_of key.roles p q) new 0 none) (v, (place_of key.roles key.capacity p q (length (parcels_sent q (the_part p v.parts).history)), Some x) ∷ cs) new)) (sym may.goes) (stores_tail key slots id v cs p q new apart x w.arms may.arms may.arm (may.place, may.picks, may.same_label) may.has_sort says below' busy (more ∙ ap (λ (k : ℕ). k + 1) is) may.puts))) below here)
 
-  pub free_asks : (i : ℕ) → i ≡ head_of n p q → (me : M) (v : View) (cs : List (ℕ × Option Parcel)) (got new : ℕ) (x : Parcel) → speaks q v.parts ≡ true → p < n → (the_part q v.parts).middle ≡ Taking p x → got ≡ length (parcels_got p (the_part q v.parts).history) → new ≡ got + 1 → MayTake (machines_of key) q p (the_part q v.parts).state x w.next
-      → me ≡ (v, (place_of n cap p q got, None) ∷ cs) → Allows (Shows key) slots id me i (λ _. new) (λ _. StoresHead w (step slots i new 0 none) me new)
-  free_asks i at me v cs got new x says low busy is more may here = subst (λ (i : ℕ). Allows (Shows key) slots id me i (λ _. new) (λ _. StoresHead w (step slots i new 0 none) me new)) (sym at) (lift (λ a b u. p < a → me ≡ (v, (place_of a b p q got, None) ∷ cs) → Allows (Shows key) slots id me (head_of a p q) (λ _. new) (λ _. StoresHead u (step slots (head_of a p q) new 0 none) me new))
-      (λ low' here'. subst (λ (m : M). Allows (Shows key) slots id m (head_of key.roles p q) (λ _. new) (λ _. StoresHead (named key.roles key.capacity p q w.next w.arms (machines_of key)) (step slots (head_of key.roles p q) new 0 none) m new))
-      (sym (here' ∙ (λ i. (v, (place_of key.roles key.capacity p q (is i), None) ∷ cs)))) (subst (λ (nx : ℕ). Allows (Shows key) slots id (v, (place_of key.roles key.capacity p q (length (parcels_got p (the_part q v.parts).history)), None) ∷ cs) (head_of key.roles p q) (λ _. new) (λ _. StoresHead (named key.roles key.capacity p q nx w.arms (machines_of key)) (step slots (head_of key.roles p q) new 0 none) (v, (place_of key.roles key.capacity p q (length (parcels_got p (the_part q v.parts).history)), None) ∷ cs) new)) (sym may.goes) (stores_head key slots id v cs p q new apart x w.arms may.arms may.arm (may.place, may.picks, may.same_label) may.has_sort says low' busy (more ∙ ap (λ (k : ℕ). k + 1) is) may.takes))) low here)
+  pub free_asks : (i : ℕ) → i ≡ head_word_of n p q → (me : M) (v : View) (cs : List (ℕ × Option Parcel)) (got new : ℕ) (x : Parcel) → speaks q v.parts ≡ true → p < n → (the_part q v.parts).middle ≡ Taking p x → got ≡ length (parcels_got p (the_part q v.parts).history) → new ≡ got + 1 → MayTake (machines_of key) q p (the_part q v.parts).state x w.next
+      → me ≡ (v, (place_of n cap p q got, None) ∷ cs) → Allows (RingsShow key) slots id me i (λ _. new) (λ _. StoresHead w (step slots i new 0 none) me new)
+  free_asks i at me v cs got new x says low busy is more may here = subst (λ (i : ℕ). Allows (RingsShow key) slots id me i (λ _. new) (λ _. StoresHead w (step slots i new 0 none) me new)) (sym at) (lift (λ a b u. p < a → me ≡ (v, (place_of a b p q got, None) ∷ cs) → Allows (RingsShow key) slots id me (head_word_of a p q) (λ _. new) (λ _. StoresHead u (step slots (head_word_of a p q) new 0 none) me new))
+      (λ low' here'. subst (λ (m : M). Allows (RingsShow key) slots id m (head_word_of key.roles p q) (λ _. new) (λ _. StoresHead (named key.roles key.capacity p q w.next w.arms (machines_of key)) (step slots (head_word_of key.roles p q) new 0 none) m new))
+      (sym (here' ∙ (λ i. (v, (place_of key.roles key.capacity p q (is i), None) ∷ cs)))) (subst (λ (nx : ℕ). Allows (RingsShow key) slots id (v, (place_of key.roles key.capacity p q (length (parcels_got p (the_part q v.parts).history)), None) ∷ cs) (head_word_of key.roles p q) (λ _. new) (λ _. StoresHead (named key.roles key.capacity p q nx w.arms (machines_of key)) (step slots (head_word_of key.roles p q) new 0 none) (v, (place_of key.roles key.capacity p q (length (parcels_got p (the_part q v.parts).history)), None) ∷ cs) new)) (sym may.goes) (stores_head key slots id v cs p q new apart x w.arms may.arms may.arm (may.place, may.picks, may.same_label) may.has_sort says low' busy (more ∙ ap (λ (k : ℕ). k + 1) is) may.takes))) low here)
 
   -- the same, of what a load told
   pub head_loaded : (st : Step (Option Parcel)) (m m' : M) (r : ℕ) → LoadsHead w st m r m' → LoadsHead (named n cap p q w.next w.arms (machines_of key)) st m r m'
@@ -109,16 +109,16 @@ took m m' p q r k s x y res v a was got now is =
 pub took_some : (m : M) (k s : ℕ) (x : Parcel) (res : Option Parcel) (u : View) → m ≡ (u, (k, Some x) ∷ []) → m.1 ≡ (s, res) ∷ rest m.1 → res ≡ None → ⊥
 took_some m k s x res u was got none' = let l : (k, Some x) ∷ [] ≡ (s, res) ∷ rest m.1 = sym (ap (λ (z : M). z.1) was) ∙ got in let pair : pairing k (Some x) ≡ pairing s res = cc in let same : Some x ≡ res = ap (λ (z : ℕ × Option Parcel). z.1) pair in let no : Some x ≡ None = same ∙ none' in cc
 
-pub stands_from : (o : Option State) (p : ℕ) (arms : List Arm) → TakesFrom o p → IfSome o (λ s. arms ≡ arms_in s) → o ≡ Some (Takes (numbered p) arms)
+pub stands_from : (o : Option State) (p : ℕ) (arms : List Arm) → TakesFrom o p → IfSome o (λ s. arms ≡ arms_in s) → o ≡ Some (Takes (role_of_number p) arms)
 stands_from None p arms t i = absurd t
 stands_from (Some Done) p arms t i = absurd t
 stands_from (Some (Puts q as')) p arms t i = absurd t
-stands_from (Some (Takes r as')) p arms t i = λ k. Some (Takes (numbered (t k)) (sym i k))
+stands_from (Some (Takes r as')) p arms t i = λ k. Some (Takes (role_of_number (t k)) (sym i k))
 
 pub found_next : (o : Option Arm) (arm : Arm) (next : ℕ) → o ≡ Some arm → IfSome o (λ a. next ≡ a.next) → next ≡ arm.next
 found_next o arm next e h = subst (λ (o : Option Arm). IfSome o (λ a. next ≡ a.next)) e h
 
-pub may_take : (ms : List Machine_data) (p q s : ℕ) (m : Parcel) (next : ℕ) (arms : List Arm) → state_of (slice_get ms q) s ≡ Some (Takes (numbered p) arms) → HasFittingArm arms m → IfSome (arm_with arms m.label) (λ a. next ≡ a.next) → MayTake ms q p s m next
+pub may_take : (ms : List Machine_data) (p q s : ℕ) (m : Parcel) (next : ℕ) (arms : List Arm) → state_of (slice_get ms q) s ≡ Some (Takes (role_of_number p) arms) → HasFittingArm arms m → IfSome (arm_with arms m.label) (λ a. next ≡ a.next) → MayTake ms q p s m next
 may_take ms p q s m next arms st f h = let at = arm_at arms m.label f.arm f.chosen in
     record { arms = arms; place = at.0; arm = f.arm; takes = st; picks = at.1; same_label = at.2; has_sort = f.has; goes = found_next (arm_with arms m.label) f.arm next f.chosen h }
 

@@ -12,8 +12,8 @@ use Rattle.rs_core.specs.Histories.{Action, Sent, Got, History, action_of, IsLeg
 use Rattle.rs_slots.specs.declared.parcels.Parcel.{Parcel}
 
 -- the role with that number
-abbrev pub numbered : ℕ → Role
-numbered p = record { 0 = p }
+abbrev pub role_of_number : ℕ → Role
+role_of_number p = record { 0 = p }
 
 -- the parcel, as a message under way
 abbrev pub message_of : Parcel → Message
@@ -21,11 +21,11 @@ message_of x = record { label = x.label; value = x.value }
 
 -- what a role did that sent the parcel to q, or that got it from p
 abbrev pub sent_act : ℕ → Parcel → Action
-sent_act q x = Sent (numbered q) x.label x.value
+sent_act q x = Sent (role_of_number q) x.label x.value
 
 -- .. that got the parcel from p
 abbrev pub got_act : ℕ → Parcel → Action
-got_act p x = Got (numbered p) x.label x.value
+got_act p x = Got (role_of_number p) x.label x.value
 
 -- the parcels that a role has sent to q, by its history, in order
 abbrev pub parcel_sent : ℕ → Action → List Parcel
@@ -51,7 +51,7 @@ pub record MayPut (machines : List Machine_data) (p q s : ℕ) (x : Parcel) (nex
   pub arms : List Arm
   pub place : ℕ
   pub arm : Arm
-  pub puts : state_of (slice_get machines p) s ≡ Some (Puts (numbered q) arms)
+  pub puts : state_of (slice_get machines p) s ≡ Some (Puts (role_of_number q) arms)
   pub picks : slice_get arms place ≡ Some arm
   pub same_label : arm.label ≡ x.label
   pub has_sort : HasSort x.value arm.sort
@@ -62,7 +62,7 @@ pub record MayTake (machines : List Machine_data) (q p s : ℕ) (x : Parcel) (ne
   pub arms : List Arm
   pub place : ℕ
   pub arm : Arm
-  pub takes : state_of (slice_get machines q) s ≡ Some (Takes (numbered p) arms)
+  pub takes : state_of (slice_get machines q) s ≡ Some (Takes (role_of_number p) arms)
   pub picks : slice_get arms place ≡ Some arm
   pub same_label : arm.label ≡ x.label
   pub has_sort : HasSort x.value arm.sort

@@ -5,8 +5,8 @@ use Rattle.rs_core.specs.Configurations.{Configuration}
 use Rattle.rs_core.specs.Histories.{IsLegal}
 use Rattle.rs_core.specs.Safety.{AllEnded}
 use Rattle.rs_slots.specs.declared.parcels.Parcel.{Parcel}
-use Rattle.rs_rings.specs.Acts.{numbered, message_of, parcels_sent, parcels_got}
-use Rattle.rs_rings.specs.Views.{state_in, history_in, left_in}
+use Rattle.rs_rings.specs.Acts.{role_of_number, message_of, parcels_sent, parcels_got}
+use Rattle.rs_rings.specs.Views.{state_in, history_in, parcels_under_way}
 use Rattle.rs_rings.specs.declared.loose.Loose.{Loose}
 use Rattle.rs_rings.specs.declared.views.View.{View}
 
@@ -22,7 +22,7 @@ pub record IsLeft (c : Closed_data) : Type 0 where
   pub legal : IsLegal c.machines (history_in c.last) end
   pub states : (r : ℕ) → r < length c.machines → end.at r ≡ state_in c.last r
   pub queues : (p q : ℕ) → p < length c.machines → q < length c.machines → p ≢ q
-      → (parcels_sent q (history_in c.last p) ≡ parcels_got p (history_in c.last q) ++ left_in c.last p q) × (end.queue p q ≡ map message_of (left_in c.last p q))
+      → (parcels_sent q (history_in c.last p) ≡ parcels_got p (history_in c.last q) ++ parcels_under_way c.last p q) × (end.queue p q ≡ map message_of (parcels_under_way c.last p q))
 
 -- the histories are legal, and lead to a configuration in which all have ended and all queues are empty; and what each role
 -- has sent to another is what the other has got, in order
@@ -42,10 +42,10 @@ receiver_of roles ring = if nat_lt (ring % (roles - 1)) (sender_of roles ring) t
 
 -- the parcel, left in the ring from p to q
 abbrev pub loose_from : ℕ → ℕ → Parcel → Loose
-loose_from p q x = record { sender = numbered p; receiver = numbered q; parcel = x }
+loose_from p q x = record { sender = role_of_number p; receiver = role_of_number q; parcel = x }
 
 -- what is left in the first so many rings, each ring's oldest parcel first; rings are ordered by sender, and then by
 -- receiver
 abbrev pub loose_in : View → ℕ → ℕ → List Loose
 loose_in v roles zero = []
-loose_in v roles (suc i) = loose_in v roles i ++ map (loose_from (sender_of roles i) (receiver_of roles i)) (left_in v (sender_of roles i) (receiver_of roles i))
+loose_in v roles (suc i) = loose_in v roles i ++ map (loose_from (sender_of roles i) (receiver_of roles i)) (parcels_under_way v (sender_of roles i) (receiver_of roles i))

@@ -7,7 +7,7 @@ use Rattle.rs_slots.specs.Places.{ring_of, IsPair}
 use Rattle.rs_slots.specs.declared.parcels.Parcel.{Parcel}
 use Rattle.rs_rings.specs.Acts.{parcels_got}
 use Rattle.rs_rings.specs.Closed.{loose_from}
-use Rattle.rs_rings.specs.Views.{history_in, left_in}
+use Rattle.rs_rings.specs.Views.{history_in, parcels_under_way}
 use Rattle.rs_rings.specs.declared.loose.Loose.{Loose}
 use Rattle.rs_rings.specs.declared.views.View.{View}
 
@@ -17,14 +17,14 @@ content_of p q None = []
 content_of p q (Some x) = loose_from p q x ∷ []
 
 -- .. where there is such a slot
-abbrev pub found_one : ℕ → ℕ → maybe.Option (Option Parcel) → List Loose
-found_one p q none = []
-found_one p q (some content) = content_of p q content
+abbrev pub loose_in_slot : ℕ → ℕ → maybe.Option (Option Parcel) → List Loose
+loose_in_slot p q none = []
+loose_in_slot p q (some content) = content_of p q content
 
 -- .. and in m slots, beginning with the one at `from`
-abbrev pub found : List (Option Parcel) → ℕ → ℕ → ℕ → ℕ → List Loose
-found xs p q from zero = []
-found xs p q from (suc m) = found xs p q from m ++ found_one p q (get_elem? xs (from + m))
+abbrev pub loose_in_slots : List (Option Parcel) → ℕ → ℕ → ℕ → ℕ → List Loose
+loose_in_slots xs p q from zero = []
+loose_in_slots xs p q from (suc m) = loose_in_slots xs p q from m ++ loose_in_slot p q (get_elem? xs (from + m))
 
 -- the places from `low` up to `high` are empty, and no other has changed
 pub record Emptied (old new : List Bool) (low high : ℕ) : Type 0 where
@@ -38,4 +38,4 @@ RingHolds xs capacity base got left = (length left ≤ capacity) × ((i : ℕ) �
 -- each ring's slots hold what is left in it
 abbrev pub AllHold : List (Option Parcel) → ℕ → ℕ → View → Type 0
 AllHold xs roles capacity v =
-    (p q : ℕ) → IsPair roles p q → RingHolds xs capacity (ring_of roles p q * capacity) (length (parcels_got p (history_in v q))) (left_in v p q)
+    (p q : ℕ) → IsPair roles p q → RingHolds xs capacity (ring_of roles p q * capacity) (length (parcels_got p (history_in v q))) (parcels_under_way v p q)

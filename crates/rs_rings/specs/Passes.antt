@@ -8,7 +8,7 @@ use Rattle.rs_model.specs.declared.machines.State.TheVariants.{Takes}
 use Rattle.rs_core.specs.Configurations.{state_of}
 use Rattle.rs_slots.specs.declared.parcels.Parcel.{Parcel}
 use Rattle.rs_rings.specs.Acts.{sent_act, got_act, parcels_sent, parcels_got, Happened, MayPut, MayTake}
-use Rattle.rs_rings.specs.Views.{speaks, the_part, part_of, last_found, looked_head, gaining, sending, looked_tail, taking, getting, KnowsGot, KnowsSent, KnowsOldest}
+use Rattle.rs_rings.specs.Views.{speaks, the_part, part_of, last_found, part_with_room, gaining, sending, part_with_parcel, taking, getting, KnowsGot, KnowsSent, KnowsOldest}
 use Rattle.rs_rings.specs.declared.answers.Put.{Put}
 use Rattle.rs_rings.specs.declared.answers.Put.TheVariants.{Done, Full}
 use Rattle.rs_rings.specs.declared.answers.Got.{Got}
@@ -59,23 +59,23 @@ pub record IsPut (machines : List Machine_data) (capacity p q : ℕ) (x : Parcel
 
 -- the ring from p to q was full: the one load read `taken`, p has sent so many, and that is the capacity more; x comes back. A
 -- pass that speaks for q too knows how many q has taken
-pub record IsFull (capacity p q : ℕ) (x : Parcel) (sent taken : ℕ) (back : Parcel) (v w : View) : Type 0 where
+pub record RingIsFull (capacity p q : ℕ) (x : Parcel) (sent taken : ℕ) (back : Parcel) (v w : View) : Type 0 where
   pub is_sent : sent ≡ length (parcels_sent q (part_of v p).history)
   pub full : sent ≡ taken + capacity
   pub not_less : last_found q (part_of v p).heads ≤ taken
   pub same : back ≡ x
-  pub changed : IsChanged p (looked_head q taken (part_of v p)) v w
+  pub changed : IsChanged p (part_with_room q taken (part_of v p)) v w
   pub knows : KnowsGot v p q taken
 
 -- what a put of x from p to q tells, by which the pass's view v became w
 abbrev pub PutTells : List Machine_data → ℕ → ℕ → ℕ → Parcel → View → View → Put → Type 0
 PutTells machines capacity p q x v w Done = IsPut machines capacity p q x v w
-PutTells machines capacity p q x v w (Full sent taken back) = IsFull capacity p q x sent taken back v w
+PutTells machines capacity p q x v w (Full sent taken back) = RingIsFull capacity p q x sent taken back v w
 
 -- q took x from p: the one load read the number `put` of parcels that p has put, which isn't what q has got; the receive
 -- happened, and q stands in the state `next`. A pass that speaks for p too knows that number, and that x is the oldest parcel
 -- under way
-pub record IsTaken (machines : List Machine_data) (q p : ℕ) (x : Parcel) (v w : View) : Type 0 where
+pub record ParcelIsTaken (machines : List Machine_data) (q p : ℕ) (x : Parcel) (v w : View) : Type 0 where
   pub put : ℕ
   pub next : ℕ
   pub not_less : last_found p (part_of v q).tails ≤ put
@@ -91,10 +91,10 @@ pub record IsTaken (machines : List Machine_data) (q p : ℕ) (x : Parcel) (v w 
 pub record IsEmpty (q p seen : ℕ) (v w : View) : Type 0 where
   pub is_got : seen ≡ length (parcels_got p (part_of v q).history)
   pub not_less : last_found p (part_of v q).tails ≤ seen
-  pub changed : IsChanged q (looked_tail p seen (part_of v q)) v w
+  pub changed : IsChanged q (part_with_parcel p seen (part_of v q)) v w
   pub knows : KnowsSent v p q seen
 
 -- what a look of q for a parcel from p tells, by which the pass's view v became w
 abbrev pub TakeTells : List Machine_data → ℕ → ℕ → View → View → Got → Type 0
-TakeTells machines q p v w (One x) = IsTaken machines q p x v w
+TakeTells machines q p v w (One x) = ParcelIsTaken machines q p x v w
 TakeTells machines q p v w (Empty seen) = IsEmpty q p seen v w

@@ -3,8 +3,8 @@ use Rattle.std.specs.Prelude.{ℕ}
 use Rattle.rs_slots.specs.Places.{ring_of, head_word, tail_word, slot_of}
 
 -- the head word of the ring from p to q
-abbrev pub head_of : ℕ → ℕ → ℕ → ℕ
-head_of roles p q = head_word (ring_of roles p q)
+abbrev pub head_word_of : ℕ → ℕ → ℕ → ℕ
+head_word_of roles p q = head_word (ring_of roles p q)
 
 -- its tail word
 abbrev pub tail_of : ℕ → ℕ → ℕ → ℕ

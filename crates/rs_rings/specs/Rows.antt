@@ -13,13 +13,13 @@ use Rattle.rs_rings.specs.declared.views.Part.{Part}
 use Rattle.rs_rings.specs.declared.views.View.{View}
 
 -- the row of role i, where there is one
-abbrev pub unboxed : Option (Box Row) → Option Row
-unboxed None = None
-unboxed (Some b) = Some b.value
+abbrev pub row_in_box : Option (Box Row) → Option Row
+row_in_box None = None
+row_in_box (Some b) = Some b.value
 
 -- .. among these rows
 abbrev pub row_at : List (Option (Box Row)) → ℕ → Option Row
-row_at items i = unboxed (slice_index_or items i None)
+row_at items i = row_in_box (slice_index_or items i None)
 
 -- the row with the next state, and with the number of parcels sent to q, or got from p
 abbrev pub with_sent_count : ℕ → ℕ → ℕ → Option Row → Option Row

@@ -12,8 +12,8 @@ use Rattle.rs_core.specs.Safety.{IsSafe}
 use Rattle.rs_slots.specs.Places.{ring_count}
 use Rattle.rs_slots.specs.declared.parcels.Parcel.{Parcel}
 use Rattle.rs_rings.specs.Acts.{message_of, parcels_sent, parcels_got}
-use Rattle.rs_rings.specs.Places.{head_of, tail_of, place_of}
-use Rattle.rs_rings.specs.Views.{last_found, is_putting, taken_from, speaks, the_part, first_parts}
+use Rattle.rs_rings.specs.Places.{head_word_of, tail_of, place_of}
+use Rattle.rs_rings.specs.Views.{last_found, is_putting, parcel_in_hand, speaks, the_part, first_parts}
 use Rattle.rs_rings.specs.declared.views.Key.{Key}
 use Rattle.rs_rings.specs.declared.views.Part.{Part}
 use Rattle.rs_rings.specs.declared.views.View.{View}
@@ -55,14 +55,14 @@ pub record RingRule (capacity : ℕ) (f : RingFacts) : Type 0 where
 abbrev pub ring_facts : ℕ → ℕ → List ℕ → List (maybe.Option (Option Parcel)) → ℕ → ℕ → Part → Part → RingFacts
 ring_facts roles capacity words homes p q a b = record {
   tail = slice_index words (tail_of roles p q);
-  head = slice_index words (head_of roles p q);
+  head = slice_index words (head_word_of roles p q);
   slot = λ k. get_elem? homes (place_of roles capacity p q k);
   sent = parcels_sent q a.history;
   got = parcels_got p b.history;
   seen_head = last_found q a.heads;
   seen_tail = last_found p b.tails;
   putting = is_putting q a.middle;
-  taking = taken_from p b.middle;
+  taking = parcel_in_hand p b.middle;
 }
 
 -- .. for each ordered pair of different roles
@@ -96,7 +96,7 @@ abbrev pub machines_of : Key → List Machine_data
 machines_of key = key.machines.items
 
 -- the rule: the views speak for each role once, the rings show what they know, and what they know is legal
-pub record Shows (key : Key) (s : State (Option Parcel) View) : Type 0 where
+pub record RingsShow (key : Key) (s : State (Option Parcel) View) : Type 0 where
   pub owner : ℕ → ℕ
   pub known : ℕ → Part
   pub roomy : 0 < key.capacity

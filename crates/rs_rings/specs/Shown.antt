@@ -8,9 +8,9 @@ use Rattle.rs_core.specs.Histories.{IsLegal}
 use Rattle.rs_slots.specs.Places.{IsPair}
 use Rattle.rs_slots.specs.declared.parcels.Parcel.{Parcel}
 use Rattle.rs_rings.specs.Acts.{message_of, parcels_sent, parcels_got, MayPut, MayTake}
-use Rattle.rs_rings.specs.Places.{head_of, tail_of, place_of}
+use Rattle.rs_rings.specs.Places.{head_word_of, tail_of, place_of}
 use Rattle.rs_rings.specs.Rule.{machines_of}
-use Rattle.rs_rings.specs.Views.{speaks, the_part, last_found, is_putting, taken_from, with_part, looked_head, gaining, sending, looked_tail, taking, getting, left_by, alone, joined, spent_view}
+use Rattle.rs_rings.specs.Views.{speaks, the_part, last_found, is_putting, parcel_in_hand, with_part, part_with_room, gaining, sending, part_with_parcel, taking, getting, view_without_role, alone, joint_view, spent_view}
 use Rattle.rs_rings.specs.declared.views.Key.{Key}
 use Rattle.rs_rings.specs.declared.views.Middle.TheVariants.{Putting, Taking}
 use Rattle.rs_rings.specs.declared.views.Part.{Part}
@@ -20,21 +20,21 @@ use Rattle.rs_rings.specs.declared.views.View.{View}
 pub record RingShown (key : Key) (s : State (Option Parcel) View) (p q : ℕ) (a b : Part) : Type 0 where
   -- the words count what p has sent and what q has got
   pub tail : slice_index s.words (tail_of key.roles p q) ≡ length (parcels_sent q a.history)
-  pub head : slice_index s.words (head_of key.roles p q) ≡ length (parcels_got p b.history)
+  pub head : slice_index s.words (head_word_of key.roles p q) ≡ length (parcels_got p b.history)
   pub got : length (parcels_got p b.history) ≤ length (parcels_sent q a.history)
   pub room : length (parcels_sent q a.history) ≤ length (parcels_got p b.history) + key.capacity
   -- the slots from head up to tail are at home and hold what was sent, but for that of the head in the middle of a take
   pub full : (k : ℕ) (x : Parcel) → length (parcels_got p b.history) ≤ k → get_elem? (parcels_sent q a.history) k ≡ some x
-      → (taken_from p b.middle ≡ None) ⊎ (k ≢ length (parcels_got p b.history))
+      → (parcel_in_hand p b.middle ≡ None) ⊎ (k ≢ length (parcels_got p b.history))
       → get_elem? s.homes (place_of key.roles key.capacity p q k) ≡ some (some (Some x))
   -- who is in the middle of a take takes the oldest parcel under way
-  pub takes : (x : Parcel) → taken_from p b.middle ≡ Some x → get_elem? (parcels_sent q a.history) (length (parcels_got p b.history)) ≡ some x
+  pub takes : (x : Parcel) → parcel_in_hand p b.middle ≡ Some x → get_elem? (parcels_sent q a.history) (length (parcels_got p b.history)) ≡ some x
   -- the others are at home and empty, but for that of the tail in the middle of a put
   pub free : (k : ℕ) → length (parcels_sent q a.history) ≤ k → k < length (parcels_got p b.history) + key.capacity
       → (is_putting q a.middle ≡ false) ⊎ (k ≢ length (parcels_sent q a.history))
       → get_elem? s.homes (place_of key.roles key.capacity p q k) ≡ some (some None)
   -- what was last read of a word is at most that word
-  pub read_head : last_found q a.heads ≤ slice_index s.words (head_of key.roles p q)
+  pub read_head : last_found q a.heads ≤ slice_index s.words (head_word_of key.roles p q)
   pub read_tail : last_found p b.tails ≤ slice_index s.words (tail_of key.roles p q)
 
 -- a table in the state s shows the configuration c: each role is spoken for by one view, its state in c is the one that the
@@ -69,8 +69,8 @@ pub record Moves (s t : State (Option Parcel) View) (r word new : ℕ) (a y : Pa
 pub record LoadsHeadOf (key : Key) (s t : State (Option Parcel) View) (p q : ℕ) : Type 0 where
   pub knew : Part
   pub knows : Part
-  pub looks : (knows ≡ looked_head q (slice_index s.words (head_of key.roles p q)) knew) ⊎ (knows ≡ gaining q (slice_index s.words (head_of key.roles p q)) knew)
-  pub moves : Moves s t p (head_of key.roles p q) (slice_index s.words (head_of key.roles p q)) knew knows
+  pub looks : (knows ≡ part_with_room q (slice_index s.words (head_word_of key.roles p q)) knew) ⊎ (knows ≡ gaining q (slice_index s.words (head_word_of key.roles p q)) knew)
+  pub moves : Moves s t p (head_word_of key.roles p q) (slice_index s.words (head_word_of key.roles p q)) knew knows
 
 -- p, in the middle of a put to q, stores the tail word, which is one more than before
 pub record StoresTailOf (key : Key) (s t : State (Option Parcel) View) (p q : ℕ) (x : Parcel) : Type 0 where
@@ -84,7 +84,7 @@ pub record StoresTailOf (key : Key) (s t : State (Option Parcel) View) (p q : �
 pub record LoadsTailOf (key : Key) (s t : State (Option Parcel) View) (p q : ℕ) : Type 0 where
   pub knew : Part
   pub knows : Part
-  pub looks : (knows ≡ looked_tail p (slice_index s.words (tail_of key.roles p q)) knew) ⊎ ((x : Parcel) × (knows ≡ taking p x (slice_index s.words (tail_of key.roles p q)) knew))
+  pub looks : (knows ≡ part_with_parcel p (slice_index s.words (tail_of key.roles p q)) knew) ⊎ ((x : Parcel) × (knows ≡ taking p x (slice_index s.words (tail_of key.roles p q)) knew))
   pub moves : Moves s t q (tail_of key.roles p q) (slice_index s.words (tail_of key.roles p q)) knew knows
 
 -- q, in the middle of a take from p, stores the head word, which is one more than before
@@ -93,7 +93,7 @@ pub record StoresHeadOf (key : Key) (s t : State (Option Parcel) View) (p q : �
   pub next : ℕ
   pub middle : knew.middle ≡ Taking p x
   pub may : MayTake (machines_of key) q p knew.state x next
-  pub moves : Moves s t q (head_of key.roles p q) (slice_index s.words (head_of key.roles p q) + 1) knew (getting p x next knew)
+  pub moves : Moves s t q (head_word_of key.roles p q) (slice_index s.words (head_word_of key.roles p q) + 1) knew (getting p x next knew)
 
 -- a view gives up role r to a new view; a view takes in another, which is spent. Words and slots stay.
 pub record SplitsOff (s t : State (Option Parcel) View) (r : ℕ) : Type 0 where
@@ -102,7 +102,7 @@ pub record SplitsOff (s t : State (Option Parcel) View) (r : ℕ) : Type 0 where
   pub there : get_elem? s.views seat ≡ some view
   pub speaks : speaks r view.parts ≡ true
   pub words : t.words ≡ s.words
-  pub views : t.views ≡ slice_set s.views seat (left_by r view) ++ alone r view ∷ []
+  pub views : t.views ≡ slice_set s.views seat (view_without_role r view) ++ alone r view ∷ []
 
 -- a view takes in another, which then speaks for no role
 pub record JoinsIn (s t : State (Option Parcel) View) : Type 0 where
@@ -114,4 +114,4 @@ pub record JoinsIn (s t : State (Option Parcel) View) : Type 0 where
   pub too : get_elem? s.views other ≡ some taken
   pub apart : other ≢ seat
   pub words : t.words ≡ s.words
-  pub views : t.views ≡ slice_set (slice_set s.views seat (joined view taken)) other spent_view
+  pub views : t.views ≡ slice_set (slice_set s.views seat (joint_view view taken)) other spent_view

@@ -8,7 +8,7 @@ use Rattle.rs_core.specs.Core.{arm_with}
 use Rattle.rs_slots.specs.declared.parcels.Parcel.{Parcel}
 use Rattle.rs_rings.specs.Acts.{sent_act, got_act, parcels_sent, parcels_got, Happened}
 use Rattle.rs_rings.specs.Places.{place_of}
-use Rattle.rs_rings.specs.Views.{the_part, last_found, with_part, looked_head, gaining, sending, looked_tail, taking, getting, KnowsGot, KnowsSent, KnowsOldest}
+use Rattle.rs_rings.specs.Views.{the_part, last_found, with_part, part_with_room, gaining, sending, part_with_parcel, taking, getting, KnowsGot, KnowsSent, KnowsOldest}
 use Rattle.rs_rings.specs.declared.views.Middle.{Middle}
 use Rattle.rs_rings.specs.declared.views.Middle.TheVariants.{Idle, Putting, Taking}
 use Rattle.rs_rings.specs.declared.views.Part.{Part}
@@ -51,7 +51,7 @@ slot_at w k = place_of w.roles w.capacity w.sender w.receiver k
 abbrev pub LoadsHead : Call → Step (Option Parcel) → Me (Option Parcel) View → ℕ → Me (Option Parcel) View → Type 0
 LoadsHead w st m r m' =
     (last_found w.receiver (own w.sender m).heads ≤ r) × (r ≤ sent_of w m) × (sent_of w m ≤ r + w.capacity)
-    × (sent_of w m ≡ r + w.capacity → m' ≡ (with_part w.sender (looked_head w.receiver r (own w.sender m)) m.0, m.1))
+    × (sent_of w m ≡ r + w.capacity → m' ≡ (with_part w.sender (part_with_room w.receiver r (own w.sender m)) m.0, m.1))
     × (sent_of w m ≢ r + w.capacity → m' ≡ (with_part w.sender (gaining w.receiver r (own w.sender m)) m.0, (slot_at w (sent_of w m), None) ∷ m.1))
     × KnowsGot m.0 w.sender w.receiver r
 
@@ -70,7 +70,7 @@ StoresTail w st m r m' = GivesFilled w m m' m.1
 abbrev pub LoadsTail : Call → Step (Option Parcel) → Me (Option Parcel) View → ℕ → Me (Option Parcel) View → Type 0
 LoadsTail w st m r m' =
     (last_found w.sender (own w.receiver m).tails ≤ r) × (got_of w m ≤ r) × (r ≤ got_of w m + w.capacity)
-    × (got_of w m ≡ r → m' ≡ (with_part w.receiver (looked_tail w.sender r (own w.receiver m)) m.0, m.1))
+    × (got_of w m ≡ r → m' ≡ (with_part w.receiver (part_with_parcel w.sender r (own w.receiver m)) m.0, m.1))
     × (got_of w m ≢ r → (x : Parcel) × HasFittingArm w.arms x × (m' ≡ (with_part w.receiver (taking w.sender x r (own w.receiver m)) m.0, (slot_at w (got_of w m), Some x) ∷ m.1)) × KnowsOldest m.0 w.sender w.receiver x)
     × KnowsSent m.0 w.sender w.receiver r
 

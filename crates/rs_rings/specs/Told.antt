@@ -11,7 +11,7 @@ use Rattle.rs_core.specs.Safety.{AllEnded}
 use Rattle.rs_slots.specs.declared.parcels.Parcel.{Parcel}
 use Rattle.rs_rings.specs.Acts.{message_of, sent_act, got_act, parcels_sent, parcels_got, MayTake, Happened}
 use Rattle.rs_rings.specs.Steps.{HasFittingArm}
-use Rattle.rs_rings.specs.Views.{the_part, speaks, last_found, with_part, looked_head, gaining, sending, looked_tail, taking, getting, history_in, left_in, KnowsGot, KnowsSent, KnowsOldest}
+use Rattle.rs_rings.specs.Views.{the_part, speaks, last_found, with_part, part_with_room, gaining, sending, part_with_parcel, taking, getting, history_in, parcels_under_way, KnowsGot, KnowsSent, KnowsOldest}
 use Rattle.rs_rings.specs.declared.answers.Put.{Put}
 use Rattle.rs_rings.specs.declared.answers.Put.TheVariants as put
 use Rattle.rs_rings.specs.declared.answers.Looked.{Looked}
@@ -47,17 +47,17 @@ HasPut machines next p q capacity sent x a v m put.Done =
     (n : ℕ) × (last_found q a.heads ≤ n) × (sent ≢ n + capacity) × Happened machines p a.history (sent_act q x) × IsAfter p (sending q x next (gaining q n a)) v m
     × KnowsGot v p q n × (n ≤ sent) × (sent < n + capacity)
 HasPut machines next p q capacity sent x a v m (put.Full s n back) =
-    (s ≡ sent) × (sent ≡ n + capacity) × (back ≡ x) × (last_found q a.heads ≤ n) × IsAfter p (looked_head q n a) v m × KnowsGot v p q n
+    (s ≡ sent) × (sent ≡ n + capacity) × (back ≡ x) × (last_found q a.heads ≤ n) × IsAfter p (part_with_room q n a) v m × KnowsGot v p q n
 
 -- a look of q for a parcel from p, of which q has got so many before; where one is found, its slot k is still with the seat
 abbrev pub HasLooked : List Arm → ℕ → ℕ → ℕ → ℕ → Part → View → Me (Option Parcel) View → Looked → Type 0
-HasLooked arms p q k got a v m (Nothing n) = (n ≡ got) × (last_found p a.tails ≤ n) × IsAfter q (looked_tail p n a) v m × KnowsSent v p q n
+HasLooked arms p q k got a v m (Nothing n) = (n ≡ got) × (last_found p a.tails ≤ n) × IsAfter q (part_with_parcel p n a) v m × KnowsSent v p q n
 HasLooked arms p q k got a v m (Found n x) =
     (got ≢ n) × (last_found p a.tails ≤ n) × HasFittingArm arms x × (m ≡ (with_part q (taking p x n a) v, (k, None) ∷ [])) × KnowsSent v p q n × KnowsOldest v p q x
 
 -- the whole take
 abbrev pub HasTaken : List Machine_data → ℕ → ℕ → ℕ → Part → View → Me (Option Parcel) View → Took → Type 0
-HasTaken machines p q got a v m (took.Nothing n) = (n ≡ got) × (last_found p a.tails ≤ n) × IsAfter q (looked_tail p n a) v m × KnowsSent v p q n
+HasTaken machines p q got a v m (took.Nothing n) = (n ≡ got) × (last_found p a.tails ≤ n) × IsAfter q (part_with_parcel p n a) v m × KnowsSent v p q n
 HasTaken machines p q got a v m (took.One x next) =
     (n : ℕ) × (got ≢ n) × (last_found p a.tails ≤ n) × MayTake machines q p a.state x next × Happened machines q a.history (got_act p x) × IsAfter q (getting p x next (taking p x n a)) v m
     × KnowsSent v p q n × KnowsOldest v p q x
@@ -69,6 +69,6 @@ pub record Ends (machines : List Machine_data) (roles : ℕ) (v : View) : Type 0
   pub legal : IsLegal machines (history_in v) last
   pub states : (r : ℕ) → r < roles → last.at r ≡ (the_part r v.parts).state
   pub queues : (p q : ℕ) → p < roles → q < roles → p ≢ q
-      → (parcels_sent q (history_in v p) ≡ parcels_got p (history_in v q) ++ left_in v p q) × (last.queue p q ≡ map message_of (left_in v p q))
+      → (parcels_sent q (history_in v p) ≡ parcels_got p (history_in v q) ++ parcels_under_way v p q) × (last.queue p q ≡ map message_of (parcels_under_way v p q))
   pub over : ((r : ℕ) → r < roles → state_of (slice_get machines r) (the_part r v.parts).state ≡ Some Done)
       → AllEnded machines last × ((p q : ℕ) → p < roles → q < roles → p ≢ q → parcels_sent q (history_in v p) ≡ parcels_got p (history_in v q))

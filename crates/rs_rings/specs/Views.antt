@@ -22,10 +22,10 @@ is_putting q (Putting r) = q == r
 is_putting q (Taking r x) = false
 
 -- the parcel from p that the role is in the middle of taking
-abbrev pub taken_from : ℕ → Middle → Option Parcel
-taken_from p Idle = None
-taken_from p (Putting r) = None
-taken_from p (Taking r x) = if p == r then Some x else None
+abbrev pub parcel_in_hand : ℕ → Middle → Option Parcel
+parcel_in_hand p Idle = None
+parcel_in_hand p (Putting r) = None
+parcel_in_hand p (Taking r x) = if p == r then Some x else None
 
 -- whether some part is that of role r, and the first that is
 abbrev pub speaks : ℕ → List Part → Bool
@@ -58,8 +58,8 @@ abbrev pub history_in : View → ℕ → History
 history_in v r = (the_part r v.parts).history
 
 -- the parcels that p has sent to q and that q hasn't got, by a view that speaks for both
-abbrev pub left_in : View → ℕ → ℕ → List Parcel
-left_in v p q = drop (length (parcels_got p (history_in v q))) (parcels_sent q (history_in v p))
+abbrev pub parcels_under_way : View → ℕ → ℕ → List Parcel
+parcels_under_way v p q = drop (length (parcels_got p (history_in v q))) (parcels_sent q (history_in v p))
 
 -- a view that speaks for the receiver too knows how many parcels from p it has got
 abbrev pub KnowsGot : View → ℕ → ℕ → ℕ → Type 0
@@ -71,7 +71,7 @@ KnowsSent v p q n = SpeaksFor v p → n ≡ length (parcels_sent q (history_in v
 
 -- .. and that x is the oldest of them that q hasn't got
 abbrev pub KnowsOldest : View → ℕ → ℕ → Parcel → Type 0
-KnowsOldest v p q x = SpeaksFor v p → left_in v p q ≡ x ∷ drop (suc (length (parcels_got p (history_in v q)))) (parcels_sent q (history_in v p))
+KnowsOldest v p q x = SpeaksFor v p → parcels_under_way v p q ≡ x ∷ drop (suc (length (parcels_got p (history_in v q)))) (parcels_sent q (history_in v p))
 
 -- the view with y in place of the part of role r
 abbrev pub put_part : ℕ → Part → List Part → List Part
@@ -84,8 +84,8 @@ with_part r y v = record { parts = put_part r y v.parts }
 
 -- the part of a sender that has read n in the head word of its ring to q and found the ring full; that has read it, found
 -- room and gained a slot; and that has then sent the parcel and stands in the state `next`
-abbrev pub looked_head : ℕ → ℕ → Part → Part
-looked_head q n a = record { role = a.role; state = a.state; history = a.history; heads = record { peer = q; found = n } ∷ a.heads; tails = a.tails; middle = a.middle }
+abbrev pub part_with_room : ℕ → ℕ → Part → Part
+part_with_room q n a = record { role = a.role; state = a.state; history = a.history; heads = record { peer = q; found = n } ∷ a.heads; tails = a.tails; middle = a.middle }
 
 -- .. that has found room and gained a slot
 abbrev pub gaining : ℕ → ℕ → Part → Part
@@ -97,8 +97,8 @@ sending q x next a = record { role = a.role; state = next; history = a.history +
 
 -- the part of a receiver that has read n in the tail word of the ring from p and found the ring empty; that has read it and
 -- gained the slot with the parcel; and that has then got the parcel and stands in the state `next`
-abbrev pub looked_tail : ℕ → ℕ → Part → Part
-looked_tail p n a = record { role = a.role; state = a.state; history = a.history; heads = a.heads; tails = record { peer = p; found = n } ∷ a.tails; middle = a.middle }
+abbrev pub part_with_parcel : ℕ → ℕ → Part → Part
+part_with_parcel p n a = record { role = a.role; state = a.state; history = a.history; heads = a.heads; tails = record { peer = p; found = n } ∷ a.tails; middle = a.middle }
 
 -- .. that has gained the slot with the parcel
 abbrev pub taking : ℕ → Parcel → ℕ → Part → Part
@@ -132,16 +132,16 @@ without r [] = []
 without r (x ∷ xs) = if r == x.role then without r xs else x ∷ without r xs
 
 -- the view that has given up role r
-abbrev pub left_by : ℕ → View → View
-left_by r v = record { parts = without r v.parts }
+abbrev pub view_without_role : ℕ → View → View
+view_without_role r v = record { parts = without r v.parts }
 
 -- the new view, which speaks for r alone
 abbrev pub alone : ℕ → View → View
 alone r v = record { parts = the_part r v.parts ∷ [] }
 
 -- a view that has taken in another, and the other, which speaks for no role any more
-abbrev pub joined : View → View → View
-joined v w = record { parts = v.parts ++ w.parts }
+abbrev pub joint_view : View → View → View
+joint_view v w = record { parts = v.parts ++ w.parts }
 
 -- the view that speaks for no role
 abbrev pub spent_view : View

@@ -7,7 +7,7 @@ ghost use Rattle.std.specs.Mem.Slots.Ownership.{Filled};
 ghost use Rattle.rs_slots.specs.Places.{ring_count, slot_of};
 ghost use Rattle.rs_slots.specs.declared.parcels.Parcel.{Parcel};
 ghost use Rattle.rs_rings.specs.Closed.{loose_from, loose_in, sender_of, receiver_of};
-ghost use Rattle.rs_rings.specs.Emptied.{content_of, found, Emptied, RingHolds, AllHold};
+ghost use Rattle.rs_rings.specs.Emptied.{content_of, loose_in_slots, Emptied, RingHolds, AllHold};
 ghost use Rattle.rs_rings.specs.Rows.{IsBetweenCalls};
 ghost use Rattle.rs_rings.specs.Views.{speaks};
 
@@ -33,7 +33,7 @@ pub fn empty_slots(
     requires range { (from ≤ to) × (to ≤ slots_len closed.old.slots) }
     requires full { Filled (slots_filled closed.old.slots) from to }
     requires room { vec_len loose.old + (to - from) ≤ vec_capacity loose.old }
-    ensures loose { loose.new.items ≡ loose.old.items ++ found (slots_items closed.old.slots) sender.0 receiver.0 from (to - from) }
+    ensures loose { loose.new.items ≡ loose.old.items ++ loose_in_slots (slots_items closed.old.slots) sender.0 receiver.0 from (to - from) }
     ensures length { vec_len loose.new ≤ vec_len loose.old + (to - from) }
     ensures capacity { vec_capacity loose.old ≤ vec_capacity loose.new }
     ensures emptied { Emptied (slots_filled closed.old.slots) (slots_filled closed.new.slots) from to }

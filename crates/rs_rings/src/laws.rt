@@ -7,26 +7,26 @@ ghost use Rattle.rs_slots.specs.Places.{IsPair};
 ghost use Rattle.rs_slots.specs.declared.parcels.Parcel.{Parcel};
 ghost use Rattle.rs_core.specs.Choices.{AreWellFormed};
 ghost use Rattle.rs_rings.specs.Acts.{MayPut, MayTake, SendsParcel, ReceivesParcel};
-ghost use Rattle.rs_rings.specs.Rule.{Shows, machines_of};
+ghost use Rattle.rs_rings.specs.Rule.{RingsShow, machines_of};
 ghost use Rattle.rs_rings.specs.Shown.{Shown, IsSameAmong, LoadsHeadOf, StoresTailOf, LoadsTailOf, StoresHeadOf, SplitsOff, JoinsIn};
-ghost use Rattle.rs_rings.specs.Views.{SpeaksFor, speaks, part_of, first_part, starting, left_by, alone, joined};
+ghost use Rattle.rs_rings.specs.Views.{SpeaksFor, speaks, part_of, first_part, starting, view_without_role, alone, joint_view};
 ghost use Rattle.rs_rings.specs.declared.views.Key.{Key};
 ghost use Rattle.rs_rings.specs.declared.views.View.{View};
 
 /// Between any two steps the words, slots and views of a table show a configuration that can be reached, and no other.
 pub fn a_table_shows_one_configuration()
-    ensures some { (key : Key) (s : State (Option Parcel) View) → Shows key s → (c : Configuration) × Shown key s c }
+    ensures some { (key : Key) (s : State (Option Parcel) View) → RingsShow key s → (c : Configuration) × Shown key s c }
     ensures one { (key : Key) (s : State (Option Parcel) View) (c d : Configuration) → Shown key s c → Shown key s d → IsSameAmong key.roles c d }
 {}
 
 /// A store of a tail word is one send, and a store of a head word one receive. No other step changes what the table shows.
 pub fn stores_are_events()
-    ensures tail { (key : Key) (s t : State (Option Parcel) View) (c : Configuration) (p q : ℕ) (x : Parcel) → Shows key s → Shows key t → Shown key s c → IsPair key.roles p q → StoresTailOf key s t p q x → (d : Configuration) × Shown key t d × SendsParcel (machines_of key) c p q x d }
-    ensures head { (key : Key) (s t : State (Option Parcel) View) (c : Configuration) (p q : ℕ) (x : Parcel) → Shows key s → Shows key t → Shown key s c → IsPair key.roles p q → StoresHeadOf key s t p q x → (d : Configuration) × Shown key t d × ReceivesParcel (machines_of key) c q p x d }
-    ensures loaded_head { (key : Key) (s t : State (Option Parcel) View) (c : Configuration) (p q : ℕ) → Shows key s → Shows key t → Shown key s c → IsPair key.roles p q → LoadsHeadOf key s t p q → Shown key t c }
-    ensures loaded_tail { (key : Key) (s t : State (Option Parcel) View) (c : Configuration) (p q : ℕ) → Shows key s → Shows key t → Shown key s c → IsPair key.roles p q → LoadsTailOf key s t p q → Shown key t c }
-    ensures split { (key : Key) (s t : State (Option Parcel) View) (c : Configuration) (r : ℕ) → Shows key s → Shows key t → Shown key s c → SplitsOff s t r → Shown key t c }
-    ensures joined { (key : Key) (s t : State (Option Parcel) View) (c : Configuration) → Shows key s → Shows key t → Shown key s c → JoinsIn s t → Shown key t c }
+    ensures tail { (key : Key) (s t : State (Option Parcel) View) (c : Configuration) (p q : ℕ) (x : Parcel) → RingsShow key s → RingsShow key t → Shown key s c → IsPair key.roles p q → StoresTailOf key s t p q x → (d : Configuration) × Shown key t d × SendsParcel (machines_of key) c p q x d }
+    ensures head { (key : Key) (s t : State (Option Parcel) View) (c : Configuration) (p q : ℕ) (x : Parcel) → RingsShow key s → RingsShow key t → Shown key s c → IsPair key.roles p q → StoresHeadOf key s t p q x → (d : Configuration) × Shown key t d × ReceivesParcel (machines_of key) c q p x d }
+    ensures loaded_head { (key : Key) (s t : State (Option Parcel) View) (c : Configuration) (p q : ℕ) → RingsShow key s → RingsShow key t → Shown key s c → IsPair key.roles p q → LoadsHeadOf key s t p q → Shown key t c }
+    ensures loaded_tail { (key : Key) (s t : State (Option Parcel) View) (c : Configuration) (p q : ℕ) → RingsShow key s → RingsShow key t → Shown key s c → IsPair key.roles p q → LoadsTailOf key s t p q → Shown key t c }
+    ensures split { (key : Key) (s t : State (Option Parcel) View) (c : Configuration) (r : ℕ) → RingsShow key s → RingsShow key t → Shown key s c → SplitsOff s t r → Shown key t c }
+    ensures joint_view { (key : Key) (s t : State (Option Parcel) View) (c : Configuration) → RingsShow key s → RingsShow key t → Shown key s c → JoinsIn s t → Shown key t c }
 {}
 
 /// The first pass speaks for all roles. Each stands in its machine's start state and has done nothing.
@@ -38,16 +38,16 @@ pub fn first_passes()
 /// A pass that gives up a role no longer speaks for it, and all else is as it was. The new pass speaks for that role
 /// alone, and knows what the old one knew of it.
 pub fn split_passes()
-    ensures gone { (v : View) (r : ℕ) → speaks r (left_by r v).parts ≡ false }
-    ensures others { (v : View) (r y : ℕ) → y ≢ r → (speaks y (left_by r v).parts ≡ speaks y v.parts) × (part_of (left_by r v) y ≡ part_of v y) }
+    ensures gone { (v : View) (r : ℕ) → speaks r (view_without_role r v).parts ≡ false }
+    ensures others { (v : View) (r y : ℕ) → y ≢ r → (speaks y (view_without_role r v).parts ≡ speaks y v.parts) × (part_of (view_without_role r v) y ≡ part_of v y) }
     ensures alone { (v : View) (r y : ℕ) → SpeaksFor v r → SpeaksFor (alone r v) y → y ≡ r }
     ensures new { (v : View) (r : ℕ) → SpeaksFor v r → SpeaksFor (alone r v) r × (part_of (alone r v) r ≡ part_of v r) }
 {}
 
 /// A pass that takes in another speaks for the roles of both, and knows what the two knew.
 pub fn joined_passes()
-    ensures own { (v w : View) (r : ℕ) → SpeaksFor v r → SpeaksFor (joined v w) r × (part_of (joined v w) r ≡ part_of v r) }
-    ensures other { (v w : View) (r : ℕ) → speaks r v.parts ≡ false → (speaks r (joined v w).parts ≡ speaks r w.parts) × (part_of (joined v w) r ≡ part_of w r) }
+    ensures own { (v w : View) (r : ℕ) → SpeaksFor v r → SpeaksFor (joint_view v w) r × (part_of (joint_view v w) r ≡ part_of v r) }
+    ensures other { (v w : View) (r : ℕ) → speaks r v.parts ≡ false → (speaks r (joint_view v w).parts ≡ speaks r w.parts) × (part_of (joint_view v w) r ≡ part_of w r) }
 {}
 
 /// For well-formed machines the parcel that is put or taken tells the state behind it.

@@ -8,9 +8,9 @@ use std::marker::{Brand, PhantomData};
 pub struct RingTableRule;
 
 impl TableRule<Option<Parcel>, View, Key> for RingTableRule {
-    ghost use Rattle.rs_rings.specs.Rule.{Shows, first_view};
+    ghost use Rattle.rs_rings.specs.Rule.{RingsShow, first_view};
 
-    ghost holds = { Shows };
+    ghost holds = { RingsShow };
 
     ghost first = { first_view };
 }
@@ -89,9 +89,9 @@ pub struct SplitRole<N: RoleName> {
 }
 
 impl<N: RoleName> Split<View> for SplitRole<N> {
-    ghost use Rattle.rs_rings.specs.Views.{left_by, alone};
+    ghost use Rattle.rs_rings.specs.Views.{view_without_role, alone};
 
-    ghost left = { left_by N.role };
+    ghost left = { view_without_role N.role };
 
     ghost right = { alone N.role };
 }
@@ -100,9 +100,9 @@ impl<N: RoleName> Split<View> for SplitRole<N> {
 pub struct JoinPasses;
 
 impl Join<View> for JoinPasses {
-    ghost use Rattle.rs_rings.specs.Views.{joined, spent_view};
+    ghost use Rattle.rs_rings.specs.Views.{joint_view, spent_view};
 
-    ghost both = { joined };
+    ghost both = { joint_view };
 
     ghost spent = { spent_view };
 }

@@ -8,7 +8,7 @@ ghost use Rattle.rs_model.specs.declared.machines.State.TheVariants.{Done};
 ghost use Rattle.rs_slots.specs.Places.{ring_count};
 ghost use Rattle.rs_rings.specs.Closed.{IsLeft, IsOver, loose_in};
 ghost use Rattle.rs_rings.specs.Passes.{CanPut, CanTake, PutTells, TakeTells};
-ghost use Rattle.rs_rings.specs.Views.{SpeaksFor, state_in, history_in, starting, left_by, alone, joined};
+ghost use Rattle.rs_rings.specs.Views.{SpeaksFor, state_in, history_in, starting, view_without_role, alone, joint_view};
 
 use crate::answers::{Got, Put};
 use crate::closed::Closed;
@@ -74,7 +74,7 @@ impl Rings {
         requires table { pass.old.table ≡ self.now.table }
         requires speaks { SpeaksFor pass.old.view role.0 }
         ensures table { (pass.new.table ≡ pass.old.table) × (result.table ≡ pass.old.table) }
-        ensures old { pass.new.view ≡ left_by role.0 pass.old.view }
+        ensures old { pass.new.view ≡ view_without_role role.0 pass.old.view }
         ensures new { result.view ≡ alone role.0 pass.old.view }
     {
         let seat = self.inner.split(&mut pass.seat, role);
@@ -86,7 +86,7 @@ impl Rings {
     pub fn join(&self, pass: &mut Pass, other: Pass)
         requires table { (pass.old.table ≡ self.now.table) × (other.table ≡ self.now.table) }
         ensures table { pass.new.table ≡ pass.old.table }
-        ensures both { pass.new.view ≡ joined pass.old.view other.view }
+        ensures both { pass.new.view ≡ joint_view pass.old.view other.view }
     {
         let Pass { seat, rows } = other;
         self.inner.join(&mut pass.seat, seat);

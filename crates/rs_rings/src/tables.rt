@@ -10,12 +10,12 @@ ghost use Rattle.rs_model.specs.declared.machines.State.TheVariants.{Takes};
 ghost use Rattle.rs_slots.specs.Places.{ring_count};
 ghost use Rattle.rs_rings.specs.Acts.{Happened, MayPut, MayTake, sent_act, got_act, parcels_sent, parcels_got};
 ghost use Rattle.rs_rings.specs.Closed.{loose_in};
-ghost use Rattle.rs_rings.specs.Places.{head_of, tail_of, place_of};
+ghost use Rattle.rs_rings.specs.Places.{head_word_of, tail_of, place_of};
 ghost use Rattle.rs_rings.specs.Rows.{IsBetweenCalls};
 ghost use Rattle.rs_rings.specs.Rule.{machines_of, first_view};
 ghost use Rattle.rs_rings.specs.Steps.{HasFittingArm};
 ghost use Rattle.rs_rings.specs.Told.{arms_in, TakesFrom, Ends, HasPut, HasLooked, HasTaken, IsAfter};
-ghost use Rattle.rs_rings.specs.Views.{the_part, speaks, left_by, alone, joined, with_part, getting};
+ghost use Rattle.rs_rings.specs.Views.{the_part, speaks, view_without_role, alone, joint_view, with_part, getting};
 ghost use Rattle.rs_rings.specs.declared.views.Middle.TheVariants.{Idle, Taking};
 
 use crate::answers::{Looked, Put, Took};
@@ -93,7 +93,7 @@ impl RingTable {
 
     fn head_word(&self, sender: Role, receiver: Role) -> usize
         requires ring { (sender.0 < self.now.layout.roles) × (receiver.0 < self.now.layout.roles) × (sender.0 ≢ receiver.0) }
-        ensures value { result ≡ head_of self.now.layout.roles sender.0 receiver.0 }
+        ensures value { result ≡ head_word_of self.now.layout.roles sender.0 receiver.0 }
         ensures below { result < self.now.board.shared.table_id.words }
     {
         self.layout.head_word(self.layout.ring(sender, receiver))
@@ -236,7 +236,7 @@ impl RingTable {
         requires name { N.role ≡ role.0 }
         requires ring { 0 < self.now.board.shared.table_id.words }
         ensures tables { (seat.new.table_id ≡ seat.old.table_id) × (result.table_id ≡ seat.old.table_id) }
-        ensures old { seat.new.me ≡ (left_by role.0 seat.old.me.0, seat.old.me.1) }
+        ensures old { seat.new.me ≡ (view_without_role role.0 seat.old.me.0, seat.old.me.1) }
         ensures new { result.me ≡ (alone role.0 seat.old.me.0, []) }
     {
         self.board.shared.split_seat::<SplitRole<N>>(seat)
@@ -246,7 +246,7 @@ impl RingTable {
         requires table { seat.old.table_id ≡ self.now.board.shared.table_id }
         requires speaks { speaks role.0 seat.old.me.0.parts ≡ true }
         ensures tables { (seat.new.table_id ≡ seat.old.table_id) × (result.table_id ≡ seat.old.table_id) }
-        ensures old { seat.new.me ≡ (left_by role.0 seat.old.me.0, seat.old.me.1) }
+        ensures old { seat.new.me ≡ (view_without_role role.0 seat.old.me.0, seat.old.me.1) }
         ensures new { result.me ≡ (alone role.0 seat.old.me.0, []) }
     {
         self.split_as::<Brand>(seat, role)
@@ -256,7 +256,7 @@ impl RingTable {
         requires table { (seat.old.table_id ≡ self.now.board.shared.table_id) × (other.table_id ≡ self.now.board.shared.table_id) }
         requires idle { other.me.1 ≡ [] }
         ensures table { seat.new.table_id ≡ seat.old.table_id }
-        ensures both { seat.new.me ≡ (joined seat.old.me.0 other.me.0, seat.old.me.1) }
+        ensures both { seat.new.me ≡ (joint_view seat.old.me.0 other.me.0, seat.old.me.1) }
     {
         self.board.shared.join_seat::<JoinPasses>(seat, other);
     }

@@ -17,8 +17,8 @@ use Rattle.rs_core.specs.Configurations.{Configuration, Receives, Sends, role_of
 use Rattle.rs_core.specs.Core.{Core_data, HasStepped, configuration_of}
 use Rattle.rs_core.proofs.Stands.{here-is}
 use Rattle.rs_room.specs.Bounded.{BoundedStep, BoundedSteps, IsReachableWithin}
-use Rattle.rs_room.specs.Counts.{CanCount, counted, number_in, with_one_more}
-use Rattle.rs_room.specs.Looks.{full_by, full_ring, is_right, taking, taking_by}
+use Rattle.rs_room.specs.Counts.{CanCount, counts_behind, number_in, with_one_more}
+use Rattle.rs_room.specs.Looks.{full_by, full_ring, is_right, pair_of_receive, taking_by}
 use Rattle.rs_room.specs.Rings.{Bounded_data, CountsReceive, CountsSend, CountsStep, HasSteppedWithin, IsRingSession, Rises}
 
 -- a table in which the number of one pair rises
@@ -52,11 +52,11 @@ row-length rows x y hx u = elim (eqb_tells u x) [
 
 -- the session after the step, in which the machines stand as told
 abbrev pub after : Bounded_data → Event → Core_data → Bounded_data
-after b e core = record { core = core; capacity = b.capacity; room = b.room; steps = b.steps + 1; taken = counted b.taken (taking b e) }
+after b e core = record { core = core; capacity = b.capacity; room = b.room; steps = b.steps + 1; taken = counts_behind b.taken (pair_of_receive b e) }
 
 -- the table after a receive
 taken-by : (b : Bounded_data) (role : Role) (peer : Role) (arms : List Arm) → state_at b.core.machines (configuration_of b.core) role.0 ≡ Some (Takes peer arms)
-    → taking b (Receive role) ≡ Some (peer, role)
+    → pair_of_receive b (Receive role) ≡ Some (peer, role)
 taken-by b role peer arms h = rw h refl
 
 -- the peer of a receive is one of the roles
@@ -78,7 +78,7 @@ can-count-by b s few role hr (Some (Takes peer arms)) h =
     let hp = takes-peer b s role.0 peer arms h in
     (omega (arith, s.rows), omega (arith, s.places peer.0 hp), (let k = s.few peer.0 role.0 in omega arith))
 
-pub can-count : (b : Bounded_data) → IsRingSession b → b.steps < 2 ^ 63 → (e : Event) → role_of e < length b.core.machines → CanCount b.taken (taking b e)
+pub can-count : (b : Bounded_data) → IsRingSession b → b.steps < 2 ^ 63 → (e : Event) → role_of e < length b.core.machines → CanCount b.taken (pair_of_receive b e)
 can-count b s few (Send role arm value) hr = tt
 can-count b s few (Receive role) hr = can-count-by b s few role hr (state_at b.core.machines (configuration_of b.core) role.0) refl
 
@@ -139,7 +139,7 @@ stays-within ms capacity c d (Receive role) st all = within-receives ms capacity
 -- what the table keeps
 
 few-more : (rows : List (List ℕ)) (steps : ℕ) (pair : Option (Role × Role)) → CanCount rows pair → ((p q : ℕ) → number_in rows p q ≤ steps)
-    → (p q : ℕ) → number_in (counted rows pair) p q ≤ steps + 1
+    → (p q : ℕ) → number_in (counts_behind rows pair) p q ≤ steps + 1
 few-more rows steps None can all p q = let k = all p q in omega arith
 few-more rows steps (Some pair) can all p q = elim (eqb_tells p pair.0.0) [
   | inr t ↦ (let k = all p q in omega (arith, number-other rows pair.0.0 pair.1.0 can.0 p q (inl t.1)))
@@ -152,11 +152,11 @@ few-more rows steps (Some pair) can all p q = elim (eqb_tells p pair.0.0) [
   ]
 ]
 
-rows-stay : (rows : List (List ℕ)) (pair : Option (Role × Role)) → length (counted rows pair) ≡ length rows
+rows-stay : (rows : List (List ℕ)) (pair : Option (Role × Role)) → length (counts_behind rows pair) ≡ length rows
 rows-stay rows None = refl
 rows-stay rows (Some pair) = length-set rows pair.0.0 (slice_set (slice_index_or rows pair.0.0 []) pair.1.0 (number_in rows pair.0.0 pair.1.0 + 1))
 
-places-stay : (rows : List (List ℕ)) (pair : Option (Role × Role)) → CanCount rows pair → (p : ℕ) → length (slice_index_or (counted rows pair) p []) ≡ length (slice_index_or rows p [])
+places-stay : (rows : List (List ℕ)) (pair : Option (Role × Role)) → CanCount rows pair → (p : ℕ) → length (slice_index_or (counts_behind rows pair) p []) ≡ length (slice_index_or rows p [])
 places-stay rows None can p = refl
 places-stay rows (Some pair) can p = row-length rows pair.0.0 pair.1.0 can.0 p
 
@@ -183,9 +183,9 @@ stays-session b e core s few hr same st =
       reachable = (let P : List Machine_data → Type 0 = λ z. IsReachableWithin z b.capacity (configuration_of core) in
           subst P (sym same) (reach-snoc b.core.machines b.capacity (configuration_of b.core) (configuration_of core) e s.reachable st));
       within = stays-within b.core.machines b.capacity (configuration_of b.core) (configuration_of core) e st s.within;
-      rows = rows-stay b.taken (taking b e) ∙ s.rows ∙ sym (ap (λ (z : List Machine_data). length z) same);
-      places = λ p hp. places-stay b.taken (taking b e) can p ∙ s.places p (omega (arith, ap (λ (z : List Machine_data). length z) same)) ∙ sym (ap (λ (z : List Machine_data). length z) same);
-      few = few-more b.taken b.steps (taking b e) can s.few;
+      rows = rows-stay b.taken (pair_of_receive b e) ∙ s.rows ∙ sym (ap (λ (z : List Machine_data). length z) same);
+      places = λ p hp. places-stay b.taken (pair_of_receive b e) can p ∙ s.places p (omega (arith, ap (λ (z : List Machine_data). length z) same)) ∙ sym (ap (λ (z : List Machine_data). length z) same);
+      few = few-more b.taken b.steps (pair_of_receive b e) can s.few;
     }
 
 -- what a step counts
@@ -206,8 +206,8 @@ counts-send b role arm value core st = record {
 counts-receive : (b : Bounded_data) → IsRingSession b → b.steps < 2 ^ 63 → (role : Role) (core : Core_data) → role.0 < length b.core.machines
     → Receives b.core.machines (configuration_of b.core) role.0 (configuration_of core) → CountsReceive b (after b (Receive role) core) role.0
 counts-receive b s few role core hr st =
-    let e : taking b (Receive role) ≡ Some (st.peer, role) = taken-by b role st.peer st.arms st.takes in
-    let table : counted b.taken (taking b (Receive role)) ≡ with_one_more b.taken st.peer.0 role.0 = ap (counted b.taken) e in
+    let e : pair_of_receive b (Receive role) ≡ Some (st.peer, role) = taken-by b role st.peer st.arms st.takes in
+    let table : counts_behind b.taken (pair_of_receive b (Receive role)) ≡ with_one_more b.taken st.peer.0 role.0 = ap (counts_behind b.taken) e in
     let can : CanCount b.taken (Some (st.peer, role)) = subst (CanCount b.taken) e (can-count b s few (Receive role) hr) in
     let same : number_in (with_one_more b.taken st.peer.0 role.0) st.peer.0 role.0 ≡ number_in b.taken st.peer.0 role.0 + 1 = number-same b.taken st.peer.0 role.0 can.0 can.1 in
     let other : (p q : ℕ) → (p ≢ st.peer.0) ⊎ (q ≢ role.0) → number_in (with_one_more b.taken st.peer.0 role.0) p q ≡ number_in b.taken p q = number-other b.taken st.peer.0 role.0 can.0 in

@@ -11,9 +11,9 @@ abbrev pub with_one_more : List (List ℕ) → ℕ → ℕ → List (List ℕ)
 with_one_more rows p q = slice_set rows p (slice_set (slice_index_or rows p []) q (number_in rows p q + 1))
 
 -- .. for the pair that is given, if one is
-abbrev pub counted : List (List ℕ) → Option (Role × Role) → List (List ℕ)
-counted rows None = rows
-counted rows (Some pair) = with_one_more rows pair.0.0 pair.1.0
+abbrev pub counts_behind : List (List ℕ) → Option (Role × Role) → List (List ℕ)
+counts_behind rows None = rows
+counts_behind rows (Some pair) = with_one_more rows pair.0.0 pair.1.0
 
 -- there is such a pair in the table, and its number isn't at its last value
 abbrev pub CanCount : List (List ℕ) → Option (Role × Role) → Type 0

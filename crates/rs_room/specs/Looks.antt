@@ -44,9 +44,9 @@ taking_by (Some (Puts peer arms)) role = None
 taking_by (Some (Takes peer arms)) role = Some (peer, role)
 
 -- from whom to whom the event takes, where it is a receive
-abbrev pub taking : Bounded_data → Event → Option (Role × Role)
-taking b (Send role arm value) = None
-taking b (Receive role) = taking_by (state_at b.core.machines (configuration_of b.core) role.0) role
+abbrev pub pair_of_receive : Bounded_data → Event → Option (Role × Role)
+pair_of_receive b (Send role arm value) = None
+pair_of_receive b (Receive role) = taking_by (state_at b.core.machines (configuration_of b.core) role.0) role
 
 -- whether a role in that state can go on: its ring has room, or a message for it is there
 abbrev pub moves_by : ℕ → Option State → (ℕ → List Message) → (ℕ → List Message) → Bool

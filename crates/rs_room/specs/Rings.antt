@@ -11,7 +11,7 @@ use Rattle.rs_core.specs.declared.messages.Event.TheVariants.{Send, Receive}
 use Rattle.rs_core.specs.declared.messages.StepFault.TheVariants as step_fault
 use Rattle.rs_core.specs.declared.messages.Stepped.{Stepped}
 use Rattle.rs_core.specs.Configurations.{Configuration, role_of, state_at}
-use Rattle.rs_core.specs.Core.{Core_data, HasStepped, IsRefused, configuration_of, step_fault}
+use Rattle.rs_core.specs.Core.{Core_data, HasStepped, StepIsRefused, configuration_of, step_fault}
 use Rattle.rs_safety.specs.Accepting.{Accepted_data, IsAcceptedSession}
 use Rattle.rs_safety.specs.Room.{room_of}
 use Rattle.rs_room.specs.Bounded.{BoundedStep, IsReachableWithin}
@@ -103,11 +103,11 @@ pub record IsRingFull (b : Bounded_data) (event : Event) (sent taken : ℕ) : Ty
 -- why the event is refused: over unbounded queues it would be refused so, too; or it is a send into a full ring. Memory is
 -- wanted only where no ring is full.
 abbrev pub IsRefusedWithin : Bounded_data → Event → BoundedFault → Type 0
-IsRefusedWithin b event NotSending = IsRefused b.core.machines (configuration_of b.core) event step_fault.NotSending
-IsRefusedWithin b event NoArm = IsRefused b.core.machines (configuration_of b.core) event step_fault.NoArm
-IsRefusedWithin b event WrongSort = IsRefused b.core.machines (configuration_of b.core) event step_fault.WrongSort
-IsRefusedWithin b event NotReceiving = IsRefused b.core.machines (configuration_of b.core) event step_fault.NotReceiving
-IsRefusedWithin b event QueueEmpty = IsRefused b.core.machines (configuration_of b.core) event step_fault.QueueEmpty
+IsRefusedWithin b event NotSending = StepIsRefused b.core.machines (configuration_of b.core) event step_fault.NotSending
+IsRefusedWithin b event NoArm = StepIsRefused b.core.machines (configuration_of b.core) event step_fault.NoArm
+IsRefusedWithin b event WrongSort = StepIsRefused b.core.machines (configuration_of b.core) event step_fault.WrongSort
+IsRefusedWithin b event NotReceiving = StepIsRefused b.core.machines (configuration_of b.core) event step_fault.NotReceiving
+IsRefusedWithin b event QueueEmpty = StepIsRefused b.core.machines (configuration_of b.core) event step_fault.QueueEmpty
 IsRefusedWithin b event NoMemory =
-    IsRefused b.core.machines (configuration_of b.core) event step_fault.NoMemory × ((peer : Role) → FindsRingFull b event peer → ⊥)
+    StepIsRefused b.core.machines (configuration_of b.core) event step_fault.NoMemory × ((peer : Role) → FindsRingFull b event peer → ⊥)
 IsRefusedWithin b event (QueueFull sent taken) = IsRingFull b event sent taken

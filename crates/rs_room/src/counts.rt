@@ -1,5 +1,5 @@
 ghost use Rattle.std.specs.Prelude.{◌≡◌, ◌<◌, ◌^◌, [], IfOk, length, replicate, slice_index_or};
-ghost use Rattle.rs_room.specs.Counts.{CanCount, counted, number_in};
+ghost use Rattle.rs_room.specs.Counts.{CanCount, counts_behind, number_in};
 
 use rs_model::{NoMemory, Role};
 use std::alloc::Global;
@@ -58,7 +58,7 @@ impl Counts {
     /// Adds one to the number for the pair, if one is given.
     pub(crate) fn count(&mut self, pair: Option<(Role, Role)>)
         requires { CanCount self.old pair }
-        ensures { self.new ≡ counted self.old pair }
+        ensures { self.new ≡ counts_behind self.old pair }
     {
         if let Some((sender, receiver)) = pair {
             self.rows[sender.0 as usize].numbers[receiver.0 as usize] += 1;

@@ -6,7 +6,7 @@ ghost use Rattle.rs_core.specs.Safety.{AllEnded};
 ghost use Rattle.rs_model.specs.declared.graph.Arm.{Arm};
 ghost use Rattle.rs_model.specs.declared.graph.Role.{Role};
 ghost use Rattle.rs_model.specs.declared.machines.State.TheVariants.{Puts, Takes};
-ghost use Rattle.rs_room.specs.Looks.{can_move, full_ring, is_right, taking, within};
+ghost use Rattle.rs_room.specs.Looks.{can_move, full_ring, is_right, pair_of_receive, within};
 ghost use Rattle.rs_room.specs.Movable.{IsLeastMovable, NoneIsMovable};
 ghost use Rattle.rs_room.specs.Rings.{CountsStep, HasSteppedWithin, IsRefusedWithin, IsRingSession, messages_sent, messages_taken};
 ghost use Rattle.rs_safety.specs.Room.{room_of};
@@ -231,7 +231,7 @@ impl Bounded {
     /// From whom to whom the event takes, where it is a receive.
     fn taking(&self, event: &Event) -> Option<(Role, Role)>
         requires there { role_of event.now < length self.now.core.machines }
-        ensures { result ≡ taking self.now event.now }
+        ensures { result ≡ pair_of_receive self.now event.now }
     {
         match event {
             Event::Send { .. } => None,

@@ -21,7 +21,7 @@ use Rattle.rs_project.specs.Data.{Projection_data}
 use Rattle.rs_project.specs.Graph.{PathStep, LeadsTo, IsPath, Involves, IsIdle, PassesBy, AllPassBy, MeetsFirst, MeetsTheEnd, IsUnreached}
 use Rattle.rs_project.specs.Marks.{Among, StartMeets, StartEnds, involves_role, nexts_of_node}
 use Rattle.rs_project.specs.Numbered.{nexts_of}
-use Rattle.rs_project.specs.Projection.{IsSet, Choice, choice_of, merged_choices, Agree, MeetsBehind, EndsBehind, AreArmsOf, IsStateOf, IsDone, IsPuts, IsTakes, IsProjection, AreProjections}
+use Rattle.rs_project.specs.Projection.{IsSet, LabelChoice, choice_of, merged_choices, Agree, MeetsBehind, EndsBehind, AreArmsOf, IsStateOf, IsDone, IsPuts, IsTakes, IsProjection, AreProjections}
 use Rattle.rs_project.specs.Refusals.{IsFront}
 use Rattle.rs_project.proofs.Agreeing.{agree-sound}
 use Rattle.rs_project.proofs.Behind.{starts-of, front-behind}
@@ -431,31 +431,31 @@ sort_back sort.Whole = refl
 sort_back sort.Octets = refl
 sort_back sort.Numbers = refl
 
-abbrev same_choice : Choice → Choice → Bool
+abbrev same_choice : LabelChoice → LabelChoice → Bool
 same_choice a b = (a.label.0 == b.label.0) && (sort_number a.sort == sort_number b.sort)
 
-abbrev same_choices : List Choice → List Choice → Bool
+abbrev same_choices : List LabelChoice → List LabelChoice → Bool
 same_choices [] [] = true
 same_choices [] (b ∷ bs) = false
 same_choices (a ∷ as') [] = false
 same_choices (a ∷ as') (b ∷ bs) = same_choice a b && same_choices as' bs
 
-choice-is : (a b : Choice) → same_choice a b ≡ true → a ≡ b
+choice-is : (a b : LabelChoice) → same_choice a b ≡ true → a ≡ b
 choice-is a b h =
     let p = and_parts (a.label.0 == b.label.0) (sort_number a.sort == sort_number b.sort) h in
     let label : ℕ → Label = λ z. record { 0 = z } in
     let l : a.label ≡ b.label = ap label (eq-by a.label.0 b.label.0 p.0) in
     let s : a.sort ≡ b.sort = sym (sort_back a.sort) ∙ ap sort_at (eq-by (sort_number a.sort) (sort_number b.sort) p.1) ∙ sort_back b.sort in
-    let choice : Label → Sort → Choice = λ x y. record { label = x; sort = y } in
+    let choice : Label → Sort → LabelChoice = λ x y. record { label = x; sort = y } in
     ap₂ choice l s
 
-choices-are : (xs ys : List Choice) → same_choices xs ys ≡ true → xs ≡ ys
+choices-are : (xs ys : List LabelChoice) → same_choices xs ys ≡ true → xs ≡ ys
 choices-are [] [] h = refl
 choices-are [] (y ∷ ys) h = absurd (cc (h))
 choices-are (x ∷ xs) [] h = absurd (cc (h))
 choices-are (x ∷ xs) (y ∷ ys) h =
     let p = and_parts (same_choice x y) (same_choices xs ys) h in
-    ap₂ (λ (u : Choice) (v : List Choice). u ∷ v) (choice-is x y p.0) (choices-are xs ys p.1)
+    ap₂ (λ (u : LabelChoice) (v : List LabelChoice). u ∷ v) (choice-is x y p.0) (choices-are xs ys p.1)
 
 -- the node is a talk from the one to the other
 abbrev talks_between : Role → Role → Option Node → Bool

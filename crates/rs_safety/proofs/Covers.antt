@@ -15,7 +15,7 @@ use Rattle.rs_model.specs.declared.machines.State.TheVariants.{Done, Puts, Takes
 use Rattle.rs_wellformed.specs.Faults.{Talks}
 use Rattle.rs_project.specs.Data.{Projection_data}
 use Rattle.rs_project.specs.Graph.{LeadsTo, Involves, IsIdle, MeetsFirst, MeetsTheEnd}
-use Rattle.rs_project.specs.Projection.{IsSet, Choice, choice_of, choices_of, HaveSameChoices, HaveSameSorts, Agree, BothSend, BothReceive, first_choices, merged_choices, MeetsBehind, EndsBehind, IsStateOf, IsDone, IsPuts, IsTakes, IsProjection}
+use Rattle.rs_project.specs.Projection.{IsSet, LabelChoice, choice_of, choices_of, HaveSameChoices, HaveSameSorts, Agree, BothSend, BothReceive, first_choices, merged_choices, MeetsBehind, EndsBehind, IsStateOf, IsDone, IsPuts, IsTakes, IsProjection}
 pub use Rattle.rs_project.proofs.Choices.{Labelled, arm-choice, has_label, member_choices, merged-label, same-label}
 use Rattle.rs_safety.proofs.Members.{Among, contained, contains, among-left, among-right, among-split, no-member}
 use Rattle.rs_safety.proofs.Walks.{step_of, involves-sender, involves-receiver}
@@ -110,14 +110,14 @@ pub covers-awaited : (pr : Protocol_data) (p : Role) (pj : Projection_data) (t g
 covers-awaited pr p pj t g is cov live idle = live (covers-idle pr p pj t g is cov idle)
 
 -- choices and arms
-pub choice-arm : (arms : List Arm) (c : Choice) → Among (map choice_of arms) c
+pub choice-arm : (arms : List Arm) (c : LabelChoice) → Among (map choice_of arms) c
     → (k : ℕ) × (arm : Arm) × (slice_get arms k ≡ Some arm) × (choice_of arm ≡ c)
 choice-arm [] c h = absurd h
 choice-arm (a ∷ arms) c (inl e) = (0, a, refl, e)
 choice-arm (a ∷ arms) c (inr h) = let r = choice-arm arms c h in (suc r.0, r.1, r.2, r.3)
 
 -- the first choices are choices
-pub first-from : (cs earlier : List Choice) (c : Choice) → Among (first_choices cs earlier) c → Among cs c
+pub first-from : (cs earlier : List LabelChoice) (c : LabelChoice) → Among (first_choices cs earlier) c → Among cs c
 first-from [] earlier c h = h
 first-from (a ∷ later) earlier c h = go (has_label a.label earlier) (first-from later earlier c) (first-from later (earlier ++ (a ∷ [])) c) h
   where
@@ -128,7 +128,7 @@ first-from (a ∷ later) earlier c h = go (has_label a.label earlier) (first-fro
     go false skip keep (inl e) = inl e
     go false skip keep (inr h') = inr (keep h')
 
-flat-from : (pr : Protocol_data) (members : List ℕ) (c : Choice) → Among (flat_map (λ n. choices_of (slice_get pr.nodes n)) members) c
+flat-from : (pr : Protocol_data) (members : List ℕ) (c : LabelChoice) → Among (flat_map (λ n. choices_of (slice_get pr.nodes n)) members) c
     → (h : ℕ) × Among members h × Among (member_choices pr h) c
 flat-from pr [] c h = absurd h
 flat-from pr (m ∷ ms) c h = elim (among-split (member_choices pr m) (flat_map (λ n. choices_of (slice_get pr.nodes n)) ms) c h) [
@@ -137,7 +137,7 @@ flat-from pr (m ∷ ms) c h = elim (among-split (member_choices pr m) (flat_map 
 ]
 
 -- what is merged comes from a member
-pub merged-from : (pr : Protocol_data) (members : List ℕ) (c : Choice) → Among (merged_choices pr members) c
+pub merged-from : (pr : Protocol_data) (members : List ℕ) (c : LabelChoice) → Among (merged_choices pr members) c
     → (h : ℕ) × Contains members h × Among (member_choices pr h) c
 merged-from pr members c h =
     let r = flat-from pr members c (first-from (flat_map (λ n. choices_of (slice_get pr.nodes n)) members) [] c h) in
@@ -212,7 +212,7 @@ put-state pr p pj t g y theirs members st is ne ng at member is_st (IsPuts q arm
   where
     from-member : (k : ℕ) (arm : Arm) → slice_get arms k ≡ Some arm → Among (map choice_of theirs) (choice_of arm)
     from-member k arm h =
-        let P : List Choice → Type 0 = λ z. Among z (choice_of arm) in
+        let P : List LabelChoice → Type 0 = λ z. Among z (choice_of arm) in
         let m = merged-from pr members (choice_of arm) (subst P ar.choices (arm-choice arms k arm h)) in
         let a = agree-put pr p m.0 g y theirs ne ng (is.agree t members at m.0 g m.1 member) in
         let Q : Option Node → Type 0 = λ z. Among (choices_of z) (choice_of arm) in
@@ -222,9 +222,9 @@ put-state pr p pj t g y theirs members st is ne ng at member is_st (IsPuts q arm
         → (a : ℕ) × (to : Arm) × (slice_get theirs a ≡ Some to) × (to.label ≡ arm.label) × (to.sort ≡ arm.sort) × Covers pr p pj.sets arm.next to.next
     one k arm h =
         let f = choice-arm theirs (choice_of arm) (from-member k arm h) in
-        let label : f.1.label ≡ arm.label = ap (λ (z : Choice). z.label) f.3 in
+        let label : f.1.label ≡ arm.label = ap (λ (z : LabelChoice). z.label) f.3 in
         let goes : LeadsTo pr g f.0 f.1.next = record { sender = p; receiver = y; arms = theirs; arm = f.1; talks = ng; stands = f.2; leads = refl } in
-        (f.0, f.1, f.2, label, ap (λ (z : Choice). z.sort) f.3, behind-covers pr p pj members g f.0 f.1 arm member goes refl label (ar.nexts k arm h))
+        (f.0, f.1, f.2, label, ap (λ (z : LabelChoice). z.sort) f.3, behind-covers pr p pj members g f.0 f.1 arm member goes refl label (ar.nexts k arm h))
 
 pub covers-put : (pr : Protocol_data) (p : Role) (pj : Projection_data) (t g : ℕ) (y : Role) (theirs : List Arm) → IsProjection pr p pj
     → p ≢ y → Talks pr g p y theirs → Covers pr p pj.sets t g → PutsAt pr p pj t y theirs
@@ -252,7 +252,7 @@ take-state pr p pj t g x theirs members st is ne ng at member is_st (IsTakes q a
     sorts : (k : ℕ) (arm to : Arm) (a : ℕ) → slice_get arms k ≡ Some arm → slice_get theirs a ≡ Some to → arm.label ≡ to.label
         → arm.sort ≡ to.sort
     sorts k arm to a h ha el =
-        let P : List Choice → Type 0 = λ z. Among z (choice_of arm) in
+        let P : List LabelChoice → Type 0 = λ z. Among z (choice_of arm) in
         let m = merged-from pr members (choice_of arm) (subst P ar.choices (arm-choice arms k arm h)) in
         let ag = agree-take pr p m.0 g x theirs ne ng (is.agree t members at m.0 g m.1 member) in
         let Q : Option Node → Type 0 = λ z. Among (choices_of z) (choice_of arm) in
@@ -263,9 +263,9 @@ take-state pr p pj t g x theirs members st is ne ng at member is_st (IsTakes q a
     one a to ha =
         let Q : Option Node → Type 0 = λ z. Among (choices_of z) (choice_of to) in
         let ml = merged-label pr members g (choice_of to) member (subst Q (sym ng) (arm-choice theirs a to ha)) in
-        let P : List Choice → Type 0 = λ z. Among z ml.0 in
+        let P : List LabelChoice → Type 0 = λ z. Among z ml.0 in
         let fa = choice-arm arms ml.0 (subst P (sym ar.choices) ml.1) in
-        let label : fa.1.label ≡ to.label = ap (λ (z : Choice). z.label) fa.3 ∙ ml.2 in
+        let label : fa.1.label ≡ to.label = ap (λ (z : LabelChoice). z.label) fa.3 ∙ ml.2 in
         let goes : LeadsTo pr g a to.next = record { sender = x; receiver = p; arms = theirs; arm = to; talks = ng; stands = ha; leads = refl } in
         (fa.0, fa.1, fa.2, label, sorts fa.0 fa.1 to a fa.2 ha label, behind-covers pr p pj members g a to fa.1 member goes refl (sym label) (ar.nexts fa.0 fa.1 fa.2))
 

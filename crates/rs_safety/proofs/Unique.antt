@@ -10,7 +10,7 @@ use Rattle.rs_model.specs.declared.machines.State.{State}
 use Rattle.rs_wellformed.specs.WellFormed.{IsWellFormed}
 use Rattle.rs_project.specs.Data.{Projection_data}
 use Rattle.rs_project.specs.Graph.{MeetsFirst, MeetsTheEnd}
-use Rattle.rs_project.specs.Projection.{IsSet, Choice, choice_of, MeetsBehind, EndsBehind, AreArmsOf, IsStateOf, IsDone, IsPuts, IsTakes, IsProjection}
+use Rattle.rs_project.specs.Projection.{IsSet, LabelChoice, choice_of, MeetsBehind, EndsBehind, AreArmsOf, IsStateOf, IsDone, IsPuts, IsTakes, IsProjection}
 use Rattle.rs_safety.specs.Alike.{StandAlike, LeadAlike, ActAlike, BothDone, BothPut, BothTake, AreAlike}
 use Rattle.rs_safety.proofs.Members.{Among, contained, contains}
 use Rattle.rs_safety.proofs.Covers.{stood}
@@ -48,7 +48,7 @@ lead-alike : (pr : Protocol_data) (p : Role) (one other : Projection_data) (memb
 lead-alike pr p one other members arms theirs a b = record {
   choices = a.choices ∙ sym b.choices;
   nexts = λ k x y hx hy.
-      let label : x.label ≡ y.label = ap (λ (z : Choice). z.label) (same-choice arms theirs k x y (a.choices ∙ sym b.choices) hx hy) in
+      let label : x.label ≡ y.label = ap (λ (z : LabelChoice). z.label) (same-choice arms theirs k x y (a.choices ∙ sym b.choices) hx hy) in
       sets-alike one other x.next y.next (MeetsBehind pr p members x.label) (MeetsBehind pr p members y.label) (EndsBehind pr p members x.label) (EndsBehind pr p members y.label)
       (a.nexts k x hx) (b.nexts k y hy)
       (λ h m. (let P : Label → Type 0 = λ z. MeetsBehind pr p members z h in subst P label m))

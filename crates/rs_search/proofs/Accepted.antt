@@ -15,8 +15,8 @@ use Rattle.rs_graph.specs.Lists.{Among, Names}
 use Rattle.rs_graph.specs.Walks.{Further}
 use Rattle.rs_search.proofs.Staying.{stays_within}
 use Rattle.rs_search.proofs.Verdicts.{candidate_short}
-use Rattle.rs_search.specs.Candidates.{IsCandidate, Start, begin}
-use Rattle.rs_search.specs.Canonical.{IsCanonical, IsFound, KeepsHead}
+use Rattle.rs_search.specs.Candidates.{IsCandidate, Start, start_spot}
+use Rattle.rs_search.specs.Canonical.{HasCanonicalNodes, IsCanonical, KeepsHead}
 
 map-of : {X Y : Type 0} (f : X → Y) (xs : List X) (i : ℕ) (y : Y) → slice_get (map f xs) i ≡ Some y → (x : X) × (slice_get xs i ≡ Some x) × (f x ≡ y)
 map-of f [] i y e = absurd (none-some y e)
@@ -53,9 +53,9 @@ named-result spots (n ∷ ns) (r ∷ rs) h j (inl e) = (r, subst (λ (z : ℕ). 
 named-result spots (n ∷ ns) (r ∷ rs) h j (inr m) = let k = named-result spots ns rs h.1 j m in (k.0, k.1, inr k.2)
 
 -- each node stands at a candidate
-pub nodes_are_candidates : (sub above : Machine_data) (bound : ℕ) (d : Derivation_data) → IsCanonical sub above bound d → (i : ℕ) (n : DNode_data) → slice_get d.nodes i ≡ Some n → IsCandidate sub above bound (spot_of n)
+pub nodes_are_candidates : (sub above : Machine_data) (bound : ℕ) (d : Derivation_data) → HasCanonicalNodes sub above bound d → (i : ℕ) (n : DNode_data) → slice_get d.nodes i ≡ Some n → IsCandidate sub above bound (spot_of n)
 nodes_are_candidates sub above bound d c zero n e =
-    let s : spot_of n ≡ begin sub above = same_Some (spot_of n) (begin sub above) (sym (map-at (λ (m : DNode_data). spot_of m) d.nodes zero n e) ∙ c.first) in
+    let s : spot_of n ≡ start_spot sub above = same_Some (spot_of n) (start_spot sub above) (sym (map-at (λ (m : DNode_data). spot_of m) d.nodes zero n e) ∙ c.first) in
     subst (λ (z : Spot). IsCandidate sub above bound z) (sym s) Start
 nodes_are_candidates sub above bound d c (suc i) n e =
     let w = new-worked 0 1 (length d.nodes) (map (λ (m : DNode_data). m.next) d.nodes) c.order (suc i) (omega arith) (at_short d.nodes (suc i) n e) in
@@ -72,9 +72,9 @@ names-are nodes [] (r ∷ rs) h = absurd h
 names-are nodes (n ∷ ns) [] h = absurd h
 names-are nodes (n ∷ ns) (r ∷ rs) h = (map-of (λ (m : DNode_data). spot_of m) nodes n r h.0, names-are nodes ns rs h.1)
 
-pub derives : (sub above : Machine_data) (bound : ℕ) (d : Derivation_data) → IsProper sub → IsProper above → IsCanonical sub above bound d → IsDerivation d sub above
+pub derives : (sub above : Machine_data) (bound : ℕ) (d : Derivation_data) → IsProper sub → IsProper above → HasCanonicalNodes sub above bound d → IsDerivation d sub above
 derives sub above bound d ws wa c =
-    let f = map-of (λ (m : DNode_data). spot_of m) d.nodes 0 (begin sub above) c.first in
+    let f = map-of (λ (m : DNode_data). spot_of m) d.nodes 0 (start_spot sub above) c.first in
     record {
       first = f.0;
       is = f.1;
@@ -95,7 +95,7 @@ derives sub above bound d ws wa c =
           });
     }
 
-pub remembers : (sub above : Machine_data) (bound : ℕ) (d : Derivation_data) → IsFound sub above bound d → Remembers d sub above
+pub remembers : (sub above : Machine_data) (bound : ℕ) (d : Derivation_data) → IsCanonical sub above bound d → Remembers d sub above
 remembers sub above bound d f = record {
   falls = λ i n makes results is move keeps k j m next there. (
       let a = f.ranks i n is in let b = f.ranks j m there in
@@ -103,5 +103,5 @@ remembers sub above bound d f = record {
       let l = a.most (suc m.rank) b.end (Further i j b.end m.rank e b.walk) in omega arith);
 }
 
-pub accepted : (sub above : Machine_data) (bound : ℕ) (d : Derivation_data) → IsProper sub → IsProper above → IsFound sub above bound d → first_fault d sub above ≡ None
+pub accepted : (sub above : Machine_data) (bound : ℕ) (d : Derivation_data) → IsProper sub → IsProper above → IsCanonical sub above bound d → first_fault d sub above ≡ None
 accepted sub above bound d ws wa f = no_fault_back d sub above (derives sub above bound d ws wa f.canonical, remembers sub above bound d f)

@@ -21,9 +21,9 @@ use Rattle.rs_prefix.specs.declared.earliest.Found.TheVariants.{At, Blocked}
 use Rattle.rs_prefix.specs.declared.earliest.Kind.TheVariants.{Receive}
 use Rattle.rs_derive.specs.Data.{DNode_data}
 use Rattle.rs_derive.specs.Derivations.{IsProper, spot_of}
-use Rattle.rs_derive.specs.Due.{Due, all_serve, both_at, due_at, guesses, paid, receives, served_by, serves_some}
+use Rattle.rs_derive.specs.Due.{Due, all_serve, both_at, due_at, guesses, due_behind_payment, receives, due_where_served, serves_some}
 use Rattle.rs_derive.specs.Moves.{Spot, arm_of, owing_receive}
-use Rattle.rs_derive.specs.Within.{IsOnce}
+use Rattle.rs_derive.specs.Within.{HasLabelsOnce}
 use Rattle.rs_graph.proofs.Buckets.{got}
 use Rattle.rs_graph.proofs.Growth.{all_found, at_in, at_short, at_within, grown_on, growing_begin, growing_done, growing_on, in_at, named_on, push_at, push_is, push_new, reads_at, take_on}
 use Rattle.rs_graph.specs.Discovery.{Adds, Grown, Growing, IsDiscovery, NoMore, Reached, Begin, Step}
@@ -34,11 +34,11 @@ use Rattle.rs_search.proofs.Assembled.{length-map, map-at, map-of, none-ranks}
 use Rattle.rs_search.proofs.Forced.{IsForced, forced_found}
 use Rattle.rs_search.proofs.Places.{place_is, places_length}
 use Rattle.rs_search.proofs.Turning.{followed_is}
-use Rattle.rs_search.specs.Candidates.{begin}
-use Rattle.rs_search.specs.Canonical.{IsFound}
+use Rattle.rs_search.specs.Candidates.{start_spot}
+use Rattle.rs_search.specs.Canonical.{IsCanonical}
 use Rattle.rs_search.specs.Itself.{AreNamed, ArePlaced, IsOfItself, Even, Owes, even, even_nexts, nexts_itself, onward}
 use Rattle.rs_search.specs.Nodes.{AreKept, AreNodes, node_of, places_of}
-use Rattle.rs_search.specs.Turns.{Turn_data, cut_at, is_keeping, nexts_within, no_turn, owes_more, turn_of, turn_within}
+use Rattle.rs_search.specs.Turns.{Turn_data, turn_with_cut, is_keeping, nexts_within, no_turn, owes_more, turn_of, turn_within}
 
 among-either : (xs ys : List Spot) (x : Spot) → Among (xs ++ ys) x → Among xs x ⊎ Among ys x
 among-either [] ys x h = inr h
@@ -52,7 +52,7 @@ label_of (act.Takes q l so) = l
 
 -- a machine serves itself
 
-arm-of-self : (arms : List Arm) → IsOnce arms → (i : ℕ) (a : Arm) → slice_get arms i ≡ Some a → arm_of arms a.label ≡ Some a
+arm-of-self : (arms : List Arm) → HasLabelsOnce arms → (i : ℕ) (a : Arm) → slice_get arms i ≡ Some a → arm_of arms a.label ≡ Some a
 arm-of-self [] once i a e = absurd (none-some a e)
 arm-of-self (x ∷ xs) once zero a e =
     let q : x ≡ a = same_Some x a e in
@@ -97,7 +97,7 @@ none-more bound [] h = refl
 none-more bound (s ∷ spots) h = rw (le-ltb bound (length s.pending) (h s (inl refl)), none-more bound spots (λ r m. h r (inr m))) refl
 
 goes-due : (bound : ℕ) (d : Due) (spots : List Spot) → concat d.nexts ≡ spots → ((r : Spot) → Among spots r → length r.pending ≤ bound) → d.keeps ≡ false → (eqb (length d.nexts) 1 ≡ true → length spots ≡ 1)
-    → Goes (cut_at bound (turn_of (Some d))) spots
+    → Goes (turn_with_cut bound (turn_of (Some d))) spots
 goes-due bound d spots e short k f =
     subst (λ (b : Bool). Goes (if b then no_turn true else turn_of (Some d)) spots) (sym (none-more bound (concat d.nexts) (λ r m. short r (subst (λ (z : List Spot). Among z r) e m))))
     record { are = e; keeps' = k; forced = f }
@@ -114,43 +114,43 @@ owing-short bound s q arms some r m = let a = among-map (λ (b : Arm). owing_rec
 one-arm : {X Y : Type 0} (f : Arm → X) (g : Arm → Y) (arms : List Arm) → eqb (length (map f arms)) 1 ≡ true → length (map g arms) ≡ 1
 one-arm f g arms e = length-map g arms ∙ sym (length-map f arms) ∙ eqb-true (length (map f arms)) 1 e
 
-even-puts : (bound s : ℕ) (q : Role) (arms : List Arm) → IsOnce arms → Goes (cut_at bound (turn_of (due_at (even s) (Some (Puts q arms)) (Some (Puts q arms))))) (map (λ (a : Arm). even a.next) arms)
+even-puts : (bound s : ℕ) (q : Role) (arms : List Arm) → HasLabelsOnce arms → Goes (turn_with_cut bound (turn_of (due_at (even s) (Some (Puts q arms)) (Some (Puts q arms))))) (map (λ (a : Arm). even a.next) arms)
 even-puts bound s q arms once =
     let D : Due = record { keeps = false; nexts = map (λ (a : Arm). both_at [] a (arm_of arms a.label)) arms } in
     let self : (i : ℕ) (a : Arm) → slice_get arms i ≡ Some a → arm_of arms a.label ≡ Some a = arm-of-self arms once in
-    subst (λ (b : Bool). Goes (cut_at bound (turn_of (if b then (if all_serve arms arms then Some D else None) else guesses (even s) q arms))) (map (λ (a : Arm). even a.next) arms)) (sym (eq-eqb q.0 q.0 refl))
-    (subst (λ (b : Bool). Goes (cut_at bound (turn_of (if b then Some D else None))) (map (λ (a : Arm). even a.next) arms)) (sym (all-serve arms arms self))
+    subst (λ (b : Bool). Goes (turn_with_cut bound (turn_of (if b then (if all_serve arms arms then Some D else None) else guesses (even s) q arms))) (map (λ (a : Arm). even a.next) arms)) (sym (eq-eqb q.0 q.0 refl))
+    (subst (λ (b : Bool). Goes (turn_with_cut bound (turn_of (if b then Some D else None))) (map (λ (a : Arm). even a.next) arms)) (sym (all-serve arms arms self))
     (goes-due bound D (map (λ (a : Arm). even a.next) arms) (both-self arms arms self) (even-short bound arms) refl (one-arm (λ (a : Arm). both_at [] a (arm_of arms a.label)) (λ (a : Arm). even a.next) arms)))
 
-even-takes : (bound s : ℕ) (q : Role) (arms : List Arm) → 0 < bound → Goes (cut_at bound (turn_of (due_at (even s) (Some (Takes q arms)) (Some (Takes q arms))))) (map (λ (b : Arm). owing_receive (even s) q b) arms)
+even-takes : (bound s : ℕ) (q : Role) (arms : List Arm) → 0 < bound → Goes (turn_with_cut bound (turn_of (due_at (even s) (Some (Takes q arms)) (Some (Takes q arms))))) (map (λ (b : Arm). owing_receive (even s) q b) arms)
 even-takes bound s q arms some =
     goes-due bound (record { keeps = false; nexts = map (λ (b : Arm). owing_receive (even s) q b ∷ []) arms }) (map (λ (b : Arm). owing_receive (even s) q b) arms)
     (followed_is (even s) q arms) (owing-short bound s q arms some) refl (one-arm (λ (b : Arm). owing_receive (even s) q b ∷ []) (λ (b : Arm). owing_receive (even s) q b) arms)
 
-even-goes : (m : Machine_data) (bound s : ℕ) → IsProper m → 0 < bound → (st : State) → slice_get m.states s ≡ Some st → Goes (cut_at bound (turn_of (due_at (even s) (Some st) (Some st)))) (even_nexts s (Some st))
+even-goes : (m : Machine_data) (bound s : ℕ) → IsProper m → 0 < bound → (st : State) → slice_get m.states s ≡ Some st → Goes (turn_with_cut bound (turn_of (due_at (even s) (Some st) (Some st)))) (even_nexts s (Some st))
 even-goes m bound s w some Done e = record { are = refl; keeps' = refl; forced = λ h. absurd (false≢true h) }
 even-goes m bound s w some (Puts q arms) e = even-puts bound s q arms (w.1.puts s q arms e).once
 even-goes m bound s w some (Takes q arms) e = even-takes bound s q arms some
 
-owes-goes : (bound s i : ℕ) (q : Role) (arms : List Arm) (b : Arm) (t : Option State) → IsOnce arms → slice_get arms i ≡ Some b
-    → Goes (cut_at bound (turn_of (due_at (owing_receive (even s) q b) (Some (Takes q arms)) t))) (even b.next ∷ [])
+owes-goes : (bound s i : ℕ) (q : Role) (arms : List Arm) (b : Arm) (t : Option State) → HasLabelsOnce arms → slice_get arms i ≡ Some b
+    → Goes (turn_with_cut bound (turn_of (due_at (owing_receive (even s) q b) (Some (Takes q arms)) t))) (even b.next ∷ [])
 owes-goes bound s i q arms b t once e =
     let p : Spot = owing_receive (even s) q b in
     let a : Act = act.Takes q b.label b.sort in
-    subst (λ (y : Bool). Goes (cut_at bound (turn_of (receives p arms t (if y then At 0 else (if may_overtake Receive q a then earliest_from [] Receive q (0 + 1) else Blocked 0))))) (even b.next ∷ []))
+    subst (λ (y : Bool). Goes (turn_with_cut bound (turn_of (receives p arms t (if y then At 0 else (if may_overtake Receive q a then earliest_from [] Receive q (0 + 1) else Blocked 0))))) (even b.next ∷ []))
     (sym (eq-eqb q.0 q.0 refl))
-    (subst (λ (o : Option Arm). Goes (cut_at bound (turn_of (served_by p 0 b.sort o))) (even b.next ∷ [])) (sym (arm-of-self arms once i b e))
-    (subst (λ (y : Bool). Goes (cut_at bound (turn_of (if y then Some (paid p 0 b) else None))) (even b.next ∷ [])) (sym (serves-self b.sort))
-    (goes-due bound (paid p 0 b) (even b.next ∷ []) refl (λ r m. elim m [ inl h ↦ subst (λ (z : Spot). length z.pending ≤ bound) h (omega arith) | inr h ↦ absurd h ]) refl (λ h. refl))))
+    (subst (λ (o : Option Arm). Goes (turn_with_cut bound (turn_of (due_where_served p 0 b.sort o))) (even b.next ∷ [])) (sym (arm-of-self arms once i b e))
+    (subst (λ (y : Bool). Goes (turn_with_cut bound (turn_of (if y then Some (due_behind_payment p 0 b) else None))) (even b.next ∷ [])) (sym (serves-self b.sort))
+    (goes-due bound (due_behind_payment p 0 b) (even b.next ∷ []) refl (λ r m. elim m [ inl h ↦ subst (λ (z : Spot). length z.pending ≤ bound) h (omega arith) | inr h ↦ absurd h ]) refl (λ h. refl))))
 
 goes : (m : Machine_data) (bound : ℕ) → IsProper m → 0 < bound → (p : Spot) → IsOfItself m p → Goes (turn_within m m bound p) (nexts_itself m p)
 goes m bound w some p (Even s lt e) =
     let st = at_within m.states s lt in
     subst (λ (z : Spot). Goes (turn_within m m bound z) (nexts_itself m z)) (sym e)
-    (subst (λ (o : Option State). Goes (cut_at bound (turn_of (due_at (even s) o o))) (even_nexts s o)) (sym st.1) (even-goes m bound s w some st.0 st.1))
+    (subst (λ (o : Option State). Goes (turn_with_cut bound (turn_of (due_at (even s) o o))) (even_nexts s o)) (sym st.1) (even-goes m bound s w some st.0 st.1))
 goes m bound w some p (Owes s i q arms b es eb e) =
     subst (λ (z : Spot). Goes (turn_within m m bound z) (nexts_itself m z)) (sym e)
-    (subst (λ (o : Option State). Goes (cut_at bound (turn_of (due_at (owing_receive (even s) q b) o (slice_get m.states b.next)))) (even b.next ∷ [])) (sym es)
+    (subst (λ (o : Option State). Goes (turn_with_cut bound (turn_of (due_at (owing_receive (even s) q b) o (slice_get m.states b.next)))) (even b.next ∷ [])) (sym es)
     (owes-goes bound s i q arms b (slice_get m.states b.next) (w.1.takes s q arms es).once eb))
 
 -- spots of a machine that follows itself lead to such spots
@@ -360,7 +360,7 @@ owing-label s q a b e = label (act.Takes q a.label a.sort) (act.Takes q b.label 
     label : (x y : Act) → x ≡ y → label_of x ≡ label_of y
     label x y h = ap label_of h
 
-pub not_yet : (found : List Spot) (s : ℕ) (q : Role) (arms : List Arm) (i : ℕ) (b : Arm) → IsOnce arms → ((p : Spot) → Among found p → p.state ≡ s → p.pending ≡ []) → slice_get arms i ≡ Some b
+pub not_yet : (found : List Spot) (s : ℕ) (q : Role) (arms : List Arm) (i : ℕ) (b : Arm) → HasLabelsOnce arms → ((p : Spot) → Among found p → p.state ≡ s → p.pending ≡ []) → slice_get arms i ≡ Some b
     → Among (found ++ map (λ (a : Arm). owing_receive (even s) q a) (take i arms)) (owing_receive (even s) q b) → ⊥
 not_yet found s q arms i b once fresh e h = elim (among-either found (map (λ (a : Arm). owing_receive (even s) q a) (take i arms)) (owing_receive (even s) q b) h) [
   | inl old ↦ (let bad : act.Takes q b.label b.sort ∷ [] ≡ [] = fresh (owing_receive (even s) q b) old refl in absurd (cc (bad)))
@@ -422,7 +422,7 @@ nodes_at found nodes l a = record {
 }
 
 pub found_itself : (m : Machine_data) (found : List Spot) (nodes : List DNode_data) → IsProper m → IsDiscovery (nexts_itself m) (even m.start) found (nexts_in nodes) → length found ≤ MOST_CANDIDATES
-    → ((x : Spot) → Among found x → IsOfItself m x) → AreAt found nodes → (bound : ℕ) → 0 < bound → IsFound m m bound (record { role = m.role; bound = bound; nodes = nodes })
+    → ((x : Spot) → Among found x → IsOfItself m x) → AreAt found nodes → (bound : ℕ) → 0 < bound → IsCanonical m m bound (record { role = m.role; bound = bound; nodes = nodes })
 found_itself m found nodes w d few kind a bound some =
     forced_found m m bound found rows [] nodes (replicate (length found) []) forced (nodes_at found nodes size a) (none_kept m m bound found rows keeps) (all_unranked (length found))
   where
@@ -438,7 +438,7 @@ found_itself m found nodes w d few kind a bound some =
     keeps : (n : ℕ) (x : Spot) → slice_get found n ≡ Some x → is_keeping m m bound x ≡ false
     keeps n x e = (on n x e).keeps'
 
-    reach : (x : Spot) → Reached (nexts_itself m) (even m.start) x → Reached (nexts_within m m bound) (begin m m) x
+    reach : (x : Spot) → Reached (nexts_itself m) (even m.start) x → Reached (nexts_within m m bound) (start_spot m m) x
     reach _ Begin = Begin
     reach _ (Step x y r h) =
         Step x y (reach x r) (subst (λ (z : List Spot). Among z y) (sym (goes m bound w some x (kind x (all_found (nexts_itself m) (even m.start) found rows d x r))).are) h)
@@ -521,7 +521,7 @@ made_on m w found new nodes nodes' p node row a e named en es =
     }
 
 pub made_all : (m : Machine_data) → IsProper m → (found : List Spot) (nodes : List DNode_data) → AreMade m found nodes → length found ≤ length nodes → length found ≤ MOST_CANDIDATES
-    → (bound : ℕ) → 0 < bound → IsFound m m bound (record { role = m.role; bound = bound; nodes = nodes })
+    → (bound : ℕ) → 0 < bound → IsCanonical m m bound (record { role = m.role; bound = bound; nodes = nodes })
 made_all m w found nodes a done few =
     let l = length-map (λ (n : DNode_data). n.next) nodes in
     found_itself m found nodes w (growing_done (nexts_itself m) (even m.start) found (nexts_in nodes) a.growing (omega arith)) few a.kinds a.at_spots

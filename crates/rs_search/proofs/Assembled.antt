@@ -25,11 +25,11 @@ use Rattle.rs_graph.specs.Walks.{Walk, Here, Further, IsLeastOnCycle, IsRank}
 use Rattle.rs_search.proofs.Choices.{bool_cases, from_move, moves_at}
 use Rattle.rs_search.proofs.Chosen.{chosen}
 use Rattle.rs_search.proofs.Verdicts.{less_than, names_length, rows_within}
-use Rattle.rs_search.specs.Candidates.{AreMoreThan, MoveWithin, begin}
-use Rattle.rs_search.specs.Canonical.{FollowsTheChoice, IsCanonical, IsForgets, IsFound, KeepsHead}
+use Rattle.rs_search.specs.Candidates.{AreMoreThan, MoveWithin, start_spot}
+use Rattle.rs_search.specs.Canonical.{FollowsTheChoice, HasCanonicalNodes, IsForgets, IsCanonical, KeepsHead}
 use Rattle.rs_search.specs.Nodes.{AreKept, AreNodes, node_of}
 use Rattle.rs_search.specs.Survives.{IsChosen}
-use Rattle.rs_search.specs.Turns.{cut_at, is_keeping, nexts_within, no_turn, owes_more, turn_of}
+use Rattle.rs_search.specs.Turns.{turn_with_cut, is_keeping, nexts_within, no_turn, owes_more, turn_of}
 
 -- whether edges keep the oldest act that is owed
 
@@ -37,9 +37,9 @@ pub keeping_is : (sub above : Machine_data) (bound : ℕ) (p : Spot) (rs rs' : L
     → is_keeping sub above bound p ≡ true
 keeping_is sub above bound p rs rs' makes within move keeps =
     let t = complete sub above p makes rs' move in
-    let m : Among (moves_of (cut_at bound (turn_of (Some t.d))).any (cut_at bound (turn_of (Some t.d))).spots) rs =
-    subst (λ (o : Option Due). Among (moves_of (cut_at bound (turn_of o)).any (cut_at bound (turn_of o)).spots) rs) t.is' (from_move sub above bound p rs within) in
-    subst (λ (o : Option Due). (cut_at bound (turn_of o)).keeps ≡ true) (sym t.is') (elim (bool_cases (owes_more bound (concat t.d.nexts))) [
+    let m : Among (moves_of (turn_with_cut bound (turn_of (Some t.d))).any (turn_with_cut bound (turn_of (Some t.d))).spots) rs =
+    subst (λ (o : Option Due). Among (moves_of (turn_with_cut bound (turn_of o)).any (turn_with_cut bound (turn_of o)).spots) rs) t.is' (from_move sub above bound p rs within) in
+    subst (λ (o : Option Due). (turn_with_cut bound (turn_of o)).keeps ≡ true) (sym t.is') (elim (bool_cases (owes_more bound (concat t.d.nexts))) [
       | inl y ↦ absurd (subst (λ (b : Bool). Among (moves_of (if b then no_turn true else turn_of (Some t.d)).any (if b then no_turn true else turn_of (Some t.d)).spots) rs) y m)
       | inr n ↦ subst (λ (b : Bool). (if b then no_turn true else turn_of (Some t.d)).keeps ≡ true) (sym n) (t.agrees.to keeps)
     ])
@@ -47,7 +47,7 @@ keeping_is sub above bound p rs rs' makes within move keeps =
 pub is_kept : (sub above : Machine_data) (bound : ℕ) (p : Spot) (rs : List Spot) (makes : Option ℕ) → HasMove sub above p makes rs → is_keeping sub above bound p ≡ true → KeepsItsHead p.pending makes
 is_kept sub above bound p rs makes move e =
     let t = complete sub above p makes rs move in
-    let k : (cut_at bound (turn_of (Some t.d))).keeps ≡ true = subst (λ (o : Option Due). (cut_at bound (turn_of o)).keeps ≡ true) t.is' e in
+    let k : (turn_with_cut bound (turn_of (Some t.d))).keeps ≡ true = subst (λ (o : Option Due). (turn_with_cut bound (turn_of o)).keeps ≡ true) t.is' e in
     t.agrees.from (elim (bool_cases (owes_more bound (concat t.d.nexts))) [
       | inl y ↦ absurd (false≢true (subst (λ (b : Bool). (if b then no_turn true else turn_of (Some t.d)).keeps ≡ true) y k))
       | inr n ↦ subst (λ (b : Bool). (if b then no_turn true else turn_of (Some t.d)).keeps ≡ true) n k
@@ -66,7 +66,7 @@ pub record Worked_out (sub above : Machine_data) (bound : ℕ) : Type 0 where
   pub ranks : List ℕ
   pub nodes : List DNode_data
   pub proper : IsProper above
-  pub discovery : IsDiscovery (nexts_within sub above bound) (begin sub above) found rows
+  pub discovery : IsDiscovery (nexts_within sub above bound) (start_spot sub above) found rows
   pub few : length found ≤ MOST_CANDIDATES
   pub pictures : Pictures (moves_at sub above bound) found graph.outs
   pub left : IsRemoval graph.outs current order
@@ -171,11 +171,11 @@ nexts-are sub above bound w =
     same-lists (map (λ (m : DNode_data). m.next) w.nodes) w.nexts (length-map (λ (m : DNode_data). m.next) w.nodes ∙ w.made.size ∙ sym w.numbers.all)
     (λ i row e. let m = map-of (λ (m : DNode_data). m.next) w.nodes i row e in let n = node-is sub above bound w i m.0 m.1 in n.0.is_row ∙ ap Some (ap (λ (z : DNode_data). z.next) n.1 ∙ m.2))
 
-pub canonical : (sub above : Machine_data) (bound : ℕ) (w : Worked_out sub above bound) → IsCanonical sub above bound (record { role = sub.role; bound = bound; nodes = w.nodes })
+pub canonical : (sub above : Machine_data) (bound : ℕ) (w : Worked_out sub above bound) → HasCanonicalNodes sub above bound (record { role = sub.role; bound = bound; nodes = w.nodes })
 canonical sub above bound w = record {
   role = refl;
   bound' = refl;
-  first = spot-at sub above bound w 0 0 (begin sub above) w.numbers.first w.discovery.first;
+  first = spot-at sub above bound w 0 0 (start_spot sub above) w.numbers.first w.discovery.first;
   once = λ i j x ei ej. (
       let k = spot-is sub above bound w i x ei in let l = spot-is sub above bound w j x ej in
       let e : k.0 ≡ l.0 = w.discovery.once k.0 l.0 x k.2 l.2 in
@@ -249,10 +249,10 @@ pub least_on : (E F : ℕ → ℕ → Type 0) → ((i j : ℕ) → E i j → F i
 least_on E F to from i c = record { cycle = (c.cycle.0, walk_on E F to i (suc c.cycle.0) i c.cycle.1); least = λ k d. c.least k (d.0, walk_on F E from k (suc d.0) k d.1) }
 
 few-are : (sub above : Machine_data) (bound : ℕ) (w : Worked_out sub above bound) → AreMoreThan sub above bound MOST_CANDIDATES → ⊥
-few-are sub above bound w m = not_both (nexts_within sub above bound) (begin sub above) w.found w.rows MOST_CANDIDATES w.discovery w.few (less_than sub above bound MOST_CANDIDATES m)
+few-are sub above bound w m = not_both (nexts_within sub above bound) (start_spot sub above) w.found w.rows MOST_CANDIDATES w.discovery w.few (less_than sub above bound MOST_CANDIDATES m)
 
 pub is_found : (sub above : Machine_data) (bound : ℕ) (w : Worked_out sub above bound) (kept : List (List ℕ)) → AreKept (map (is_keeping sub above bound) w.found) w.items w.nexts (length w.items) kept
-    → ((i : ℕ) → IsRank (Edge kept) i (get_or w.ranks i 0)) → IsFound sub above bound (record { role = sub.role; bound = bound; nodes = w.nodes })
+    → ((i : ℕ) → IsRank (Edge kept) i (get_or w.ranks i 0)) → IsCanonical sub above bound (record { role = sub.role; bound = bound; nodes = w.nodes })
 is_found sub above bound w kept a r = record {
   few = few-are sub above bound w;
   canonical = canonical sub above bound w;

@@ -17,12 +17,12 @@ use Rattle.rs_prefix.specs.declared.earliest.Found.{Found}
 use Rattle.rs_prefix.specs.declared.earliest.Found.TheVariants.{At, Blocked, Absent}
 use Rattle.rs_prefix.specs.declared.earliest.Kind.TheVariants.{Send, Receive}
 use Rattle.rs_derive.proofs.Rows.{complete, sound, served}
-use Rattle.rs_derive.specs.Due.{Chosen, Due, all_serve, both_at, due, due_at, ends, guesses, follows, paid, pays_receive, pays_send, receives, receives_past, sends, sends_both, sends_past, served_by, serves_some, stops}
+use Rattle.rs_derive.specs.Due.{Chosen, Due, all_serve, both_at, due, due_at, ends, guesses, follows, due_behind_payment, pays_receive, due_of_send, receives, receives_past, sends, sends_both, sends_past, due_where_served, serves_some, stops}
 use Rattle.rs_derive.specs.Moves.{Spot, arm_of, owing_receive, owing_send, spot}
 use Rattle.rs_search.specs.Candidates.{MeetsACut, MoveWithin}
 use Rattle.rs_graph.specs.Graphs.{moves_of}
 use Rattle.rs_graph.specs.Lists.{Among, concat}
-use Rattle.rs_search.specs.Turns.{cut_at, no_turn, owes_more, turn_of, turn_within}
+use Rattle.rs_search.specs.Turns.{turn_with_cut, no_turn, owes_more, turn_of, turn_within}
 
 -- one spot for each next
 abbrev pub Single : List (List Spot) → Type 0
@@ -61,7 +61,7 @@ split-length (suc n) (x ∷ xs) = let k = split-length n xs in let e : suc n + 1
 pub without_length : (xs : List Act) (n : ℕ) → length (without xs n) ≤ length xs
 without_length xs n = let k = split-length n xs in let l = length-append (take n xs) (drop (n + 1) xs) in omega arith
 
-simple_paid : (p : Spot) (place : ℕ) (a : Arm) → Simple (length p.pending) (Some (paid p place a))
+simple_paid : (p : Spot) (place : ℕ) (a : Arm) → Simple (length p.pending) (Some (due_behind_payment p place a))
 simple_paid p place a = record { form = inl tt; level = one-level (length p.pending) (spot a.next (without p.pending place) p.above) (let k = without_length p.pending place in omega arith) }
 
 simple_stops : (pending : List Act) (count : ℕ) → Simple count (stops pending)
@@ -136,21 +136,21 @@ simple_past p q arms (Some Done) = tt
 simple_past p q arms (Some (Puts r theirs)) = simple_other p r arms theirs (eqb r.0 q.0)
 simple_past p q arms (Some (Takes r theirs)) = simple_follows p r theirs
 
-simple_pays : (p : Spot) (place : ℕ) (arms : List Arm) (o : Option Act) → Simple (length p.pending) (pays_send p place arms o)
+simple_pays : (p : Spot) (place : ℕ) (arms : List Arm) (o : Option Act) → Simple (length p.pending) (due_of_send p place arms o)
 simple_pays p place [] o = tt
 simple_pays p place (a ∷ b ∷ more) o = tt
 simple_pays p place (a ∷ []) None = tt
 simple_pays p place (a ∷ []) (Some (act.Takes r l so)) = tt
-simple_pays p place (a ∷ []) (Some (act.Puts r l so)) = simple_if (length p.pending) (eqb a.label.0 l.0 && serves a.sort so) (Some (paid p place a)) (λ e. simple_paid p place a)
+simple_pays p place (a ∷ []) (Some (act.Puts r l so)) = simple_if (length p.pending) (eqb a.label.0 l.0 && serves a.sort so) (Some (due_behind_payment p place a)) (λ e. simple_paid p place a)
 
 simple_sends : (p : Spot) (q : Role) (arms : List Arm) (t : Option State) (f : Found) → Simple (length p.pending) (sends p q arms t f)
 simple_sends p q arms t (At place) = simple_pays p place arms (slice_get p.pending place)
 simple_sends p q arms t (Blocked place) = tt
 simple_sends p q arms t Absent = simple_past p q arms t
 
-simple_served : (p : Spot) (place : ℕ) (so : Sort) (o : Option Arm) → Simple (length p.pending) (served_by p place so o)
+simple_served : (p : Spot) (place : ℕ) (so : Sort) (o : Option Arm) → Simple (length p.pending) (due_where_served p place so o)
 simple_served p place so None = tt
-simple_served p place so (Some a) = simple_if (length p.pending) (serves so a.sort) (Some (paid p place a)) (λ e. simple_paid p place a)
+simple_served p place so (Some a) = simple_if (length p.pending) (serves so a.sort) (Some (due_behind_payment p place a)) (λ e. simple_paid p place a)
 
 simple_takes : (p : Spot) (place : ℕ) (arms : List Arm) (o : Option Act) → Simple (length p.pending) (pays_receive p place arms o)
 simple_takes p place arms None = tt
@@ -307,7 +307,7 @@ moves_at sub above bound p = moves_of (turn_within sub above bound p).any (turn_
 pub to_move : (sub above : Machine_data) (bound : ℕ) (p : Spot) (rs : List Spot) → Among (moves_at sub above bound p) rs → MoveWithin sub above bound p rs
 to_move sub above bound p rs h = go (due sub above p) refl h
   where
-    go : (o : Option Due) → due sub above p ≡ o → Among (moves_of (cut_at bound (turn_of o)).any (cut_at bound (turn_of o)).spots) rs → MoveWithin sub above bound p rs
+    go : (o : Option Due) → due sub above p ≡ o → Among (moves_of (turn_with_cut bound (turn_of o)).any (turn_with_cut bound (turn_of o)).spots) rs → MoveWithin sub above bound p rs
     go None e m = absurd m
     go (Some d) e m = elim (bool_cases (owes_more bound (concat d.nexts))) [
       | inl t ↦ (let m' : Among (moves_of (no_turn true).any (no_turn true).spots) rs = subst (λ (b : Bool). Among (moves_of (if b then no_turn true else turn_of (Some d)).any (if b then no_turn true else turn_of (Some d)).spots) rs) t m in absurd m')
@@ -331,7 +331,7 @@ pub from_move : (sub above : Machine_data) (bound : ℕ) (p : Spot) (rs : List S
 from_move sub above bound p rs m =
     let t = complete sub above p m.makes rs m.move in
     let s = simple sub above p t.d t.is' in
-    subst (λ (o : Option Due). Among (moves_of (cut_at bound (turn_of o)).any (cut_at bound (turn_of o)).spots) rs) (sym t.is') (elim (bool_cases (owes_more bound (concat t.d.nexts))) [
+    subst (λ (o : Option Due). Among (moves_of (turn_with_cut bound (turn_of o)).any (turn_with_cut bound (turn_of o)).spots) rs) (sym t.is') (elim (bool_cases (owes_more bound (concat t.d.nexts))) [
       | inl y ↦ (let k = more_yes bound (concat t.d.nexts) y in
           let q = s.level.all k.0 k.1 in absurd (too-long bound s.level.owes t.d.nexts rs t.picks (λ r h. s.level.all r (chosen-among t.d.nexts rs t.picks r h)) m.short (let a = k.2 in omega arith) k.0 k.1))
       | inr f ↦ subst (λ (b : Bool). Among (moves_of (if b then no_turn true else turn_of (Some t.d)).any (if b then no_turn true else turn_of (Some t.d)).spots) rs) (sym f) (from_chosen (length p.pending) t.d.nexts rs s t.picks)
@@ -341,7 +341,7 @@ from_move sub above bound p rs m =
 pub to_cut : (sub above : Machine_data) (bound : ℕ) (p : Spot) → length p.pending ≤ bound → (turn_within sub above bound p).cut ≡ true → MeetsACut sub above bound p
 to_cut sub above bound p le h = go (due sub above p) refl h
   where
-    go : (o : Option Due) → due sub above p ≡ o → (cut_at bound (turn_of o)).cut ≡ true → MeetsACut sub above bound p
+    go : (o : Option Due) → due sub above p ≡ o → (turn_with_cut bound (turn_of o)).cut ≡ true → MeetsACut sub above bound p
     go None e m = absurd (false≢true m)
     go (Some d) e m = elim (bool_cases (owes_more bound (concat d.nexts))) [
       | inl y ↦ (let k = more_yes bound (concat d.nexts) y in
@@ -356,7 +356,7 @@ to_cut sub above bound p le h = go (due sub above p) refl h
 pub from_cut : (sub above : Machine_data) (bound : ℕ) (p : Spot) → MeetsACut sub above bound p → (turn_within sub above bound p).cut ≡ true
 from_cut sub above bound p c =
     let t = complete sub above p c.makes c.results c.move in
-    subst (λ (o : Option Due). (cut_at bound (turn_of o)).cut ≡ true) (sym t.is') (elim (bool_cases (owes_more bound (concat t.d.nexts))) [
+    subst (λ (o : Option Due). (turn_with_cut bound (turn_of o)).cut ≡ true) (sym t.is') (elim (bool_cases (owes_more bound (concat t.d.nexts))) [
       | inl y ↦ subst (λ (b : Bool). (if b then no_turn true else turn_of (Some t.d)).cut ≡ true) (sym y) refl
       | inr n ↦ (let k = more_no bound (concat t.d.nexts) n c.result (chosen-among t.d.nexts c.results t.picks c.result c.among) in let l = c.longer in let bad : ⊥ = omega arith in absurd bad)
     ])

@@ -17,15 +17,15 @@ use Rattle.rs_prefix.specs.declared.earliest.Kind.TheVariants.{Send}
 use Rattle.rs_derive.proofs.Acts.{role_is}
 use Rattle.rs_derive.specs.Due.{due, guesses, Due}
 use Rattle.rs_derive.specs.Moves.{Both, HasMove, Stops, PaysSend, SendsBoth, Guesses, SendsAhead, PaysReceive, ReceivesAhead, Spot, owing_send, spot}
-use Rattle.rs_derive.specs.Within.{IsOnce}
-use Rattle.rs_search.specs.Candidates.{begin}
+use Rattle.rs_derive.specs.Within.{HasLabelsOnce}
+use Rattle.rs_search.specs.Candidates.{start_spot}
 use Rattle.rs_graph.specs.Discovery.{IsDiscovery}
 use Rattle.rs_graph.specs.Graphs.{Graph_data, moves_of}
 use Rattle.rs_graph.specs.Lists.{Among, Names}
 use Rattle.rs_graph.specs.Removal.{IsRemoval, at}
 use Rattle.rs_graph.specs.Removal as removal
 use Rattle.rs_search.specs.Survives.{IsChosen}
-use Rattle.rs_search.specs.Turns.{nexts_within, turn_of, cut_at, owes_more, no_turn}
+use Rattle.rs_search.specs.Turns.{nexts_within, turn_of, turn_with_cut, owes_more, no_turn}
 use Rattle.rs_search.proofs.Choices.{moves_at, to_move, without_length, append_nil, bool_cases}
 use Rattle.rs_graph.proofs.Growth.{in_at, at_within}
 use Rattle.rs_graph.proofs.Kept.{Pictures, earlier_dies, names_at}
@@ -74,9 +74,9 @@ moves-guess : (sub above : Machine_data) (bound : ℕ) (p : Spot) (peer : Role) 
     → moves_at sub above bound p ≡ map (λ (x : Spot). x ∷ []) (map (λ b. owing_send p peer b) arms)
 moves-guess sub above bound p peer arms c rs d h =
     let all : List Spot = map (λ b. owing_send p peer b) arms ++ [] in
-    let m : moves_at sub above bound p ≡ moves_of (cut_at bound (turn_of (guesses p peer arms))).any (cut_at bound (turn_of (guesses p peer arms))).spots = ap (λ (o : Option Due). moves_of (cut_at bound (turn_of o)).any (cut_at bound (turn_of o)).spots) d in
+    let m : moves_at sub above bound p ≡ moves_of (turn_with_cut bound (turn_of (guesses p peer arms))).any (turn_with_cut bound (turn_of (guesses p peer arms))).spots = ap (λ (o : Option Due). moves_of (turn_with_cut bound (turn_of o)).any (turn_with_cut bound (turn_of o)).spots) d in
     m ∙ (elim (bool_cases (owes_more bound (map (λ b. owing_send p peer b) arms ++ []))) [
-      | inl y ↦ (let h' : slice_get (moves_of (cut_at bound (turn_of (guesses p peer arms))).any (cut_at bound (turn_of (guesses p peer arms))).spots) c ≡ Some rs = subst (λ (z : List (List Spot)). slice_get z c ≡ Some rs) m h in
+      | inl y ↦ (let h' : slice_get (moves_of (turn_with_cut bound (turn_of (guesses p peer arms))).any (turn_with_cut bound (turn_of (guesses p peer arms))).spots) c ≡ Some rs = subst (λ (z : List (List Spot)). slice_get z c ≡ Some rs) m h in
           let empty : List (List Spot) = [] in let n : slice_get empty c ≡ Some rs = subst (λ (b : Bool). slice_get (moves_of (if b then no_turn true else turn_of (guesses p peer arms)).any (if b then no_turn true else turn_of (guesses p peer arms)).spots) c ≡ Some rs) y h' in absurd (none-some rs n))
       | inr n ↦ subst (λ (b : Bool). moves_of (if b then no_turn true else turn_of (guesses p peer arms)).any (if b then no_turn true else turn_of (guesses p peer arms)).spots ≡ map (λ (x : Spot). x ∷ []) (map (λ b. owing_send p peer b) arms)) (sym n)
           (ap (map (λ (x : Spot). x ∷ [])) (append_nil (map (λ b. owing_send p peer b) arms)))
@@ -106,9 +106,9 @@ same-label p peer a b e =
     ap label-of (last-act p.pending (act.Puts peer a.label a.sort) (act.Puts peer b.label b.sort) (ap (λ (z : Spot). z.pending) q))
 
 -- the results of the move at which a node stays are the chosen ones
-pub chosen : (sub above : Machine_data) (bound : ℕ) (found : List Spot) (rows : List (List ℕ)) (g : Graph_data) (current order : List ℕ) → IsDiscovery (nexts_within sub above bound) (begin sub above) found rows
+pub chosen : (sub above : Machine_data) (bound : ℕ) (found : List Spot) (rows : List (List ℕ)) (g : Graph_data) (current order : List ℕ) → IsDiscovery (nexts_within sub above bound) (start_spot sub above) found rows
     → Pictures (moves_at sub above bound) found g.outs → IsRemoval g.outs current order
-    → ((peer : Role) (arms : List Arm) (t : ℕ) → slice_get above.states t ≡ Some (Puts peer arms) → IsOnce arms)
+    → ((peer : Role) (arms : List Arm) (t : ℕ) → slice_get above.states t ≡ Some (Puts peer arms) → HasLabelsOnce arms)
     → (n : ℕ) (x : Spot) → slice_get found n ≡ Some x → at current n < removal.moves_at g.outs n
     → (rs : List Spot) × IsChosen sub above bound x rs × Names found (get_or (get_or g.outs n []) (at current n) []) rs
 chosen sub above bound found rows g current order d pic rem once n x e lt =

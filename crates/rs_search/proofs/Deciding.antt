@@ -29,8 +29,8 @@ use Rattle.rs_search.proofs.Removing.{IsLeft, left}
 use Rattle.rs_search.proofs.Rounds.{all_discovered, ranks_or_cycle}
 use Rattle.rs_search.proofs.Same.{not_spot, spot_is}
 use Rattle.rs_search.proofs.Verdicts.{cut_from, cut_to, dies, less_than, more_than, names_length, rows_within}
-use Rattle.rs_search.specs.Candidates.{begin}
-use Rattle.rs_search.specs.Canonical.{IsDerivable, IsFound, IsNotFound, Refuses}
+use Rattle.rs_search.specs.Candidates.{start_spot}
+use Rattle.rs_search.specs.Canonical.{IsDerivable, IsCanonical, IsNotFound, SearchRefuses}
 use Rattle.rs_search.specs.Nodes.{AreKept, AreNodes, node_of}
 use Rattle.rs_search.specs.Turns.{is_any, is_cut, is_keeping, nexts_within}
 use Rattle.rs_search.specs.declared.faults.SearchFault.{SearchFault}
@@ -88,11 +88,11 @@ moves-in false row (suc place) r h = (let e : get_or {A = List ℕ} [] place [] 
 abbrev pub graph_outs : Machine_data → Machine_data → ℕ → List Spot → List (List ℕ) → List (List (List ℕ))
 graph_outs sub above bound found rows = outs_of (is_any sub above bound) found rows
 
-pub row_at : (sub above : Machine_data) (bound : ℕ) (found : List Spot) (rows : List (List ℕ)) → IsDiscovery (nexts_within sub above bound) (begin sub above) found rows
+pub row_at : (sub above : Machine_data) (bound : ℕ) (found : List Spot) (rows : List (List ℕ)) → IsDiscovery (nexts_within sub above bound) (start_spot sub above) found rows
     → (n : ℕ) (x : Spot) → slice_get found n ≡ Some x → (row : List ℕ) × (slice_get rows n ≡ Some row)
 row_at sub above bound found rows d n x e = at_within rows n (let a = at_short found n x e in let b = d.all in omega arith)
 
-pub graph_pictures : (sub above : Machine_data) (bound : ℕ) (found : List Spot) (rows : List (List ℕ)) → IsDiscovery (nexts_within sub above bound) (begin sub above) found rows
+pub graph_pictures : (sub above : Machine_data) (bound : ℕ) (found : List Spot) (rows : List (List ℕ)) → IsDiscovery (nexts_within sub above bound) (start_spot sub above) found rows
     → Pictures (moves_at sub above bound) found (graph_outs sub above bound found rows)
 graph_pictures sub above bound found rows d = record {
   size = outs-length any found rows d.all;
@@ -106,7 +106,7 @@ graph_pictures sub above bound found rows d = record {
     any : Spot → Bool
     any p = is_any sub above bound p
 
-pub graph_within : (sub above : Machine_data) (bound : ℕ) (found : List Spot) (rows : List (List ℕ)) → IsDiscovery (nexts_within sub above bound) (begin sub above) found rows
+pub graph_within : (sub above : Machine_data) (bound : ℕ) (found : List Spot) (rows : List (List ℕ)) → IsDiscovery (nexts_within sub above bound) (start_spot sub above) found rows
     → (n p r : ℕ) → Leads (graph_outs sub above bound found rows) n p r → r < length (graph_outs sub above bound found rows)
 graph_within sub above bound found rows d n p r h = elim (cases_lt n (length found)) [
   | inr a ↦ (let s = pictures.size in let e = get_or_past outs n [] (omega arith) in
@@ -114,7 +114,7 @@ graph_within sub above bound found rows d n p r h = elim (cases_lt n (length fou
       let bad : Among [] r = subst (λ (z : List ℕ). Among z r) (ap (λ (z : List (List ℕ)). get_or z p []) e ∙ q) h in absurd bad)
   | inl a ↦ (let x = at_within found n a in let row = row_at sub above bound found rows d n x.0 x.1 in
       let m = moves-in (any x.0) row.0 p r (subst (λ (z : List (List ℕ)). Among (get_or z p []) r) (outs-at any found rows n x.0 row.0 x.1 row.1) h) in
-      let k = rows_within (nexts_within sub above bound) (begin sub above) found rows d n r (subst (λ (z : List ℕ). Among z r) (sym (got rows n row.0 [] row.1)) m) in
+      let k = rows_within (nexts_within sub above bound) (start_spot sub above) found rows d n r (subst (λ (z : List ℕ). Among z r) (sym (got rows n row.0 [] row.1)) m) in
       let s = pictures.size in let l = d.all in omega arith)
 ]
   where
@@ -129,12 +129,12 @@ graph_within sub above bound found rows d n p r h = elim (cases_lt n (length fou
 
 -- the candidates, their graph, and what is left of it
 record Explored (sub above : Machine_data) (bound : ℕ) : Type 0 where
-  pub whole : IsWhole (nexts_within sub above bound) (begin sub above) MOST_CANDIDATES
+  pub whole : IsWhole (nexts_within sub above bound) (start_spot sub above) MOST_CANDIDATES
   pub outs : List (List (List ℕ))
   pub pictures : Pictures (moves_at sub above bound) whole.found outs
   pub left : IsLeft outs
 
-explored : (sub above : Machine_data) (bound : ℕ) → IsWhole (nexts_within sub above bound) (begin sub above) MOST_CANDIDATES → Explored sub above bound
+explored : (sub above : Machine_data) (bound : ℕ) → IsWhole (nexts_within sub above bound) (start_spot sub above) MOST_CANDIDATES → Explored sub above bound
 explored sub above bound w = record {
   whole = w;
   outs = graph_outs sub above bound w.found w.rows;
@@ -147,8 +147,8 @@ not-found sub above bound x le =
     let found = x.whole.found in let rows = x.whole.rows in let d = x.whole.discovery in (
       list_any (is_cut sub above bound) found,
       record {
-        few = λ m. not_both (nexts_within sub above bound) (begin sub above) found rows MOST_CANDIDATES d x.whole.few (less_than sub above bound MOST_CANDIDATES m);
-        dies = dies sub above bound found (record { outs = x.outs; intos = [] }) x.left.current x.left.order x.pictures x.left.removal 0 (begin sub above) d.first le;
+        few = λ m. not_both (nexts_within sub above bound) (start_spot sub above) found rows MOST_CANDIDATES d x.whole.few (less_than sub above bound MOST_CANDIDATES m);
+        dies = dies sub above bound found (record { outs = x.outs; intos = [] }) x.left.current x.left.order x.pictures x.left.removal 0 (start_spot sub above) d.first le;
         cuts = (cut_to sub above bound found rows d, cut_from sub above bound found rows d);
       },
     )
@@ -173,7 +173,7 @@ nodes-all found items nexts ranks e inside (suc n) i s nodes a =
     nodes-all found items nexts ranks e inside n (i + 1) (omega arith) (nodes ++ (node ∷ [])) (nodes_on found items nexts ranks i m.0 (get_or ranks i 0) p.0 row.0 nodes (nodes ++ (node ∷ [])) node a m.1 p.1 row.1 refl refl refl)
 
 abbrev pub Decision : Machine_data → Machine_data → ℕ → Type 0
-Decision sub above bound = ((d : Derivation_data) × IsFound sub above bound d) ⊎ ((fault : SearchFault) × (fault ≢ NoMemory) × Refuses sub above bound fault)
+Decision sub above bound = ((d : Derivation_data) × IsCanonical sub above bound d) ⊎ ((fault : SearchFault) × (fault ≢ NoMemory) × SearchRefuses sub above bound fault)
 
 stays-on : (sub above : Machine_data) (bound : ℕ) → IsProper above → (x : Explored sub above bound) → at x.left.current 0 < removal.moves_at x.outs 0 → Decision sub above bound
 stays-on sub above bound proper x start =
@@ -232,7 +232,7 @@ stays-on sub above bound proper x start =
     }
 
 pub decided : (sub above : Machine_data) (bound : ℕ) → IsProper sub → IsProper above → Decision sub above bound
-decided sub above bound ws wa = elim (discovered same-spots (nexts_within sub above bound) (begin sub above) MOST_CANDIDATES (suc MOST_CANDIDATES) (begin sub above ∷ []) [] (omega arith) (omega arith) (growing_begin (nexts_within sub above bound) (begin sub above))) [
+decided sub above bound ws wa = elim (discovered same-spots (nexts_within sub above bound) (start_spot sub above) MOST_CANDIDATES (suc MOST_CANDIDATES) (start_spot sub above ∷ []) [] (omega arith) (omega arith) (growing_begin (nexts_within sub above bound) (start_spot sub above))) [
   | inr m ↦ inr (TooLarge, (λ e. cc (e)), more_than sub above bound MOST_CANDIDATES m)
   | inl w ↦ (let x = explored sub above bound w in
       elim (cases_lt (at x.left.current 0) (removal.moves_at x.outs 0)) [
@@ -241,15 +241,15 @@ decided sub above bound ws wa = elim (discovered same-spots (nexts_within sub ab
       ])
 ]
 
-pub is_derivable : (sub above : Machine_data) (bound : ℕ) (d : Derivation_data) → IsFound sub above bound d → IsDerivable sub above bound
+pub is_derivable : (sub above : Machine_data) (bound : ℕ) (d : Derivation_data) → IsCanonical sub above bound d → IsDerivable sub above bound
 is_derivable sub above bound d f = record { few = f.few; survives = starts_survive sub above bound d f.canonical; remembers = no_answer_is_forgetful sub above bound d f }
 
 -- what may be derived isn't refused
-pub not_refused : (sub above : Machine_data) (bound : ℕ) → IsDerivable sub above bound → (fault : SearchFault) → fault ≢ NoMemory → Refuses sub above bound fault → ⊥
+pub not_refused : (sub above : Machine_data) (bound : ℕ) → IsDerivable sub above bound → (fault : SearchFault) → fault ≢ NoMemory → SearchRefuses sub above bound fault → ⊥
 not_refused sub above bound h (NotFound cut) ne r = r.dies h.survives
 not_refused sub above bound h (Forgets node) ne r = h.remembers (is_forgetful sub above bound node r)
 not_refused sub above bound h TooLarge ne r = h.few r
 not_refused sub above bound h NoMemory ne r = ne refl
 
-pub derivable : (sub above : Machine_data) (bound : ℕ) → IsProper sub → IsProper above → ((d : Derivation_data) × IsFound sub above bound d) ↔ IsDerivable sub above bound
+pub derivable : (sub above : Machine_data) (bound : ℕ) → IsProper sub → IsProper above → ((d : Derivation_data) × IsCanonical sub above bound d) ↔ IsDerivable sub above bound
 derivable sub above bound ws wa = ((λ f. is_derivable sub above bound f.0 f.1), (λ h. elim (decided sub above bound ws wa) [ inl f ↦ f | inr r ↦ absurd (not_refused sub above bound h r.0 r.1 r.2) ]))

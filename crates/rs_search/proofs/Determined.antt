@@ -24,8 +24,8 @@ use Rattle.rs_graph.proofs.Kept.{names_at}
 use Rattle.rs_search.proofs.Accepted.{nodes_are_candidates}
 use Rattle.rs_search.proofs.Assembled.{least_on, walk_on}
 use Rattle.rs_search.proofs.Choices.{Single, both-single, follow-single, single-is}
-use Rattle.rs_search.specs.Candidates.{IsCandidate, begin}
-use Rattle.rs_search.specs.Canonical.{IsCanonical, IsForgetful, IsForgets, IsFound, KeepsHead, Refuses}
+use Rattle.rs_search.specs.Candidates.{IsCandidate, start_spot}
+use Rattle.rs_search.specs.Canonical.{HasCanonicalNodes, IsForgetful, IsForgets, IsCanonical, KeepsHead, SearchRefuses}
 use Rattle.rs_search.specs.Survives.{IsChosen, IsSupported, Survives}
 use Rattle.rs_search.specs.declared.faults.SearchFault.{SearchFault}
 use Rattle.rs_search.specs.declared.faults.SearchFault.TheVariants.{NotFound, Forgets, TooLarge, NoMemory}
@@ -199,7 +199,7 @@ length-map : {X Y : Type 0} (f : X → Y) (xs : List X) → length (map f xs) �
 length-map f [] = refl
 length-map f (x ∷ xs) = ap suc (length-map f xs)
 
-follows : (sub above : Machine_data) (bound : ℕ) (d : Derivation_data) → IsCanonical sub above bound d → Follow sub above bound (spots d) (nexts d) 0
+follows : (sub above : Machine_data) (bound : ℕ) (d : Derivation_data) → HasCanonicalNodes sub above bound d → Follow sub above bound (spots d) (nexts d) 0
 follows sub above bound d c i row p er ep =
     let m = map-of (λ (m : DNode_data). m.next) d.nodes i row er in
     let f = c.each i m.0 m.1 in
@@ -221,7 +221,7 @@ pub record Same (d e : Derivation_data) : Type 0 where
   pub role : d.role ≡ e.role
   pub bound : d.bound ≡ e.bound
 
-pub one_canonical : (sub above : Machine_data) (bound : ℕ) (d e : Derivation_data) → IsCanonical sub above bound d → IsCanonical sub above bound e → Same d e
+pub one_canonical : (sub above : Machine_data) (bound : ℕ) (d e : Derivation_data) → HasCanonicalNodes sub above bound d → HasCanonicalNodes sub above bound e → Same d e
 one_canonical sub above bound d e c c' =
     let ld = length-map (λ (m : DNode_data). spot_of m) d.nodes in
     let le = length-map (λ (m : DNode_data). spot_of m) e.nodes in
@@ -267,7 +267,7 @@ node-same n m es er en = ap (λ (z : Spot). node-of z n.rank n.next) es ∙ ap (
 rank-most : (sub above : Machine_data) (d e : Derivation_data) → Same d e → (i a b : ℕ) → IsRank (KeepsHead sub above d.nodes) i a → IsRank (KeepsHead sub above e.nodes) i b → a ≤ b
 rank-most sub above d e s i a b r q = q.most a r.end (walk_on (KeepsHead sub above d.nodes) (KeepsHead sub above e.nodes) (keeps_on sub above d e s) i a r.end r.walk)
 
-pub one_answer : (sub above : Machine_data) (bound : ℕ) (d e : Derivation_data) → IsFound sub above bound d → IsFound sub above bound e → d ≡ e
+pub one_answer : (sub above : Machine_data) (bound : ℕ) (d e : Derivation_data) → IsCanonical sub above bound d → IsCanonical sub above bound e → d ≡ e
 one_answer sub above bound d e f g =
     let s = one_canonical sub above bound d e f.canonical g.canonical in
     let l : length d.nodes ≡ length e.nodes = sym (length-map (λ (m : DNode_data). spot_of m) d.nodes) ∙ ap (λ (z : List Spot). length z) s.spots' ∙ length-map (λ (m : DNode_data). spot_of m) e.nodes in
@@ -286,7 +286,7 @@ one_answer sub above bound d e f g =
     make a b c = rw (a, b, c) refl
 
 -- the start of a canonical derivation survives
-pub starts_survive : (sub above : Machine_data) (bound : ℕ) (d : Derivation_data) → IsCanonical sub above bound d → Survives sub above bound (begin sub above)
+pub starts_survive : (sub above : Machine_data) (bound : ℕ) (d : Derivation_data) → HasCanonicalNodes sub above bound d → Survives sub above bound (start_spot sub above)
 starts_survive sub above bound d c = record {
   set = spots d;
   stand = record {
@@ -299,7 +299,7 @@ starts_survive sub above bound d c = record {
           all = λ r k. (let a = names_at (spots d) n.0.next f.results f.names r k in in_at (spots d) a.0 r a.1);
         });
   };
-  among = in_at (spots d) 0 (begin sub above) c.first;
+  among = in_at (spots d) 0 (start_spot sub above) c.first;
 }
 
 -- ranks leave no cycle
@@ -317,7 +317,7 @@ no-round E i rank n r w = let x = round E i n w (suc rank) in let a = r.most x.0
 first-edge : (E : ℕ → ℕ → Type 0) (i n k : ℕ) → Walk E i (suc n) k → (j : ℕ) × E i j
 first-edge E i n k (Further _ j _ _ e w) = (j, e)
 
-pub no_answer_is_forgetful : (sub above : Machine_data) (bound : ℕ) (d : Derivation_data) → IsFound sub above bound d → IsForgetful sub above bound → ⊥
+pub no_answer_is_forgetful : (sub above : Machine_data) (bound : ℕ) (d : Derivation_data) → IsCanonical sub above bound d → IsForgetful sub above bound → ⊥
 no_answer_is_forgetful sub above bound d f g =
     let s = one_canonical sub above bound g.derivation d g.canonical f.canonical in
     let w = walk_on (KeepsHead sub above g.derivation.nodes) (KeepsHead sub above d.nodes) (keeps_on sub above g.derivation d s) g.node (suc g.cycle.0) g.node g.cycle.1 in
@@ -342,7 +342,7 @@ same-cuts true false f g = sym (f refl)
 same-cuts false true f g = g refl
 same-cuts false false f g = refl
 
-pub one_refusal : (sub above : Machine_data) (bound : ℕ) (f g : SearchFault) → f ≢ NoMemory → g ≢ NoMemory → Refuses sub above bound f → Refuses sub above bound g → f ≡ g
+pub one_refusal : (sub above : Machine_data) (bound : ℕ) (f g : SearchFault) → f ≢ NoMemory → g ≢ NoMemory → SearchRefuses sub above bound f → SearchRefuses sub above bound g → f ≡ g
 one_refusal sub above bound NoMemory g nf ng a b = absurd (nf refl)
 one_refusal sub above bound (NotFound cut) NoMemory nf ng a b = absurd (ng refl)
 one_refusal sub above bound (Forgets node) NoMemory nf ng a b = absurd (ng refl)
@@ -357,13 +357,13 @@ one_refusal sub above bound TooLarge (NotFound cut) nf ng a b = absurd (b.few a)
 one_refusal sub above bound TooLarge (Forgets node) nf ng a b = absurd (b.few a)
 one_refusal sub above bound TooLarge TooLarge nf ng a b = refl
 
-pub not_both_ways : (sub above : Machine_data) (bound : ℕ) (d : Derivation_data) (f : SearchFault) → IsFound sub above bound d → Refuses sub above bound f → f ≡ NoMemory
+pub not_both_ways : (sub above : Machine_data) (bound : ℕ) (d : Derivation_data) (f : SearchFault) → IsCanonical sub above bound d → SearchRefuses sub above bound f → f ≡ NoMemory
 not_both_ways sub above bound d (NotFound cut) i r = absurd (r.dies (starts_survive sub above bound d i.canonical))
 not_both_ways sub above bound d (Forgets node) i r = absurd (no_answer_is_forgetful sub above bound d i (is_forgetful sub above bound node r))
 not_both_ways sub above bound d TooLarge i r = absurd (i.few r)
 not_both_ways sub above bound d NoMemory i r = refl
 
-pub few_nodes : (sub above : Machine_data) (bound : ℕ) (d : Derivation_data) → IsFound sub above bound d → length d.nodes ≤ MOST_CANDIDATES
+pub few_nodes : (sub above : Machine_data) (bound : ℕ) (d : Derivation_data) → IsCanonical sub above bound d → length d.nodes ≤ MOST_CANDIDATES
 few_nodes sub above bound d f = elim (cases_lt MOST_CANDIDATES (length d.nodes)) [
   | inl lt ↦ absurd (f.few record {
     spots = spots d;

@@ -21,15 +21,15 @@ use Rattle.rs_search.proofs.Deciding.{graph_outs, graph_pictures, graph_within, 
 use Rattle.rs_search.proofs.Places.{place_at, place_is, places_length}
 use Rattle.rs_search.proofs.Verdicts.{names_length, rows_within}
 use Rattle.rs_graph.proofs.Buckets.{got}
-use Rattle.rs_search.specs.Candidates.{begin}
-use Rattle.rs_search.specs.Canonical.{IsFound}
+use Rattle.rs_search.specs.Candidates.{start_spot}
+use Rattle.rs_search.specs.Canonical.{IsCanonical}
 use Rattle.rs_search.specs.Nodes.{AreKept, AreNodes, places_of}
 use Rattle.rs_search.specs.Turns.{is_any, is_keeping, nexts_within}
 
 -- no spot may choose among several
 pub record IsForced (sub above : Machine_data) (bound : ℕ) (found : List Spot) (rows : List (List ℕ)) : Type 0 where
   pub proper : IsProper above
-  pub discovery : IsDiscovery (nexts_within sub above bound) (begin sub above) found rows
+  pub discovery : IsDiscovery (nexts_within sub above bound) (start_spot sub above) found rows
   pub few : length found ≤ MOST_CANDIDATES
   pub forced : (n : ℕ) (x : Spot) → slice_get found n ≡ Some x → is_any sub above bound x ≡ true → length (nexts_within sub above bound x) ≡ 1
 
@@ -101,11 +101,11 @@ names-itself found [] h = tt
 names-itself found (n ∷ row) h = (place_at found n (h n (inl refl)), names-itself found row (λ r m. h r (inr m)))
 
 reached-by-number : (sub above : Machine_data) (bound : ℕ) (found : List Spot) (rows : List (List ℕ)) → IsForced sub above bound found rows
-    → (x : Spot) → Reached (nexts_within sub above bound) (begin sub above) x → (n : ℕ) → slice_get found n ≡ Some x → Reached (next_of (graph_outs sub above bound found rows) (firsts_of found)) 0 n
+    → (x : Spot) → Reached (nexts_within sub above bound) (start_spot sub above) x → (n : ℕ) → slice_get found n ≡ Some x → Reached (next_of (graph_outs sub above bound found rows) (firsts_of found)) 0 n
 reached-by-number sub above bound found rows f _ Begin n e =
-    let q = f.discovery.once 0 n (begin sub above) f.discovery.first e in subst (λ (z : ℕ). Reached (next_of (graph_outs sub above bound found rows) (firsts_of found)) 0 z) q Begin
+    let q = f.discovery.once 0 n (start_spot sub above) f.discovery.first e in subst (λ (z : ℕ). Reached (next_of (graph_outs sub above bound found rows) (firsts_of found)) 0 z) q Begin
 reached-by-number sub above bound found rows f _ (Step a y r m) n e =
-    let k = at_in found a (all_found (nexts_within sub above bound) (begin sub above) found rows f.discovery a r) in
+    let k = at_in found a (all_found (nexts_within sub above bound) (start_spot sub above) found rows f.discovery a r) in
     let w = moves-first sub above bound found rows f k.0 (at_short found k.0 a k.1) in
     let p : w.point ≡ a = same_Some w.point a (sym w.at_place ∙ k.1) in
     let j = names_at found w.row (nexts_within sub above bound a) (f.discovery.names k.0 a w.row k.1 w.is_row) y m in
@@ -116,7 +116,7 @@ reached-by-number sub above bound found rows f _ (Step a y r m) n e =
 forced-numbers : (sub above : Machine_data) (bound : ℕ) (found : List Spot) (rows : List (List ℕ)) → IsForced sub above bound found rows
     → IsDiscovery (next_of (graph_outs sub above bound found rows) (firsts_of found)) 0 (places_of 0 found) rows
 forced-numbers sub above bound found rows f = record {
-  first = place_at found 0 (at_short found 0 (begin sub above) f.discovery.first);
+  first = place_at found 0 (at_short found 0 (start_spot sub above) f.discovery.first);
   once = λ i j x a b. (place_is found i x a).0 ∙ sym (place_is found j x b).0;
   all = f.discovery.all ∙ sym (places_length 0 found);
   names = λ k x row a b. (let i = place_is found k x a in
@@ -124,7 +124,7 @@ forced-numbers sub above bound found rows f = record {
       let r : w.row ≡ row = same_Some w.row row (sym w.is_row ∙ b) in
       let nx : next_of (graph_outs sub above bound found rows) (firsts_of found) x ≡ row = ap (λ (z : ℕ). next_of (graph_outs sub above bound found rows) (firsts_of found) z) (sym i.0) ∙ w.next ∙ r in
       subst (λ (z : List ℕ). Names (places_of 0 found) row z) (sym nx)
-      (names-itself found row (λ j m. (let g = rows_within (nexts_within sub above bound) (begin sub above) found rows f.discovery k j (subst (λ (z : List ℕ). Among z j) (sym (got rows k row [] b)) m) in let l = f.discovery.all in omega arith))));
+      (names-itself found row (λ j m. (let g = rows_within (nexts_within sub above bound) (start_spot sub above) found rows f.discovery k j (subst (λ (z : List ℕ). Among z j) (sym (got rows k row [] b)) m) in let l = f.discovery.all in omega arith))));
   reached = λ n x e. (let i = place_is found n x e in let p = at_within found n i.1 in
       subst (λ (z : ℕ). Reached (next_of (graph_outs sub above bound found rows) (firsts_of found)) 0 z) i.0 (reached-by-number sub above bound found rows f p.0 (f.discovery.reached n p.0 p.1) n p.1));
   order = subst (λ (z : ℕ). Worked 0 1 rows z) (sym (places_length 0 found)) f.discovery.order;
@@ -133,7 +133,7 @@ forced-numbers sub above bound found rows f = record {
 -- the answer where no spot has a choice
 pub forced_found : (sub above : Machine_data) (bound : ℕ) (found : List Spot) (rows : List (List ℕ)) (ranks : List ℕ) (nodes : List DNode_data) (kept : List (List ℕ)) → IsForced sub above bound found rows
     → AreNodes found (places_of 0 found) rows ranks (length (places_of 0 found)) nodes → AreKept (map (is_keeping sub above bound) found) (places_of 0 found) rows (length (places_of 0 found)) kept
-    → ((i : ℕ) → IsRank (Edge kept) i (get_or ranks i 0)) → IsFound sub above bound (record { role = sub.role; bound = bound; nodes = nodes })
+    → ((i : ℕ) → IsRank (Edge kept) i (get_or ranks i 0)) → IsCanonical sub above bound (record { role = sub.role; bound = bound; nodes = nodes })
 forced_found sub above bound found rows ranks nodes kept f made are fit = is_found sub above bound (record {
   found = found;
   rows = rows;

@@ -8,7 +8,7 @@ use Rattle.rs_graph.proofs.Buckets.{got}
 use Rattle.rs_graph.proofs.Growth.{at_within}
 use Rattle.rs_graph.proofs.Ranking.{fit_ranks}
 use Rattle.rs_graph.specs.Lists.{Among}
-use Rattle.rs_graph.specs.Ranks.{Edge, Fits}
+use Rattle.rs_graph.specs.Ranks.{Edge, RankFits}
 use Rattle.rs_graph.specs.Walks.{IsRank}
 use Rattle.rs_search.proofs.Places.{place_is, places_length}
 use Rattle.rs_model.specs.declared.limits.TheConstants.{MOST_CANDIDATES}
@@ -19,9 +19,9 @@ use Rattle.rs_derive.specs.Moves.{Spot}
 use Rattle.rs_graph.specs.Discovery.{IsDiscovery}
 use Rattle.rs_search.proofs.Choices.{bool_cases}
 use Rattle.rs_search.proofs.Forced.{IsForced, forced_found}
-use Rattle.rs_search.specs.Candidates.{begin}
-use Rattle.rs_search.specs.Canonical.{IsFound}
-use Rattle.rs_search.specs.Forward.{AreForward, kept_at, kept_row}
+use Rattle.rs_search.specs.Candidates.{start_spot}
+use Rattle.rs_search.specs.Canonical.{IsCanonical}
+use Rattle.rs_search.specs.Forward.{AreForward, kept_row_of, kept_row}
 use Rattle.rs_search.specs.Nodes.{AreKept, AreNodes, places_of}
 use Rattle.rs_search.specs.Turns.{Turn_data, has_choice, is_choosing, is_keeping, nexts_within, turn_within}
 
@@ -34,29 +34,29 @@ forward_none keeps rows ranks e = record {
 }
 
 pub forward_on : (keeps : List Bool) (rows : List (List ℕ)) (ranks : List ℕ) (before n rank : ℕ) → before ≡ suc n → before ≤ length rows → AreForward keeps rows ranks before
-    → Fits (kept_at keeps rows n) ranks rank → ((j : ℕ) → Among (kept_at keeps rows n) j → n < j) → rank + n < length ranks → AreForward keeps rows (set ranks n rank) n
+    → RankFits (kept_row_of keeps rows n) ranks rank → ((j : ℕ) → Among (kept_row_of keeps rows n) j → n < j) → rank + n < length ranks → AreForward keeps rows (set ranks n rank) n
 forward_on keeps rows ranks before n rank eb within f fit on low =
     let size = f.size in
     let inn : n < length ranks = omega arith in
     let here : get_or (set ranks n rank) n 0 ≡ rank = get_or-set_same ranks n rank 0 inn in
     let other : (x : ℕ) → x ≢ n → get_or (set ranks n rank) x 0 ≡ get_or ranks x 0 = λ x ne. get_or-set_other ranks n x rank 0 ne in
     let apart : (x : ℕ) → n < x → x ≢ n = λ x lt e. (let bad : ⊥ = omega arith in bad) in
-    let kept : (row : List ℕ) (r : ℕ) → ((j : ℕ) → Among row j → n < j) → Fits row ranks r → Fits row (set ranks n rank) r = λ row r far q. record {
+    let kept : (row : List ℕ) (r : ℕ) → ((j : ℕ) → Among row j → n < j) → RankFits row ranks r → RankFits row (set ranks n rank) r = λ row r far q. record {
       falls = λ j m. (let e = other j (apart j (far j m)) in let a = q.falls j m in omega arith);
       tight = (elim q.tight [ inl z ↦ inl z | inr p ↦ (let e = other p.0 (apart p.0 (far p.0 p.1)) in inr (p.0, p.1, (let a = p.2 in omega arith))) ]);
     } in
     record {
       size = length-set ranks n rank ∙ f.size;
       fits = λ m a b. elim (cases_lt n m) [
-        | inl lt ↦ subst (λ (z : ℕ). Fits (kept_at keeps rows m) (set ranks n rank) z) (sym (other m (apart m lt)))
-            (kept (kept_at keeps rows m) (get_or ranks m 0) (λ j k. (let w = f.on m j (omega arith) b k in omega arith)) (f.fits m (omega arith) b))
+        | inl lt ↦ subst (λ (z : ℕ). RankFits (kept_row_of keeps rows m) (set ranks n rank) z) (sym (other m (apart m lt)))
+            (kept (kept_row_of keeps rows m) (get_or ranks m 0) (λ j k. (let w = f.on m j (omega arith) b k in omega arith)) (f.fits m (omega arith) b))
         | inr ge ↦ (let e : n ≡ m = omega arith in
-            subst (λ (z : ℕ). Fits (kept_at keeps rows z) (set ranks n rank) (get_or (set ranks n rank) z 0)) e
-            (subst (λ (z : ℕ). Fits (kept_at keeps rows n) (set ranks n rank) z) (sym here) (kept (kept_at keeps rows n) rank on fit)))
+            subst (λ (z : ℕ). RankFits (kept_row_of keeps rows z) (set ranks n rank) (get_or (set ranks n rank) z 0)) e
+            (subst (λ (z : ℕ). RankFits (kept_row_of keeps rows n) (set ranks n rank) z) (sym here) (kept (kept_row_of keeps rows n) rank on fit)))
       ];
       on = λ m j a b k. elim (cases_lt n m) [
         | inl lt ↦ f.on m j (omega arith) b k
-        | inr ge ↦ (let e : m ≡ n = omega arith in subst (λ (z : ℕ). z < j) (sym e) (on j (subst (λ (z : ℕ). Among (kept_at keeps rows z) j) e k)))
+        | inr ge ↦ (let e : m ≡ n = omega arith in subst (λ (z : ℕ). z < j) (sym e) (on j (subst (λ (z : ℕ). Among (kept_row_of keeps rows z) j) e k)))
       ];
       low = λ m a b. elim (cases_lt n m) [
         | inl lt ↦ (let e = other m (apart m lt) in let l = f.low m (omega arith) b in omega arith)
@@ -87,7 +87,7 @@ kept-get [] (r ∷ rows) (suc n) row e = kept-get [] rows n row e ∙ ap (λ (b 
 kept-get (b ∷ keeps) (r ∷ rows) zero row e = ap (λ (z : List ℕ). Some (kept_row b z)) (same_Some r row e)
 kept-get (b ∷ keeps) (r ∷ rows) (suc n) row e = kept-get keeps rows n row e
 
-kept-edge : (keeps : List Bool) (rows : List (List ℕ)) (n : ℕ) → n < length rows → get_or (kept_rows keeps rows) n [] ≡ kept_at keeps rows n
+kept-edge : (keeps : List Bool) (rows : List (List ℕ)) (n : ℕ) → n < length rows → get_or (kept_rows keeps rows) n [] ≡ kept_row_of keeps rows n
 kept-edge keeps rows n h =
     let r = at_within rows n h in
     got (kept_rows keeps rows) n (kept_row (get_or keeps n false) r.0) [] (kept-get keeps rows n r.0 r.1)
@@ -140,8 +140,8 @@ one-spot t e any = elim (bool_cases (eqb (length t.spots) 1)) [
 ]
 
 pub forward_found : (sub above : Machine_data) (bound : ℕ) (found : List Spot) (rows : List (List ℕ)) (keeps : List Bool) (ranks : List ℕ) (nodes : List DNode_data) (choosing : Bool) → IsProper above
-    → IsDiscovery (nexts_within sub above bound) (begin sub above) found rows → length found ≤ MOST_CANDIDATES → keeps ≡ map (is_keeping sub above bound) found → choosing ≡ list_any (is_choosing sub above bound) found
-    → choosing ≡ false → AreForward keeps rows ranks 0 → AreNodes found (places_of 0 found) rows ranks (length found) nodes → IsFound sub above bound (record { role = sub.role; bound = bound; nodes = nodes })
+    → IsDiscovery (nexts_within sub above bound) (start_spot sub above) found rows → length found ≤ MOST_CANDIDATES → keeps ≡ map (is_keeping sub above bound) found → choosing ≡ list_any (is_choosing sub above bound) found
+    → choosing ≡ false → AreForward keeps rows ranks 0 → AreNodes found (places_of 0 found) rows ranks (length found) nodes → IsCanonical sub above bound (record { role = sub.role; bound = bound; nodes = nodes })
 forward_found sub above bound found rows keeps ranks nodes choosing w d few ek ec none f made =
     let forced : IsForced sub above bound found rows = record {
       proper = w;

@@ -8,7 +8,7 @@ use Rattle.rs_graph.proofs.Ranking.{cycle_within, ranked_none, ranked_on}
 use Rattle.rs_graph.proofs.Removed.{upto, upto_has, upto_length}
 use Rattle.rs_graph.specs.Discovery.{Reached, Begin, Step}
 use Rattle.rs_graph.specs.Lists.{Among}
-use Rattle.rs_graph.specs.Ranks.{Edge, Fits, IsOrdered, Ranked}
+use Rattle.rs_graph.specs.Ranks.{Edge, RankFits, IsOrdered, Ranked}
 use Rattle.rs_graph.specs.Walks.{Walk, Here, Further, IsLeastOnCycle, IsOnCycle, IsRank}
 use Rattle.rs_search.proofs.Discovering.{IsWhole, among_or_not, discovered, same_number}
 use Rattle.rs_search.proofs.Removing.{left}
@@ -78,7 +78,7 @@ least-or-none rows inside (suc m) h = elim (least-or-none rows inside m (omega a
 ]
 
 -- a rank that is right by those of the row
-fitting : (row ranks : List ℕ) → (rank : ℕ) × Fits row ranks rank
+fitting : (row ranks : List ℕ) → (rank : ℕ) × RankFits row ranks rank
 fitting [] ranks = (zero, record { falls = λ j h. absurd h; tight = inl refl })
 fitting (j ∷ row) ranks =
     let k = fitting row ranks in

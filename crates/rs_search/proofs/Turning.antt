@@ -13,7 +13,7 @@ use Rattle.rs_derive.specs.declared.rules.Rule.TheVariants.{Stops, Pays, SendsBo
 use Rattle.rs_graph.specs.Lists.{Among, concat}
 use Rattle.rs_graph.proofs.Buckets.{got}
 use Rattle.rs_graph.proofs.Growth.{drop_here, take_on}
-use Rattle.rs_search.specs.Turns.{Turn_data, cut_at, cuts, may_choose, no_turn, owes_more, told_by, turn_of}
+use Rattle.rs_search.specs.Turns.{Turn_data, turn_with_cut, cuts, may_choose, no_turn, owes_more, turn_by_code, turn_of}
 use Rattle.rs_search.specs.declared.turns.Turn.{Turn}
 use Rattle.rs_search.proofs.Choices.{append_nil, among-nil, both-level, follow-level, guess-level, without_length}
 
@@ -74,12 +74,12 @@ cut_is bound p arms theirs (Follows q) h =
     pushed bound (length p.pending) (length theirs) (concat (map (λ b. owing_receive p q b ∷ []) theirs)) (follow-level p q theirs)
     (ap (λ (z : List Spot). length z) (follow-length p q theirs) ∙ length_map (λ b. owing_receive p q b) theirs)
 
-pub turn_cut : (bound : ℕ) (p : Spot) (arms theirs : List Arm) (rule : Rule) → length p.pending ≤ bound → cuts bound p.pending theirs rule ≡ true → no_turn true ≡ cut_at bound (turn_of (Some (due_by p arms theirs rule)))
+pub turn_cut : (bound : ℕ) (p : Spot) (arms theirs : List Arm) (rule : Rule) → length p.pending ≤ bound → cuts bound p.pending theirs rule ≡ true → no_turn true ≡ turn_with_cut bound (turn_of (Some (due_by p arms theirs rule)))
 turn_cut bound p arms theirs rule h e =
     subst (λ (b : Bool). no_turn true ≡ (if b then no_turn true else turn_of (Some (due_by p arms theirs rule)))) (sym (cut_is bound p arms theirs rule h ∙ e)) refl
 
 pub turn_kept : (bound : ℕ) (p : Spot) (arms theirs : List Arm) (rule : Rule) (t : Turn_data) → length p.pending ≤ bound → cuts bound p.pending theirs rule ≡ false
-    → t.cut ≡ false → t.any ≡ may_choose arms theirs rule → t.keeps ≡ keeps_head p.pending rule → t.spots ≡ concat (nexts_by p arms theirs rule) → t ≡ cut_at bound (turn_of (Some (due_by p arms theirs rule)))
+    → t.cut ≡ false → t.any ≡ may_choose arms theirs rule → t.keeps ≡ keeps_head p.pending rule → t.spots ≡ concat (nexts_by p arms theirs rule) → t ≡ turn_with_cut bound (turn_of (Some (due_by p arms theirs rule)))
 turn_kept bound p arms theirs rule t h e c a k s =
     subst (λ (b : Bool). t ≡ (if b then no_turn true else turn_of (Some (due_by p arms theirs rule)))) (sym (cut_is bound p arms theirs rule h ∙ e))
     (same t (turn_of (Some (due_by p arms theirs rule))) c (a ∙ choose_is p arms theirs rule) k s)
@@ -121,5 +121,5 @@ both_on theirs pending xs i d o spots new whole h eo en e =
     both_step (λ a. both_at pending a (arm_of theirs a.label)) xs i (get_or xs i d) spots new whole (arm_at xs i d h)
     (en ∙ ap (λ (z : Option Arm). spots ++ both_at pending (get_or xs i d) z) eo) e
 
-pub told_none : (p : Spot) (arms theirs : List Arm) (t : Turn) (cut : Bool) → (t.cut ≡ cut) × (t.any ≡ true) × (t.keeps ≡ false) × (t.rule ≡ None) → told_by p arms theirs t ≡ no_turn cut
+pub told_none : (p : Spot) (arms theirs : List Arm) (t : Turn) (cut : Bool) → (t.cut ≡ cut) × (t.any ≡ true) × (t.keeps ≡ false) × (t.rule ≡ None) → turn_by_code p arms theirs t ≡ no_turn cut
 told_none p arms theirs t cut h = rw (h.0, h.1, h.2, h.3) refl

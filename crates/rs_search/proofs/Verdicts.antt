@@ -8,7 +8,7 @@ use Rattle.rs_graph.proofs.Buckets.{got}
 use Rattle.rs_model.specs.Data.{Machine_data}
 use Rattle.rs_derive.specs.Moves.{Spot}
 use Rattle.rs_graph.specs.Built.{IsBuilt}
-use Rattle.rs_search.specs.Candidates.{AreMoreThan, IsCandidate, Start, Onward, begin}
+use Rattle.rs_search.specs.Candidates.{AreMoreThan, IsCandidate, Start, Onward, start_spot}
 use Rattle.rs_search.specs.Canonical.{IsNotFound, SomeCut}
 use Rattle.rs_graph.specs.Discovery.{IsDiscovery, MoreThan, Reached, Begin, Step}
 use Rattle.rs_graph.specs.Graphs.{Graph_data, moves_of}
@@ -37,13 +37,13 @@ moves-among true (s ∷ spots) r (inl e) = (s ∷ [], inl refl, inl e)
 moves-among true (s ∷ spots) r (inr m) = let k = moves-among true spots r m in (k.0, inr k.1, k.2)
 moves-among false spots r m = (spots, inl refl, m)
 
-pub to_candidate : (sub above : Machine_data) (bound : ℕ) (p : Spot) → Reached (nexts_within sub above bound) (begin sub above) p → IsCandidate sub above bound p
+pub to_candidate : (sub above : Machine_data) (bound : ℕ) (p : Spot) → Reached (nexts_within sub above bound) (start_spot sub above) p → IsCandidate sub above bound p
 to_candidate sub above bound _ Begin = Start
 to_candidate sub above bound _ (Step x y r m) =
     let k = moves-among (turn_within sub above bound x).any (turn_within sub above bound x).spots y m in
     Onward x k.0 y (to_candidate sub above bound x r) (to_move sub above bound x k.0 k.1) k.2
 
-pub from_candidate : (sub above : Machine_data) (bound : ℕ) (p : Spot) → IsCandidate sub above bound p → Reached (nexts_within sub above bound) (begin sub above) p
+pub from_candidate : (sub above : Machine_data) (bound : ℕ) (p : Spot) → IsCandidate sub above bound p → Reached (nexts_within sub above bound) (start_spot sub above) p
 from_candidate sub above bound _ Start = Begin
 from_candidate sub above bound _ (Onward p rs r c m k) =
     Step p r (from_candidate sub above bound p c) (among-moves (turn_within sub above bound p).any (turn_within sub above bound p).spots rs (from_move sub above bound p rs m) r k)
@@ -52,10 +52,10 @@ pub candidate_short : (sub above : Machine_data) (bound : ℕ) (p : Spot) → Is
 candidate_short sub above bound _ Start = omega arith
 candidate_short sub above bound _ (Onward p rs r c m k) = m.short r k
 
-pub more_than : (sub above : Machine_data) (bound limit : ℕ) → MoreThan limit (nexts_within sub above bound) (begin sub above) → AreMoreThan sub above bound limit
+pub more_than : (sub above : Machine_data) (bound limit : ℕ) → MoreThan limit (nexts_within sub above bound) (start_spot sub above) → AreMoreThan sub above bound limit
 more_than sub above bound limit m = record { spots = m.some; each = λ p h. (let s = at_in m.some p h in to_candidate sub above bound p (m.reached s.0 p s.1)); once = m.once; many = m.many }
 
-pub less_than : (sub above : Machine_data) (bound limit : ℕ) → AreMoreThan sub above bound limit → MoreThan limit (nexts_within sub above bound) (begin sub above)
+pub less_than : (sub above : Machine_data) (bound limit : ℕ) → AreMoreThan sub above bound limit → MoreThan limit (nexts_within sub above bound) (start_spot sub above)
 less_than sub above bound limit m = record { some = m.spots; once = m.once; reached = λ i p e. from_candidate sub above bound p (m.each p (in_at m.spots i p e)); many = m.many }
 
 -- sets of both kinds
@@ -71,14 +71,14 @@ map-at f (y ∷ xs) d zero x e = ap f cc
 map-at f (y ∷ xs) d (suc k) x e = map-at f xs d k x e
 
 -- the graph that was built is that of the candidates
-pub pictures : (sub above : Machine_data) (bound : ℕ) (found : List Spot) (rows : List (List ℕ)) (anys : List Bool) (g : Graph_data) → IsDiscovery (nexts_within sub above bound) (begin sub above) found rows
+pub pictures : (sub above : Machine_data) (bound : ℕ) (found : List Spot) (rows : List (List ℕ)) (anys : List Bool) (g : Graph_data) → IsDiscovery (nexts_within sub above bound) (start_spot sub above) found rows
     → anys ≡ map (is_any sub above bound) found → IsBuilt anys rows (length rows) g → Pictures (moves_at sub above bound) found g.outs
 pictures sub above bound found rows anys g d e b =
     pictured (is_any sub above bound) (nexts_within sub above bound) found anys rows g d.all d.names
     (λ k x q. ap (λ (z : List Bool). get_or z k false) e ∙ map-at (is_any sub above bound) found false k x q) b
 
 -- a node that stays is that of a spot that survives
-pub survives : (sub above : Machine_data) (bound : ℕ) (found : List Spot) (rows : List (List ℕ)) (g : Graph_data) (current order : List ℕ) → IsDiscovery (nexts_within sub above bound) (begin sub above) found rows
+pub survives : (sub above : Machine_data) (bound : ℕ) (found : List Spot) (rows : List (List ℕ)) (g : Graph_data) (current order : List ℕ) → IsDiscovery (nexts_within sub above bound) (start_spot sub above) found rows
     → Pictures (moves_at sub above bound) found g.outs → IsRemoval g.outs current order → (n : ℕ) (x : Spot) → slice_get found n ≡ Some x → at current n < removal.moves_at g.outs n → Survives sub above bound x
 survives sub above bound found rows g current order d pic rem n x e lt = record {
   set = kept_of g.outs current found;
@@ -106,26 +106,26 @@ has-any f [] x m e = absurd m
 has-any f (y ∷ xs) x (inl q) e = (let k : f y ≡ true = subst (λ (z : Spot). f z ≡ true) (sym q) e in rw k refl)
 has-any f (y ∷ xs) x (inr m) e = rw (has-any f xs x m e) (or-right (f y))
 
-pub cut_to : (sub above : Machine_data) (bound : ℕ) (found : List Spot) (rows : List (List ℕ)) → IsDiscovery (nexts_within sub above bound) (begin sub above) found rows → list_any (is_cut sub above bound) found ≡ true → SomeCut sub above bound
+pub cut_to : (sub above : Machine_data) (bound : ℕ) (found : List Spot) (rows : List (List ℕ)) → IsDiscovery (nexts_within sub above bound) (start_spot sub above) found rows → list_any (is_cut sub above bound) found ≡ true → SomeCut sub above bound
 cut_to sub above bound found rows d e =
     let k = any-has (is_cut sub above bound) found e in
     let s = at_in found k.0 k.1 in
     let c = to_candidate sub above bound k.0 (d.reached s.0 k.0 s.1) in
     record { spot = k.0; candidate = c; cut = to_cut sub above bound k.0 (candidate_short sub above bound k.0 c) k.2 }
 
-pub cut_from : (sub above : Machine_data) (bound : ℕ) (found : List Spot) (rows : List (List ℕ)) → IsDiscovery (nexts_within sub above bound) (begin sub above) found rows → SomeCut sub above bound → list_any (is_cut sub above bound) found ≡ true
+pub cut_from : (sub above : Machine_data) (bound : ℕ) (found : List Spot) (rows : List (List ℕ)) → IsDiscovery (nexts_within sub above bound) (start_spot sub above) found rows → SomeCut sub above bound → list_any (is_cut sub above bound) found ≡ true
 cut_from sub above bound found rows d c =
-    has-any (is_cut sub above bound) found c.spot (all_found (nexts_within sub above bound) (begin sub above) found rows d c.spot (from_candidate sub above bound c.spot c.candidate)) (from_cut sub above bound c.spot c.cut)
+    has-any (is_cut sub above bound) found c.spot (all_found (nexts_within sub above bound) (start_spot sub above) found rows d c.spot (from_candidate sub above bound c.spot c.candidate)) (from_cut sub above bound c.spot c.cut)
 
 -- where node 0 is removed the start doesn't survive
-pub not_found : (sub above : Machine_data) (bound : ℕ) (found : List Spot) (rows : List (List ℕ)) (anys : List Bool) (g : Graph_data) (current order : List ℕ) (cut : Bool) → IsDiscovery (nexts_within sub above bound) (begin sub above) found rows
+pub not_found : (sub above : Machine_data) (bound : ℕ) (found : List Spot) (rows : List (List ℕ)) (anys : List Bool) (g : Graph_data) (current order : List ℕ) (cut : Bool) → IsDiscovery (nexts_within sub above bound) (start_spot sub above) found rows
     → length found ≤ MOST_CANDIDATES → anys ≡ map (is_any sub above bound) found → cut ≡ list_any (is_cut sub above bound) found → IsBuilt anys rows (length rows) g → IsRemoval g.outs current order → at current 0 ≡ removal.moves_at g.outs 0
     → IsNotFound sub above bound cut
 not_found sub above bound found rows anys g current order cut d few ea ec b rem all =
     let pic = pictures sub above bound found rows anys g d ea b in
     record {
-      few = λ m. not_both (nexts_within sub above bound) (begin sub above) found rows MOST_CANDIDATES d few (less_than sub above bound MOST_CANDIDATES m);
-      dies = λ s. dies sub above bound found g current order pic rem 0 (begin sub above) d.first (omega arith) s;
+      few = λ m. not_both (nexts_within sub above bound) (start_spot sub above) found rows MOST_CANDIDATES d few (less_than sub above bound MOST_CANDIDATES m);
+      dies = λ s. dies sub above bound found g current order pic rem 0 (start_spot sub above) d.first (omega arith) s;
       cuts = ((λ e. cut_to sub above bound found rows d (sym ec ∙ e)), (λ c. ec ∙ cut_from sub above bound found rows d c));
     }
 

@@ -5,8 +5,8 @@ use Rattle.rs_derive.specs.Moves.{Spot, spot, HasMove}
 use Rattle.rs_graph.specs.Lists.{Among, Once}
 
 -- both at their starts, with nothing owed
-abbrev pub begin : Machine_data → Machine_data → Spot
-begin sub above = spot sub.start [] above.start
+abbrev pub start_spot : Machine_data → Machine_data → Spot
+start_spot sub above = spot sub.start [] above.start
 
 -- a move of the spot of which no result owes more than the bound
 pub record MoveWithin (sub above : Machine_data) (bound : ℕ) (p : Spot) (results : List Spot) : Type 0 where
@@ -16,7 +16,7 @@ pub record MoveWithin (sub above : Machine_data) (bound : ℕ) (p : Spot) (resul
 
 -- the least set that has the start, and with each spot all results of all its moves within the bound
 pub data IsCandidate (sub above : Machine_data) (bound : ℕ) : Spot → Type 0 where
-  Start : IsCandidate sub above bound (begin sub above)
+  Start : IsCandidate sub above bound (start_spot sub above)
   Onward : (p : Spot) (results : List Spot) (r : Spot) → IsCandidate sub above bound p → MoveWithin sub above bound p results → Among results r
       → IsCandidate sub above bound r
 

@@ -5,7 +5,7 @@ use Rattle.rs_model.specs.Data.{Machine_data}
 use Rattle.rs_derive.specs.Data.{DNode_data, Derivation_data}
 use Rattle.rs_derive.specs.Derivations.{KeepsItsHead, spot_of}
 use Rattle.rs_derive.specs.Moves.{Spot, HasMove}
-use Rattle.rs_search.specs.Candidates.{begin, IsCandidate, MeetsACut, AreMoreThan}
+use Rattle.rs_search.specs.Candidates.{start_spot, IsCandidate, MeetsACut, AreMoreThan}
 use Rattle.rs_graph.specs.Discovery.{Worked}
 use Rattle.rs_graph.specs.Lists.{Among, Once, Names}
 use Rattle.rs_search.specs.Survives.{Survives, IsChosen}
@@ -20,10 +20,10 @@ pub record FollowsTheChoice (sub above : Machine_data) (bound : ℕ) (nodes : Li
   pub names : Names (map (λ (m : DNode_data). spot_of m) nodes) n.next results
 
 -- the canonical derivation, but for its ranks: from the start by the chosen moves, numbered in order of first discovery
-pub record IsCanonical (sub above : Machine_data) (bound : ℕ) (d : Derivation_data) : Type 0 where
+pub record HasCanonicalNodes (sub above : Machine_data) (bound : ℕ) (d : Derivation_data) : Type 0 where
   pub role : d.role ≡ sub.role
   pub bound' : d.bound ≡ bound
-  pub first : slice_get (map (λ (m : DNode_data). spot_of m) d.nodes) 0 ≡ Some (begin sub above)
+  pub first : slice_get (map (λ (m : DNode_data). spot_of m) d.nodes) 0 ≡ Some (start_spot sub above)
   pub once : Once (map (λ (m : DNode_data). spot_of m) d.nodes)
   pub each : (i : ℕ) (n : DNode_data) → slice_get d.nodes i ≡ Some n → FollowsTheChoice sub above bound d.nodes n
   pub order : Worked 0 1 (map (λ (m : DNode_data). m.next) d.nodes) (length d.nodes)
@@ -39,9 +39,9 @@ pub record KeepsHead (sub above : Machine_data) (nodes : List DNode_data) (i j :
   pub leads : Among node.next j
 
 -- the canonical derivation: with it each rank is the greatest length of a walk of edges that keep their head
-pub record IsFound (sub above : Machine_data) (bound : ℕ) (d : Derivation_data) : Type 0 where
+pub record IsCanonical (sub above : Machine_data) (bound : ℕ) (d : Derivation_data) : Type 0 where
   pub few : AreMoreThan sub above bound MOST_CANDIDATES → ⊥
-  pub canonical : IsCanonical sub above bound d
+  pub canonical : HasCanonicalNodes sub above bound d
   pub ranks : (i : ℕ) (n : DNode_data) → slice_get d.nodes i ≡ Some n → IsRank (KeepsHead sub above d.nodes) i n.rank
 
 -- some candidate meets a cut
@@ -53,32 +53,32 @@ pub record SomeCut (sub above : Machine_data) (bound : ℕ) : Type 0 where
 -- the start doesn't survive; cut tells whether some candidate meets a cut
 pub record IsNotFound (sub above : Machine_data) (bound : ℕ) (cut : Bool) : Type 0 where
   pub few : AreMoreThan sub above bound MOST_CANDIDATES → ⊥
-  pub dies : Survives sub above bound (begin sub above) → ⊥
+  pub dies : Survives sub above bound (start_spot sub above) → ⊥
   pub cuts : (cut ≡ true) ↔ SomeCut sub above bound
 
 -- the canonical derivation has a cycle of edges that keep their head, and the node is the least on one
 pub record IsForgets (sub above : Machine_data) (bound node : ℕ) : Type 0 where
   pub few : AreMoreThan sub above bound MOST_CANDIDATES → ⊥
   pub derivation : Derivation_data
-  pub canonical : IsCanonical sub above bound derivation
+  pub canonical : HasCanonicalNodes sub above bound derivation
   pub cycle : IsLeastOnCycle (KeepsHead sub above derivation.nodes) node
 
 -- the canonical derivation has a cycle of edges that keep their head, round which the oldest act may be owed for ever
 pub record IsForgetful (sub above : Machine_data) (bound : ℕ) : Type 0 where
   pub derivation : Derivation_data
-  pub canonical : IsCanonical sub above bound derivation
+  pub canonical : HasCanonicalNodes sub above bound derivation
   pub node : ℕ
   pub cycle : IsOnCycle (KeepsHead sub above derivation.nodes) node
 
 -- there are at most 65,536 candidates, the start survives, and the canonical derivation has no such cycle
 pub record IsDerivable (sub above : Machine_data) (bound : ℕ) : Type 0 where
   pub few : AreMoreThan sub above bound MOST_CANDIDATES → ⊥
-  pub survives : Survives sub above bound (begin sub above)
+  pub survives : Survives sub above bound (start_spot sub above)
   pub remembers : IsForgetful sub above bound → ⊥
 
 -- what each fault says; want of memory says nothing
-abbrev pub Refuses : Machine_data → Machine_data → ℕ → SearchFault → Type 0
-Refuses sub above bound (NotFound cut) = IsNotFound sub above bound cut
-Refuses sub above bound (Forgets node) = IsForgets sub above bound node
-Refuses sub above bound TooLarge = AreMoreThan sub above bound MOST_CANDIDATES
-Refuses sub above bound NoMemory = Unit {0}
+abbrev pub SearchRefuses : Machine_data → Machine_data → ℕ → SearchFault → Type 0
+SearchRefuses sub above bound (NotFound cut) = IsNotFound sub above bound cut
+SearchRefuses sub above bound (Forgets node) = IsForgets sub above bound node
+SearchRefuses sub above bound TooLarge = AreMoreThan sub above bound MOST_CANDIDATES
+SearchRefuses sub above bound NoMemory = Unit {0}

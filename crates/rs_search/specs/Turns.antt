@@ -37,12 +37,12 @@ abbrev pub owes_more : ℕ → List Spot → Bool
 owes_more bound spots = list_any (λ (r : Spot). nat_lt bound (length r.pending)) spots
 
 -- the bound takes the moves away where a spot owes more
-abbrev pub cut_at : ℕ → Turn_data → Turn_data
-cut_at bound t = if owes_more bound t.spots then no_turn true else t
+abbrev pub turn_with_cut : ℕ → Turn_data → Turn_data
+turn_with_cut bound t = if owes_more bound t.spots then no_turn true else t
 
 -- the turn of a spot within the bound
 abbrev pub turn_within : Machine_data → Machine_data → ℕ → Spot → Turn_data
-turn_within sub above bound p = cut_at bound (turn_of (due sub above p))
+turn_within sub above bound p = turn_with_cut bound (turn_of (due sub above p))
 
 -- what the moves of a spot lead to
 abbrev pub nexts_within : Machine_data → Machine_data → ℕ → Spot → List Spot
@@ -95,8 +95,8 @@ spots_by p arms theirs None = []
 spots_by p arms theirs (Some rule) = concat (nexts_by p arms theirs rule)
 
 -- the turn of a spot by what the code tells of it
-abbrev pub told_by : Spot → List Arm → List Arm → Turn → Turn_data
-told_by p arms theirs t = record { cut = t.cut; any = t.any; keeps = t.keeps; spots = spots_by p arms theirs t.rule }
+abbrev pub turn_by_code : Spot → List Arm → List Arm → Turn → Turn_data
+turn_by_code p arms theirs t = record { cut = t.cut; any = t.any; keeps = t.keeps; spots = spots_by p arms theirs t.rule }
 
 -- the spot behind an arm by which the projection has sent or received
 abbrev pub owing_by : Kind → Spot → Role → Arm → Spot

@@ -1,7 +1,7 @@
 //! Ranks along edges that all lead to greater numbers, from the last number to the first.
 ghost use Rattle.std.specs.Prelude.{◌≡◌, ◌<◌, ◌≤◌, ◌+◌, ◌^◌, [], List, ℕ, IfOk, IfSome, length, slice_index_or};
 ghost use Rattle.rs_graph.specs.Lists.{Among};
-ghost use Rattle.rs_graph.specs.Ranks.{Edge, Fits};
+ghost use Rattle.rs_graph.specs.Ranks.{Edge, RankFits};
 ghost use Rattle.rs_search.specs.Forward.{AreForward, kept_row};
 
 use rs_graph::Row;
@@ -14,7 +14,7 @@ fn rank_behind(row: &[u32], number: usize, ranks: &[u32]) -> Option<u32>
     requires here { number < length ranks.now }
     requires within { (j : ℕ) → Among row.now j → j < length ranks.now }
     requires low { (j : ℕ) → number < j → j < length ranks.now → slice_index_or ranks.now j 0 + j < length ranks.now }
-    ensures fits { IfSome result (λ rank. Fits row.now ranks.now rank) }
+    ensures fits { IfSome result (λ rank. RankFits row.now ranks.now rank) }
     ensures on { IfSome result (λ rank. (j : ℕ) → Among row.now j → number < j) }
     ensures low { IfSome result (λ rank. rank + number < length ranks.now) }
 {
@@ -35,7 +35,7 @@ fn rank_of(keeps: bool, row: &[u32], number: usize, ranks: &[u32]) -> Option<u32
     requires here { number < length ranks.now }
     requires within { (j : ℕ) → Among row.now j → j < length ranks.now }
     requires low { (j : ℕ) → number < j → j < length ranks.now → slice_index_or ranks.now j 0 + j < length ranks.now }
-    ensures fits { IfSome result (λ rank. Fits (kept_row keeps row.now) ranks.now rank) }
+    ensures fits { IfSome result (λ rank. RankFits (kept_row keeps row.now) ranks.now rank) }
     ensures on { IfSome result (λ rank. (j : ℕ) → Among (kept_row keeps row.now) j → number < j) }
     ensures low { IfSome result (λ rank. rank + number < length ranks.now) }
 {

@@ -4,11 +4,11 @@ ghost use Rattle.std.specs.List.{list_any};
 ghost use Rattle.rs_derive.specs.Derivations.{IsProper};
 ghost use Rattle.rs_derive.specs.Due.{both_at};
 ghost use Rattle.rs_derive.specs.Moves.{Spot, arm_of, spot};
-ghost use Rattle.rs_derive.specs.Rules.{Fits, nexts_by};
-ghost use Rattle.rs_derive.specs.Within.{IsOnce};
+ghost use Rattle.rs_derive.specs.Rules.{RuleFits, nexts_by};
+ghost use Rattle.rs_derive.specs.Within.{HasLabelsOnce};
 ghost use Rattle.rs_prefix.specs.Earliest.{without};
 ghost use Rattle.rs_search.specs.Buckets.{act_code, acts_code, bucket_of};
-ghost use Rattle.rs_search.specs.Candidates.{begin};
+ghost use Rattle.rs_search.specs.Candidates.{start_spot};
 ghost use Rattle.rs_search.specs.Index.{AreChained, Chained};
 ghost use Rattle.rs_search.specs.Itself.{AreNamed, AreNamedAt, GrowsBy};
 ghost use Rattle.rs_graph.specs.Discovery.{Adds, Grown, IsDiscovery, MoreThan};
@@ -263,7 +263,7 @@ fn name_owing(
     requires heads { length index.old.heads.items < 2 ^ 32 }
     requires chained { AreChained (bucket_of (length index.old.heads.items)) found.old.items index.old.heads.items index.old.links.items }
     requires there { k < length found.old.items }
-    requires once { IsOnce theirs.now }
+    requires once { HasLabelsOnce theirs.now }
     ensures named { IfOk result (λ row. AreNamedAt (λ p. map (λ b. owing_by kind p peer b) theirs.now) found.old.items k found.new.items row) }
     ensures short { IfOk result (λ row. length row ≤ 2 ^ 16) }
     ensures large { IfErr result (λ e. e ≡ TooLarge → limit < length found.new.items) }
@@ -331,7 +331,7 @@ fn name_both(
     requires heads { length index.old.heads.items < 2 ^ 32 }
     requires chained { AreChained (bucket_of (length index.old.heads.items)) found.old.items index.old.heads.items index.old.links.items }
     requires there { k < length found.old.items }
-    requires once { IsOnce arms.now }
+    requires once { HasLabelsOnce arms.now }
     ensures named { IfOk result (λ row. AreNamedAt (λ p. concat (map (λ a. both_at p.pending a (arm_of theirs.now a.label)) arms.now)) found.old.items k found.new.items row) }
     ensures short { IfOk result (λ row. length row ≤ 2 ^ 16) }
     ensures large { IfErr result (λ e. e ≡ TooLarge → limit < length found.new.items) }
@@ -366,9 +366,9 @@ fn name_by(
     requires heads { length index.old.heads.items < 2 ^ 32 }
     requires chained { AreChained (bucket_of (length index.old.heads.items)) found.old.items index.old.heads.items index.old.links.items }
     requires there { k < length found.old.items }
-    requires ours { IsOnce arms.now }
-    requires theirs { IsOnce theirs.now }
-    requires fits { (p : Spot) → slice_get found.old.items k ≡ Some p → Fits p.pending arms.now theirs.now rule }
+    requires ours { HasLabelsOnce arms.now }
+    requires theirs { HasLabelsOnce theirs.now }
+    requires fits { (p : Spot) → slice_get found.old.items k ≡ Some p → RuleFits p.pending arms.now theirs.now rule }
     ensures named { IfOk result (λ row. AreNamedAt (λ p. concat (nexts_by p arms.now theirs.now rule)) found.old.items k found.new.items row) }
     ensures short { IfOk result (λ row. length row ≤ 2 ^ 16) }
     ensures large { IfErr result (λ e. e ≡ TooLarge → limit < length found.new.items) }
@@ -411,9 +411,9 @@ fn name_all(
     requires heads { length index.old.heads.items < 2 ^ 32 }
     requires chained { AreChained (bucket_of (length index.old.heads.items)) found.old.items index.old.heads.items index.old.links.items }
     requires there { k < length found.old.items }
-    requires ours { IsOnce arms.now }
-    requires theirs { IsOnce theirs.now }
-    requires fits { (p : Spot) → slice_get found.old.items k ≡ Some p → IfSome rule (λ r. Fits p.pending arms.now theirs.now r) }
+    requires ours { HasLabelsOnce arms.now }
+    requires theirs { HasLabelsOnce theirs.now }
+    requires fits { (p : Spot) → slice_get found.old.items k ≡ Some p → IfSome rule (λ r. RuleFits p.pending arms.now theirs.now r) }
     ensures named { IfOk result (λ row. AreNamedAt (λ p. spots_by p arms.now theirs.now rule) found.old.items k found.new.items row) }
     ensures short { IfOk result (λ row. length row ≤ 2 ^ 16) }
     ensures large { IfErr result (λ e. e ≡ TooLarge → limit < length found.new.items) }
@@ -432,7 +432,7 @@ fn name_all(
 }
 
 fn start_of(alloc: Global, sub: &Machine, above: &Machine) -> Point
-    ensures { result ≡ begin sub.now above.now }
+    ensures { result ≡ start_spot sub.now above.now }
 {
     Point {
         state: sub.start,
@@ -488,14 +488,14 @@ pub fn find_all(
     requires limit { limit + 1 < 2 ^ 32 }
     requires ours { IsProper sub.now }
     requires theirs { IsProper above.now }
-    ensures found { IfOk result (λ d. IsDiscovery (nexts_within sub.now above.now bound) (begin sub.now above.now) d.points.items d.rows.items) }
+    ensures found { IfOk result (λ d. IsDiscovery (nexts_within sub.now above.now bound) (start_spot sub.now above.now) d.points.items d.rows.items) }
     ensures few { IfOk result (λ d. length d.points.items ≤ limit) }
     ensures short { IfOk result (λ d. (n : ℕ) → length (slice_index_or d.rows.items n []) ≤ 2 ^ 16) }
     ensures anys { IfOk result (λ d. d.anys.items ≡ map (is_any sub.now above.now bound) d.points.items) }
     ensures keeps { IfOk result (λ d. d.keeps.items ≡ map (is_keeping sub.now above.now bound) d.points.items) }
     ensures cut { IfOk result (λ d. d.cut ≡ list_any (is_cut sub.now above.now bound) d.points.items) }
     ensures choosing { IfOk result (λ d. d.choosing ≡ list_any (is_choosing sub.now above.now bound) d.points.items) }
-    ensures large { IfErr result (λ e. e ≡ TooLarge → MoreThan limit (nexts_within sub.now above.now bound) (begin sub.now above.now)) }
+    ensures large { IfErr result (λ e. e ≡ TooLarge → MoreThan limit (nexts_within sub.now above.now bound) (start_spot sub.now above.now)) }
 {
     let start = start_of(alloc, sub, above);
     let mut index = empty_index(alloc, bucket_count(sub, above), first_room(sub, above))?;

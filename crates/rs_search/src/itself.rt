@@ -3,10 +3,10 @@ ghost use Rattle.std.specs.Prelude.{◌≡◌, ◌<◌, ◌≤◌, ◌∷◌, []
 ghost use Rattle.rs_model.specs.declared.limits.TheConstants.{MOST_CANDIDATES};
 ghost use Rattle.rs_derive.specs.Derivations.{IsProper};
 ghost use Rattle.rs_derive.specs.Moves.{Spot, owing_receive};
-ghost use Rattle.rs_derive.specs.Within.{IsOnce};
+ghost use Rattle.rs_derive.specs.Within.{HasLabelsOnce};
 ghost use Rattle.rs_graph.specs.Discovery.{Adds};
 ghost use Rattle.rs_graph.specs.Lists.{Among};
-ghost use Rattle.rs_search.specs.Canonical.{IsFound};
+ghost use Rattle.rs_search.specs.Canonical.{IsCanonical};
 ghost use Rattle.rs_search.specs.Itself.{AreNamed, ArePlaced, IsOfItself, even, nexts_itself, owed_list};
 ghost use Rattle.rs_search.specs.Nodes.{node_of};
 
@@ -184,7 +184,7 @@ fn owe_all(
     peer: Role,
     arms: &[Arm],
 ) -> Result<Row, Fault>
-    requires once { IsOnce arms.now }
+    requires once { HasLabelsOnce arms.now }
     requires fresh { (p : Spot) → Among found.old.items p → p.state ≡ state → p.pending ≡ [] }
     requires few { length found.old.items ≤ MOST_CANDIDATES }
     ensures named { IfOk result (λ row. AreNamed found.old.items (map (λ b. owing_receive (even state) peer b) arms.now) found.new.items row) }
@@ -248,7 +248,7 @@ fn usual_size(states: &[State]) -> usize {
 // The nodes of the derivation of the machine from itself, within any bound that allows one act to be owed.
 fn nodes_itself(alloc: Global, machine: &Machine) -> Result<Vec<DNode>, Fault>
     requires proper { IsProper machine.now }
-    ensures { IfOk result (λ v. (bound : ℕ) → 0 < bound → IsFound machine.now machine.now bound (record { role = machine.now.role; bound = bound; nodes = v.items })) }
+    ensures { IfOk result (λ v. (bound : ℕ) → 0 < bound → IsCanonical machine.now machine.now bound (record { role = machine.now.role; bound = bound; nodes = v.items })) }
 {
     let mut places: Vec<Option<u32>> = vec![in alloc; None; machine.states.len()]?;
     let room = usual_size(&machine.states);
@@ -269,7 +269,7 @@ fn nodes_itself(alloc: Global, machine: &Machine) -> Result<Vec<DNode>, Fault>
 pub fn search_itself(alloc: Global, machine: &Machine, bound: u8) -> Result<Derivation, Fault>
     requires proper { IsProper machine.now }
     requires some { 0 < bound }
-    ensures { IfOk result (λ d. IsFound machine.now machine.now bound d) }
+    ensures { IfOk result (λ d. IsCanonical machine.now machine.now bound d) }
 {
     let nodes = nodes_itself(alloc, machine)?;
     Ok(Derivation {

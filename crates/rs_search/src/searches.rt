@@ -3,8 +3,8 @@ ghost use Rattle.std.specs.Prelude.{◌≡◌, ◌<◌, ◌≤◌, ◌+◌, ◌^
 ghost use Rattle.std.specs.List.{list_any};
 ghost use Rattle.rs_model.specs.declared.limits.TheConstants.{MOST_CANDIDATES};
 ghost use Rattle.rs_derive.specs.Derivations.{IsProper};
-ghost use Rattle.rs_search.specs.Canonical.{IsFound, Refuses};
-ghost use Rattle.rs_search.specs.Candidates.{begin};
+ghost use Rattle.rs_search.specs.Canonical.{IsCanonical, SearchRefuses};
+ghost use Rattle.rs_search.specs.Candidates.{start_spot};
 ghost use Rattle.rs_search.specs.Costs.{Costs, IsWithinCost};
 ghost use Rattle.rs_graph.specs.Discovery.{IsDiscovery};
 ghost use Rattle.rs_graph.specs.Ranks.{Edge};
@@ -34,8 +34,8 @@ pub fn search(
 ) -> Result<Derivation, SearchFault>
     requires ours { IsProper sub.now }
     requires theirs { IsProper above.now }
-    ensures ok { IfOk result (λ d. IsFound sub.now above.now bound d) }
-    ensures err { IfErr result (λ e. Refuses sub.now above.now bound e) }
+    ensures ok { IfOk result (λ d. IsCanonical sub.now above.now bound d) }
+    ensures err { IfErr result (λ e. SearchRefuses sub.now above.now bound e) }
 {
     if bound > 0 && sub.same(above) {
         match search_itself(alloc, sub, bound) {
@@ -59,8 +59,8 @@ fn search_by<L: Ledger>(
     requires some { 0 < L.parts }
     requires ours { IsProper sub.now }
     requires theirs { IsProper above.now }
-    ensures ok { IfOk result (λ d. IsFound sub.now above.now bound d) }
-    ensures err { IfErr result (λ e. Refuses sub.now above.now bound e) }
+    ensures ok { IfOk result (λ d. IsCanonical sub.now above.now bound d) }
+    ensures err { IfErr result (λ e. SearchRefuses sub.now above.now bound e) }
 {
     let mut steps: Steps<L> = Steps::new(blank);
     search_counted(alloc, sub, above, bound, &mut steps)
@@ -77,8 +77,8 @@ pub fn search_counted<L: Ledger>(
 ) -> Result<Derivation, SearchFault>
     requires ours { IsProper sub.now }
     requires theirs { IsProper above.now }
-    ensures ok { IfOk result (λ d. IsFound sub.now above.now bound d) }
-    ensures err { IfErr result (λ e. Refuses sub.now above.now bound e) }
+    ensures ok { IfOk result (λ d. IsCanonical sub.now above.now bound d) }
+    ensures err { IfErr result (λ e. SearchRefuses sub.now above.now bound e) }
     ensures steps { OnOk result (IsWithinCost sub.now above.now bound steps.old steps.new) }
     ensures cost { IfErr result (λ e. Costs sub.now above.now bound e steps.old steps.new) }
 {
@@ -127,14 +127,14 @@ fn search_among<L: Ledger>(
     steps: &mut Steps<L>,
 ) -> Result<Derivation, SearchFault>
     requires theirs { IsProper above.now }
-    requires found { IsDiscovery (nexts_within sub.now above.now bound) (begin sub.now above.now) found.points.items found.rows.items }
+    requires found { IsDiscovery (nexts_within sub.now above.now bound) (start_spot sub.now above.now) found.points.items found.rows.items }
     requires few { length found.points.items ≤ MOST_CANDIDATES }
     requires short { (n : ℕ) → length (slice_index_or found.rows.items n []) ≤ 2 ^ 16 }
     requires anys { found.anys.items ≡ map (is_any sub.now above.now bound) found.points.items }
     requires keeps { found.keeps.items ≡ map (is_keeping sub.now above.now bound) found.points.items }
     requires cut { found.cut ≡ list_any (is_cut sub.now above.now bound) found.points.items }
-    ensures ok { IfOk result (λ d. IsFound sub.now above.now bound d) }
-    ensures err { IfErr result (λ e. Refuses sub.now above.now bound e) }
+    ensures ok { IfOk result (λ d. IsCanonical sub.now above.now bound d) }
+    ensures err { IfErr result (λ e. SearchRefuses sub.now above.now bound e) }
     ensures steps { OnOk result (IsWithinCost sub.now above.now bound steps.old steps.new) }
     ensures cost { IfErr result (λ e. Costs sub.now above.now bound e steps.old steps.new) }
 {

@@ -2,11 +2,11 @@
 ghost use Rattle.std.specs.Prelude.{◌≡◌, ◌≢◌, ◌<◌, ◌≤◌, ◌^◌, [], ◌∷◌, ◌++◌, ◌==◌, ◌&&◌, IfOk, IfSome, length, not, Some, None, true, false};
 ghost use Rattle.rs_derive.specs.Due.{due_at};
 ghost use Rattle.rs_derive.specs.Moves.{spot};
-ghost use Rattle.rs_derive.specs.Rules.{Fits, arms_at, due_by};
+ghost use Rattle.rs_derive.specs.Rules.{RuleFits, arms_at, due_by};
 ghost use Rattle.rs_prefix.specs.Earliest.{without};
 ghost use Rattle.rs_derive.specs.Derivations.{IsProper};
-ghost use Rattle.rs_derive.specs.Within.{IsOnce};
-ghost use Rattle.rs_search.specs.Turns.{arms_in, cut_at, cuts, may_choose, owing_by, told_by, turn_of, turn_within};
+ghost use Rattle.rs_derive.specs.Within.{HasLabelsOnce};
+ghost use Rattle.rs_search.specs.Turns.{arms_in, turn_with_cut, cuts, may_choose, owing_by, turn_by_code, turn_of, turn_within};
 
 use rs_derive::{Rule, arms_at, rule_at, same_acts};
 use rs_model::{Act, Arm, Machine, NoMemory, Role, State};
@@ -81,8 +81,8 @@ pub fn turn_within(sub: &Machine, above: &Machine, bound: u8, p: &Point) -> Turn
     requires state { p.now.state < length sub.now.states }
     requires there { p.now.above < length above.now.states }
     requires short { length p.now.pending ≤ bound }
-    ensures turn { told_by p.now (arms_in sub.now p.now.state) (arms_in above.now p.now.above) result ≡ turn_within sub.now above.now bound p.now }
-    ensures fits { IfSome result.rule (λ rule. Fits p.now.pending (arms_in sub.now p.now.state) (arms_in above.now p.now.above) rule) }
+    ensures turn { turn_by_code p.now (arms_in sub.now p.now.state) (arms_in above.now p.now.above) result ≡ turn_within sub.now above.now bound p.now }
+    ensures fits { IfSome result.rule (λ rule. RuleFits p.now.pending (arms_in sub.now p.now.state) (arms_in above.now p.now.above) rule) }
 {
     let state = &sub.states[p.state as usize];
     let there = &above.states[p.above as usize];
@@ -92,8 +92,8 @@ pub fn turn_within(sub: &Machine, above: &Machine, bound: u8, p: &Point) -> Turn
 #[inline(always)]
 fn turn_at(bound: u8, p: &Point, state: &State, there: &State) -> Turn
     requires short { length p.now.pending ≤ bound }
-    ensures turn { told_by p.now (arms_at state.now) (arms_at there.now) result ≡ cut_at bound (turn_of (due_at p.now (Some state.now) (Some there.now))) }
-    ensures fits { IfSome result.rule (λ rule. Fits p.now.pending (arms_at state.now) (arms_at there.now) rule) }
+    ensures turn { turn_by_code p.now (arms_at state.now) (arms_at there.now) result ≡ turn_with_cut bound (turn_of (due_at p.now (Some state.now) (Some there.now))) }
+    ensures fits { IfSome result.rule (λ rule. RuleFits p.now.pending (arms_at state.now) (arms_at there.now) rule) }
 {
     match rule_at(&p.pending, state, there) {
         None => no_turn(false),
@@ -103,10 +103,10 @@ fn turn_at(bound: u8, p: &Point, state: &State, there: &State) -> Turn
 
 #[inline(always)]
 fn rule_within(bound: u8, p: &Point, rule: Rule, arms: &[Arm], theirs: &[Arm]) -> Turn
-    requires fits { Fits p.now.pending arms.now theirs.now rule }
+    requires fits { RuleFits p.now.pending arms.now theirs.now rule }
     requires short { length p.now.pending ≤ bound }
-    ensures turn { told_by p.now arms.now theirs.now result ≡ cut_at bound (turn_of (Some (due_by p.now arms.now theirs.now rule))) }
-    ensures fits { IfSome result.rule (λ rule. Fits p.now.pending arms.now theirs.now rule) }
+    ensures turn { turn_by_code p.now arms.now theirs.now result ≡ turn_with_cut bound (turn_of (Some (due_by p.now arms.now theirs.now rule))) }
+    ensures fits { IfSome result.rule (λ rule. RuleFits p.now.pending arms.now theirs.now rule) }
 {
     if is_cut(bound, &p.pending, theirs, rule) {
         return no_turn(true);
@@ -125,7 +125,7 @@ pub fn arms_in(machine: &Machine, state: u32) -> &[Arm]
     requires proper { IsProper machine.now }
     requires state { state < length machine.now.states }
     ensures arms { result.now ≡ arms_in machine.now state }
-    ensures once { IsOnce result.now }
+    ensures once { HasLabelsOnce result.now }
 {
     arms_at(&machine.states[state as usize])
 }

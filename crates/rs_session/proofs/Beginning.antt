@@ -5,13 +5,13 @@ use Rattle.std.proofs.lemmas.Option.{slice_get_within}
 use Rattle.rs_model.specs.Data.{Machine_data}
 use Rattle.rs_core.specs.Choices.{AreWellFormed}
 use Rattle.rs_core.specs.Configurations.{state_of}
-use Rattle.rs_rings.specs.Views.{speaks, the_part, part_of, start_of, starting, left_by, alone}
+use Rattle.rs_rings.specs.Views.{speaks, the_part, part_of, start_of, starting, view_without_role, alone}
 use Rattle.rs_rings.specs.declared.views.Part.{Part}
 use Rattle.rs_rings.specs.declared.views.View.{View}
 use Rattle.rs_rings.proofs.Parts.{the_role}
 use Rattle.rs_rings.proofs.Seats.{speaks_one, speaks_without, speaks_gone, the_without, first_speaks, first_part_is, first_below}
 use Rattle.rs_rings.specs.Passes.{Rings_data}
-use Rattle.rs_session.specs.Stages.{AreFirst, IsOf, first_stage, shown}
+use Rattle.rs_session.specs.Stages.{AreFirst, IsOf, first_stage, sight_of_stage}
 use Rattle.rs_session.specs.Standing.{AreFirstFrom, IsFirst}
 use Rattle.rs_session.specs.declared.stages.Stage.{Stage}
 use Rattle.rs_session.proofs.HandedIn.{at_end, in_front}
@@ -23,12 +23,12 @@ all_first machines view is = subst (AreFirstFrom machines 0) (sym is) record {
   only = λ r says. (let b : r < length machines = first_below machines (length machines) r says in (omega arith, b));
 }
 
-pub rest_first : (machines : List Machine_data) (k : ℕ) (v w : View) → AreFirstFrom machines k v → w ≡ left_by k v → AreFirstFrom machines (k + 1) w
+pub rest_first : (machines : List Machine_data) (k : ℕ) (v w : View) → AreFirstFrom machines k v → w ≡ view_without_role k v → AreFirstFrom machines (k + 1) w
 rest_first machines k v w all is = subst (AreFirstFrom machines (k + 1)) (sym is) record {
   speaks = λ r from below. (let ne : r ≢ k = omega arith in speaks_without r k v.parts ne ∙ all.speaks r (omega arith) below);
   first = λ r from below. (let ne : r ≢ k = omega arith in the_without r k v.parts ne ∙ all.first r (omega arith) below);
   only = λ r says. elim (eqb_tells r k) [
-    | inl t ↦ (let gone : speaks r (left_by k v).parts ≡ false = ap (λ (z : ℕ). speaks z (left_by k v).parts) t.1 ∙ speaks_gone k v.parts in absurd (cc (gone, says)))
+    | inl t ↦ (let gone : speaks r (view_without_role k v).parts ≡ false = ap (λ (z : ℕ). speaks z (view_without_role k v).parts) t.1 ∙ speaks_gone k v.parts in absurd (cc (gone, says)))
     | inr t ↦ (let at = all.only r (sym (speaks_without r k v.parts t.1) ∙ says) in let ne = t.1 in (omega arith, at.1))
   ];
 }
@@ -81,9 +81,9 @@ first_there machines r m view well_formed is first =
 -- the first so many stages
 pub record AreBegun (session : Rings_data) (n : ℕ) (stages : List Stage) : Type 0 where
   pub count : length stages ≡ n
-  pub each : (r : ℕ) → r < n → (stage : Stage) × (slice_get stages r ≡ Some stage) × IsOf session stage × (shown stage ≡ first_stage session r)
+  pub each : (r : ℕ) → r < n → (stage : Stage) × (slice_get stages r ≡ Some stage) × IsOf session stage × (sight_of_stage stage ≡ first_stage session r)
 
-pub begun_more : (session : Rings_data) (n : ℕ) (stages stages' : List Stage) (stage : Stage) → AreBegun session n stages → IsOf session stage → shown stage ≡ first_stage session n → stages' ≡ stages ++ stage ∷ [] → AreBegun session (n + 1) stages'
+pub begun_more : (session : Rings_data) (n : ℕ) (stages stages' : List Stage) (stage : Stage) → AreBegun session n stages → IsOf session stage → sight_of_stage stage ≡ first_stage session n → stages' ≡ stages ++ stage ∷ [] → AreBegun session (n + 1) stages'
 begun_more session n stages stages' stage begun of first is = subst (AreBegun session (n + 1)) (sym is) record {
   count = length-append stages (stage ∷ []) ∙ ap (λ (k : ℕ). k + 1) begun.count;
   each = λ r below. elim (eqb_tells r n) [

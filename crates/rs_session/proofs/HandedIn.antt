@@ -9,12 +9,12 @@ use Rattle.atomic_table.specs.Seated.{TableId}
 use Rattle.rs_model.specs.Data.{Machine_data}
 use Rattle.rs_rings.specs.Closed.{Closed_data}
 use Rattle.rs_rings.specs.Passes.{Pass_data, Rings_data}
-use Rattle.rs_rings.specs.Views.{SpeaksFor, speaks, part_of, state_in, joined}
+use Rattle.rs_rings.specs.Views.{SpeaksFor, speaks, part_of, state_in, joint_view}
 use Rattle.rs_rings.specs.declared.views.View.{View}
 use Rattle.rs_rings.proofs.Seats.{bool_cases, speaks_left, speaks_right, the_left, the_right}
 use Rattle.rs_session.specs.Data.{Stage_data}
 use Rattle.rs_session.specs.Ends.{AreAll, AreAllThere, AreOf, IsThere, KnowsFrom}
-use Rattle.rs_session.specs.Stages.{shown, IsEnded, IsOf}
+use Rattle.rs_session.specs.Stages.{sight_of_stage, IsEnded, IsOf}
 use Rattle.rs_session.specs.declared.stages.Stage.{Stage}
 use Rattle.rs_session.specs.declared.stages.Stage.TheVariants.{Sending, Receiving, Ended}
 
@@ -84,7 +84,7 @@ joined_first table all rest x pass tables is own =
 pub next_table : (table : TableId) (all old rest : List Stage_data) (x : Stage_data) (pass own_pass : Pass_data) → AreAll (λ s. s.table ≡ table) all → old ≡ rest ++ x ∷ [] → IsJoined table all old pass → IsOwn x own_pass → own_pass.table ≡ table
 next_table table all old rest x pass own_pass tables is so own = own.table ∙ tables (length rest) x (at_last all old rest x is so.within)
 
-pub joined_more : (table : TableId) (all old rest : List Stage_data) (x : Stage_data) (pass own_pass pass' : Pass_data) → old ≡ rest ++ x ∷ [] → IsJoined table all old pass → IsOwn x own_pass → pass'.table ≡ pass.table → pass'.view ≡ joined pass.view own_pass.view
+pub joined_more : (table : TableId) (all old rest : List Stage_data) (x : Stage_data) (pass own_pass pass' : Pass_data) → old ≡ rest ++ x ∷ [] → IsJoined table all old pass → IsOwn x own_pass → pass'.table ≡ pass.table → pass'.view ≡ joint_view pass.view own_pass.view
     → IsJoined table all rest pass'
 joined_more table all old rest x pass own_pass pass' is so own same both =
     record {
@@ -103,10 +103,10 @@ joined_more table all old rest x pass own_pass pass' is so own same both =
     w : View
     w = own_pass.view
 
-    right : (r : ℕ) → SpeaksFor w r → SpeaksFor (joined v w) r
+    right : (r : ℕ) → SpeaksFor w r → SpeaksFor (joint_view v w) r
     right r t = ⊎_elim (λ (yes' : speaks r v.parts ≡ true). speaks_left r v.parts w.parts yes') (λ (f : speaks r v.parts ≡ false). speaks_right r v.parts w.parts f ∙ t) (bool_cases (speaks r v.parts))
 
-    parts : (r : ℕ) → SpeaksFor (joined v w) r → (from : IsThere all r) × (part_of pass'.view r ≡ from.stage.part)
+    parts : (r : ℕ) → SpeaksFor (joint_view v w) r → (from : IsThere all r) × (part_of pass'.view r ≡ from.stage.part)
     parts r says = ⊎_elim
         (λ (t : speaks r v.parts ≡ true). (let k = so.parts r t in (k.0, ap (λ (z : View). part_of z r) both ∙ the_left r v.parts w.parts t ∙ k.1)))
         (λ (f : speaks r v.parts ≡ false). (let e : r ≡ x.role.0 = own.only r (sym (speaks_right r v.parts w.parts f) ∙ says) in (
@@ -134,17 +134,17 @@ knows_from all session rings pass closed is machines last each speaks parts r be
     (k.0, ap (λ (z : View). part_of z r) last ∙ k.1)
 
 -- stages of a session are of its rings' table
-of_table : (session : Rings_data) (stage : Stage) → IsOf session stage → (shown stage).table ≡ session.table
+of_table : (session : Rings_data) (stage : Stage) → IsOf session stage → (sight_of_stage stage).table ≡ session.table
 of_table session (Sending s) of = of.table
 of_table session (Receiving s) of = of.table
 of_table session (Ended s) of = of.table
 
-shown_at : (stages : List Stage) (place : ℕ) (s : Stage_data) → slice_get (map shown stages) place ≡ Some s → (stage : Stage) × (slice_get stages place ≡ Some stage) × (shown stage ≡ s)
+shown_at : (stages : List Stage) (place : ℕ) (s : Stage_data) → slice_get (map sight_of_stage stages) place ≡ Some s → (stage : Stage) × (slice_get stages place ≡ Some stage) × (sight_of_stage stage ≡ s)
 shown_at [] place s e = absurd (cc (e))
 shown_at (x ∷ xs) zero s e = (x, refl, cc (e))
 shown_at (x ∷ xs) (suc n) s e = shown_at xs n s e
 
-pub same_tables : (session rings : Rings_data) (stages : List Stage) → rings ≡ session → AreOf session stages → AreAll (λ s. s.table ≡ rings.table) (map shown stages)
+pub same_tables : (session rings : Rings_data) (stages : List Stage) → rings ≡ session → AreOf session stages → AreAll (λ s. s.table ≡ rings.table) (map sight_of_stage stages)
 same_tables session rings stages is of place s e =
     let at = shown_at stages place s e in
     ap (λ (z : Stage_data). z.table) (sym at.2) ∙ of_table session at.0 (of place at.0 at.1) ∙ sym (ap (λ (z : Rings_data). z.table) is)

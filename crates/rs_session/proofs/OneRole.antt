@@ -13,14 +13,14 @@ use Rattle.rs_core.specs.Turns.{label_of}
 use Rattle.rs_core.proofs.Stands.{here-is}
 use Rattle.rs_slots.specs.declared.parcels.Parcel.{Parcel}
 use Rattle.rs_rings.specs.Acts.{sent_act, got_act, MayPut}
-use Rattle.rs_rings.specs.Passes.{Rings_data, Pass_data, IsChanged, IsPut, IsFull, IsTaken, IsEmpty, CanTake}
-use Rattle.rs_rings.specs.Views.{part_of, state_in, looked_head, looked_tail, gaining, sending, taking, getting}
+use Rattle.rs_rings.specs.Passes.{Rings_data, Pass_data, IsChanged, IsPut, RingIsFull, ParcelIsTaken, IsEmpty, CanTake}
+use Rattle.rs_rings.specs.Views.{part_of, state_in, part_with_room, part_with_parcel, gaining, sending, taking, getting}
 use Rattle.rs_rings.specs.declared.views.Part.{Part}
 use Rattle.rs_rings.specs.declared.views.View.{View}
 use Rattle.rs_rings.proofs.Arms.{put_once}
 use Rattle.rs_session.specs.Acts.{parcel_by, HasSent, FindsFull, HasGot, FindsEmpty}
 use Rattle.rs_session.specs.Data.{Stage_data}
-use Rattle.rs_session.specs.Standing.{IsOne, HasGotBy, seen_by}
+use Rattle.rs_session.specs.Standing.{IsOne, HasGotBy, sight_of_pass}
 
 -- what the pass knows of its role is y now
 one_changed : (v w : View) (role : Role) (s n t m : ℕ) (y : Part) → IsOne v role s n → IsChanged role.0 y v w → t ≡ y.state → m ≡ length y.history → IsOne w role t m
@@ -34,14 +34,14 @@ one_changed v w role s n t m y one c state acts = record {
 -- a put
 pub record Put (rings : Rings_data) (q : ℕ) (x : Parcel) (next n : ℕ) (old : Stage_data) (role : Role) (pass : Pass_data) : Type 0 where
   pub one : IsOne pass.view role next (n + 1)
-  pub sent : HasSent rings q x next old (seen_by pass role)
+  pub sent : HasSent rings q x next old (sight_of_pass pass role)
 
-pub put_done : (rings : Rings_data) (q : ℕ) (x : Parcel) (next s n : ℕ) (old : Stage_data) (role : Role) (pass pass' : Pass_data) → seen_by pass role ≡ old → AreWellFormed rings.machines
+pub put_done : (rings : Rings_data) (q : ℕ) (x : Parcel) (next s n : ℕ) (old : Stage_data) (role : Role) (pass pass' : Pass_data) → sight_of_pass pass role ≡ old → AreWellFormed rings.machines
     → MayPut rings.machines old.role.0 q old.part.state x next → IsOne pass.view role s n → IsPut rings.machines rings.capacity role.0 q x pass.view pass'.view → pass'.table ≡ pass.table → Put rings q x next n old role pass'
 put_done rings q x next s n old role pass pass' is well_formed may one put table =
     subst (λ (z : Stage_data). MayPut rings.machines z.role.0 q z.part.state x next → Put rings q x next n z role pass') is by may
   where
-    by : MayPut rings.machines role.0 q (part_of pass.view role.0).state x next → Put rings q x next n (seen_by pass role) role pass'
+    by : MayPut rings.machines role.0 q (part_of pass.view role.0).state x next → Put rings q x next n (sight_of_pass pass role) role pass'
     by can =
         let a : Part = part_of pass.view role.0 in
         let same : put.next ≡ next = put_once rings.machines role.0 q a.state x put.next next well_formed put.may can in
@@ -53,20 +53,20 @@ put_done rings q x next s n old role pass pass' is well_formed may one put table
 
 pub record Full (rings : Rings_data) (q : ℕ) (x : Parcel) (sent taken : ℕ) (back : Parcel) (s n : ℕ) (old : Stage_data) (role : Role) (pass : Pass_data) : Type 0 where
   pub one : IsOne pass.view role s n
-  pub full : FindsFull rings q sent taken old (seen_by pass role)
+  pub full : FindsFull rings q sent taken old (sight_of_pass pass role)
   pub same : back ≡ x
 
-pub put_full : (rings : Rings_data) (q : ℕ) (x : Parcel) (sent taken : ℕ) (back : Parcel) (s n : ℕ) (old : Stage_data) (role : Role) (pass pass' : Pass_data) → seen_by pass role ≡ old
-    → IsOne pass.view role s n → IsFull rings.capacity role.0 q x sent taken back pass.view pass'.view → pass'.table ≡ pass.table → Full rings q x sent taken back s n old role pass'
+pub put_full : (rings : Rings_data) (q : ℕ) (x : Parcel) (sent taken : ℕ) (back : Parcel) (s n : ℕ) (old : Stage_data) (role : Role) (pass pass' : Pass_data) → sight_of_pass pass role ≡ old
+    → IsOne pass.view role s n → RingIsFull rings.capacity role.0 q x sent taken back pass.view pass'.view → pass'.table ≡ pass.table → Full rings q x sent taken back s n old role pass'
 put_full rings q x sent taken back s n old role pass pass' is one full table =
     subst (λ (z : Stage_data). Full rings q x sent taken back s n z role pass') is record {
-      one = one_changed pass.view pass'.view role s n s n (looked_head q taken (part_of pass.view role.0)) one full.changed one.is_state one.is_acts;
+      one = one_changed pass.view pass'.view role s n s n (part_with_room q taken (part_of pass.view role.0)) one full.changed one.is_state one.is_acts;
       full = record { is_sent = full.is_sent; full = full.full; not_less = full.not_less; becomes = λ i. record { table = table i; role = role; part = full.changed.part i } };
       same = full.same;
     }
 
 -- a look
-pub can_take : (rings : Rings_data) (peer : Role) (arms : List Arm) (old : Stage_data) (role : Role) (pass : Pass_data) → seen_by pass role ≡ old → state_of (slice_get rings.machines old.role.0) old.part.state ≡ Some (Takes peer arms) → CanTake rings.machines role.0 peer (state_in pass.view role.0)
+pub can_take : (rings : Rings_data) (peer : Role) (arms : List Arm) (old : Stage_data) (role : Role) (pass : Pass_data) → sight_of_pass pass role ≡ old → state_of (slice_get rings.machines old.role.0) old.part.state ≡ Some (Takes peer arms) → CanTake rings.machines role.0 peer (state_in pass.view role.0)
 can_take rings peer arms old role pass is stands = record { arms = arms; takes = ap (λ (z : Stage_data). state_of (slice_get rings.machines z.role.0) z.part.state) is ∙ stands }
 
 pub labels_once : (machines : List Machine_data) (r s : ℕ) (peer : Role) (arms : List Arm) → AreWellFormed machines → state_of (slice_get machines r) s ≡ Some (Takes peer arms)
@@ -81,15 +81,15 @@ arm_of_label (Some arm) l e = (arm, refl, cc (e))
 
 pub record Taken (rings : Rings_data) (p : ℕ) (arms : List Arm) (place : ℕ) (value : Value) (next n : ℕ) (old : Stage_data) (role : Role) (pass : Pass_data) : Type 0 where
   pub one : IsOne pass.view role next (n + 1)
-  pub got : HasGotBy rings p arms place value old (seen_by pass role)
+  pub got : HasGotBy rings p arms place value old (sight_of_pass pass role)
 
-pub look_one : (rings : Rings_data) (peer : Role) (arms : List Arm) (x : Parcel) (place s n : ℕ) (old : Stage_data) (role : Role) (pass pass' : Pass_data) (arm : Arm) → seen_by pass role ≡ old → AreWellFormed rings.machines
-    → state_of (slice_get rings.machines old.role.0) old.part.state ≡ Some (Takes peer arms) → slice_get arms place ≡ Some arm → arm.label ≡ x.label → IsOne pass.view role s n → IsTaken rings.machines role.0 peer.0 x pass.view pass'.view → pass'.table ≡ pass.table
+pub look_one : (rings : Rings_data) (peer : Role) (arms : List Arm) (x : Parcel) (place s n : ℕ) (old : Stage_data) (role : Role) (pass pass' : Pass_data) (arm : Arm) → sight_of_pass pass role ≡ old → AreWellFormed rings.machines
+    → state_of (slice_get rings.machines old.role.0) old.part.state ≡ Some (Takes peer arms) → slice_get arms place ≡ Some arm → arm.label ≡ x.label → IsOne pass.view role s n → ParcelIsTaken rings.machines role.0 peer.0 x pass.view pass'.view → pass'.table ≡ pass.table
     → Taken rings peer.0 arms place x.value arm.next n old role pass'
 look_one rings peer arms x place s n old role pass pass' arm is well_formed stands picks label one taken table =
     subst (λ (z : Stage_data). state_of (slice_get rings.machines z.role.0) z.part.state ≡ Some (Takes peer arms) → Taken rings peer.0 arms place x.value arm.next n z role pass') is by stands
   where
-    by : state_of (slice_get rings.machines role.0) (part_of pass.view role.0).state ≡ Some (Takes peer arms) → Taken rings peer.0 arms place x.value arm.next n (seen_by pass role) role pass'
+    by : state_of (slice_get rings.machines role.0) (part_of pass.view role.0).state ≡ Some (Takes peer arms) → Taken rings peer.0 arms place x.value arm.next n (sight_of_pass pass role) role pass'
     by takes =
         let a : Part = part_of pass.view role.0 in
         let at = here-is (slice_get rings.machines role.0) a.state (Takes peer arms) takes in
@@ -103,25 +103,25 @@ look_one rings peer arms x place s n old role pass pass' arm is well_formed stan
         let next : taken.next ≡ arm.next = taken.may.goes ∙ ap (λ (z : Arm). z.next) (sym same) in
         let parcel : x ≡ parcel_by arm x.value = λ i. record { label = sym label i; value = x.value } in
         let part : part_of pass'.view role.0 ≡ getting peer.0 x arm.next (taking peer.0 x taken.put a) = taken.changed.part ∙ ap (λ (m : ℕ). getting peer.0 x m (taking peer.0 x taken.put a)) next in
-        let got : HasGot rings peer.0 x arm.next (seen_by pass role) (seen_by pass' role) = record { put = taken.put; not_less = taken.not_less; more = taken.more; happened = taken.happened; becomes = λ i. record { table = table i; role = role; part = part i } } in
+        let got : HasGot rings peer.0 x arm.next (sight_of_pass pass role) (sight_of_pass pass' role) = record { put = taken.put; not_less = taken.not_less; more = taken.more; happened = taken.happened; becomes = λ i. record { table = table i; role = role; part = part i } } in
         record {
           one = one_changed pass.view pass'.view role s n arm.next (n + 1) (getting peer.0 x taken.next (taking peer.0 x taken.put a)) one taken.changed (sym next) (ap (λ (m : ℕ). m + 1) one.is_acts ∙ sym (length-append a.history (got_act peer.0 x ∷ [])));
           got = record {
             arm = arm;
             picks = picks;
             has_sort = subst (λ (z : Arm). HasSort x.value z.sort) (sym same) taken.may.has_sort;
-            got = subst (λ (z : Parcel). HasGot rings peer.0 z arm.next (seen_by pass role) (seen_by pass' role)) parcel got;
+            got = subst (λ (z : Parcel). HasGot rings peer.0 z arm.next (sight_of_pass pass role) (sight_of_pass pass' role)) parcel got;
           };
         }
 
 pub record Nothing (rings : Rings_data) (p seen s n : ℕ) (old : Stage_data) (role : Role) (pass : Pass_data) : Type 0 where
   pub one : IsOne pass.view role s n
-  pub empty : FindsEmpty p seen old (seen_by pass role)
+  pub empty : FindsEmpty p seen old (sight_of_pass pass role)
 
-pub look_none : (rings : Rings_data) (p seen s n : ℕ) (old : Stage_data) (role : Role) (pass pass' : Pass_data) → seen_by pass role ≡ old → IsOne pass.view role s n → IsEmpty role.0 p seen pass.view pass'.view → pass'.table ≡ pass.table
+pub look_none : (rings : Rings_data) (p seen s n : ℕ) (old : Stage_data) (role : Role) (pass pass' : Pass_data) → sight_of_pass pass role ≡ old → IsOne pass.view role s n → IsEmpty role.0 p seen pass.view pass'.view → pass'.table ≡ pass.table
     → Nothing rings p seen s n old role pass'
 look_none rings p seen s n old role pass pass' is one empty table =
     subst (λ (z : Stage_data). Nothing rings p seen s n z role pass') is record {
-      one = one_changed pass.view pass'.view role s n s n (looked_tail p seen (part_of pass.view role.0)) one empty.changed one.is_state one.is_acts;
+      one = one_changed pass.view pass'.view role s n s n (part_with_parcel p seen (part_of pass.view role.0)) one empty.changed one.is_state one.is_acts;
       empty = record { is_got = empty.is_got; not_less = empty.not_less; becomes = λ i. record { table = table i; role = role; part = empty.changed.part i } };
     }

@@ -9,7 +9,7 @@ use Rattle.rs_slots.specs.declared.parcels.Parcel.{Parcel}
 use Rattle.rs_rings.specs.Passes.{Rings_data}
 use Rattle.rs_session.specs.Acts.{parcel_by, SendsBy, HasSent, FindsFull, HasGot, FindsEmpty, IsSent, IsHandedBack, IsGot, IsKept}
 use Rattle.rs_session.specs.Data.{Stage_data}
-use Rattle.rs_session.specs.Stages.{shown, state_at, IsSending, IsReceiving, IsOf}
+use Rattle.rs_session.specs.Stages.{sight_of_stage, state_at, IsSending, IsReceiving, IsOf}
 use Rattle.rs_session.specs.Standing.{HasGotBy, SendsTo}
 use Rattle.rs_session.specs.declared.stages.Stage.{Stage}
 
@@ -24,7 +24,7 @@ sort_by session stage place value peer arm by to =
 
 -- the stage behind the standing, and the rings of the session
 pub went : (session rings : Rings_data) (old standing moved : Stage_data) (place : ℕ) (value : Value) (peer : Role) (arm : Arm) (new : Stage) → rings ≡ session → standing ≡ old → SendsBy session old place value → SendsTo session standing place peer arm
-    → HasSent rings peer.0 (parcel_by arm value) arm.next standing moved → IsOf session new → shown new ≡ moved → IsSent session old place value new
+    → HasSent rings peer.0 (parcel_by arm value) arm.next standing moved → IsOf session new → sight_of_stage new ≡ moved → IsSent session old place value new
 went session rings old standing moved place value peer arm new same is by to sent of now =
     let to' : SendsTo session old place peer arm = subst (λ (z : Stage_data). SendsTo session z place peer arm) is to in
     record {
@@ -46,7 +46,7 @@ full session rings old standing moved place value peer arm sent taken back same 
     }
 
 pub got : (session rings : Rings_data) (old standing moved : Stage_data) (place : ℕ) (value : Value) (peer : Role) (arms : List Arm) (new : Stage) → rings ≡ session → standing ≡ old → state_at session standing ≡ Some (Takes peer arms)
-    → HasGotBy rings peer.0 arms place value standing moved → IsOf session new → shown new ≡ moved → IsGot session old place value new
+    → HasGotBy rings peer.0 arms place value standing moved → IsOf session new → sight_of_stage new ≡ moved → IsGot session old place value new
 got session rings old standing moved place value peer arms new same is stands by of now = record {
   by = record { peer = peer; arms = arms; arm = by.arm; stands = ap (state_at session) (sym is) ∙ stands; picks = by.picks; has_sort = by.has_sort };
   got = subst (λ (z : Rings_data × Stage_data × Stage_data). HasGot z.0 peer.0 (parcel_by by.arm value) by.arm.next z.1 z.2) (λ i. (same i, is i, sym now i)) by.got;

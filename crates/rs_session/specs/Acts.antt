@@ -8,10 +8,10 @@ use Rattle.rs_model.specs.declared.values.Value.{Value}
 use Rattle.rs_slots.specs.declared.parcels.Parcel.{Parcel}
 use Rattle.rs_rings.specs.Acts.{sent_act, got_act, parcels_sent, parcels_got, Happened}
 use Rattle.rs_rings.specs.Passes.{Rings_data}
-use Rattle.rs_rings.specs.Views.{last_found, looked_head, gaining, sending, looked_tail, taking, getting}
+use Rattle.rs_rings.specs.Views.{last_found, part_with_room, gaining, sending, part_with_parcel, taking, getting}
 use Rattle.rs_rings.specs.declared.views.Part.{Part}
 use Rattle.rs_session.specs.Data.{Stage_data}
-use Rattle.rs_session.specs.Stages.{shown, state_at, IsSending, IsReceiving, IsOf}
+use Rattle.rs_session.specs.Stages.{sight_of_stage, state_at, IsSending, IsReceiving, IsOf}
 use Rattle.rs_session.specs.declared.stages.Sent.{Sent}
 use Rattle.rs_session.specs.declared.stages.Sent.TheVariants.{Went, Full}
 use Rattle.rs_session.specs.declared.stages.Stage.{Stage}
@@ -58,7 +58,7 @@ pub record FindsFull (session : Rings_data) (q sent taken : ℕ) (old new : Stag
   pub is_sent : sent ≡ length (parcels_sent q old.part.history)
   pub full : sent ≡ taken + session.capacity
   pub not_less : last_found q old.part.heads ≤ taken
-  pub becomes : new ≡ with_part (looked_head q taken old.part) old
+  pub becomes : new ≡ with_part (part_with_room q taken old.part) old
 
 -- the stage's role has got x from p: the one load read the number `put` of parcels that p has put, which isn't what the role
 -- has got; the receive happened, and the role stands in the state `next`
@@ -73,12 +73,12 @@ pub record HasGot (session : Rings_data) (p : ℕ) (x : Parcel) (next : ℕ) (ol
 pub record FindsEmpty (p seen : ℕ) (old new : Stage_data) : Type 0 where
   pub is_got : seen ≡ length (parcels_got p old.part.history)
   pub not_less : last_found p old.part.tails ≤ seen
-  pub becomes : new ≡ with_part (looked_tail p seen old.part) old
+  pub becomes : new ≡ with_part (part_with_parcel p seen old.part) old
 
 -- a send of the value by the arm at that place went, and leaves the next stage
 pub record IsSent (session : Rings_data) (old : Stage_data) (place : ℕ) (value : Value) (new : Stage) : Type 0 where
   pub by : SendsBy session old place value
-  pub sent : HasSent session by.peer.0 (parcel_by by.arm value) by.arm.next old (shown new)
+  pub sent : HasSent session by.peer.0 (parcel_by by.arm value) by.arm.next old (sight_of_stage new)
   pub of : IsOf session new
 
 -- .. or found the ring full, and hands back the stage and the value
@@ -96,7 +96,7 @@ SendTells session old place value (Full new back sent taken) = IsHandedBack sess
 -- a receive got the value by the arm at that place, and leaves the next stage
 pub record IsGot (session : Rings_data) (old : Stage_data) (place : ℕ) (value : Value) (new : Stage) : Type 0 where
   pub by : ReceivesBy session old place value
-  pub got : HasGot session by.peer.0 (parcel_by by.arm value) by.arm.next old (shown new)
+  pub got : HasGot session by.peer.0 (parcel_by by.arm value) by.arm.next old (sight_of_stage new)
   pub of : IsOf session new
 
 -- .. or found the ring empty, and hands back the stage

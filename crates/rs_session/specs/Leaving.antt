@@ -11,6 +11,6 @@ abbrev pub IsFrom : Rings_data → Stage_data → Type 0
 IsFrom session stage = stage.table ≡ session.table
 
 -- all is handed back. The least missing role is told; where memory was refused none is missing
-abbrev pub Refuses : Rings_data → List Stage_data → LeftFault → Type 0
-Refuses session left (Missing back stages missing) = (back ≡ session) × (stages.items ≡ left) × IsLeastMissing (length session.machines) left missing.0
-Refuses session left (NoMemory back stages) = (back ≡ session) × (stages.items ≡ left) × AreAllThere (length session.machines) left
+abbrev pub LeavingRefuses : Rings_data → List Stage_data → LeftFault → Type 0
+LeavingRefuses session left (Missing back stages missing) = (back ≡ session) × (stages.items ≡ left) × IsLeastMissing (length session.machines) left missing.0
+LeavingRefuses session left (NoMemory back stages) = (back ≡ session) × (stages.items ≡ left) × AreAllThere (length session.machines) left

@@ -5,7 +5,7 @@ use Rattle.rs_model.specs.declared.graph.Role.{Role}
 use Rattle.rs_model.specs.declared.machines.State.{State}
 use Rattle.rs_model.specs.declared.machines.State.TheVariants.{Done, Puts, Takes}
 use Rattle.rs_core.specs.Configurations.{state_of}
-use Rattle.rs_rings.specs.Acts.{numbered}
+use Rattle.rs_rings.specs.Acts.{role_of_number}
 use Rattle.rs_rings.specs.Passes.{Rings_data}
 use Rattle.rs_rings.specs.Views.{first_part}
 use Rattle.rs_session.specs.Data.{Stage_data}
@@ -13,10 +13,10 @@ use Rattle.rs_session.specs.declared.stages.Stage.{Stage}
 use Rattle.rs_session.specs.declared.stages.Stage.TheVariants.{Sending, Receiving, Ended}
 
 -- what is seen of a stage of any kind
-abbrev pub shown : Stage → Stage_data
-shown (Sending stage) = stage
-shown (Receiving stage) = stage
-shown (Ended stage) = stage
+abbrev pub sight_of_stage : Stage → Stage_data
+sight_of_stage (Sending stage) = stage
+sight_of_stage (Receiving stage) = stage
+sight_of_stage (Ended stage) = stage
 
 -- the state of its machine at which the stage's role stands
 abbrev pub state_at : Rings_data → Stage_data → Option State
@@ -49,9 +49,9 @@ IsOf session (Ended stage) = IsEnded session stage
 
 -- the role stands at its machine's start, and has done nothing
 abbrev pub first_stage : Rings_data → ℕ → Stage_data
-first_stage session r = record { table = session.table; role = numbered r; part = first_part session.machines r }
+first_stage session r = record { table = session.table; role = role_of_number r; part = first_part session.machines r }
 
 -- a stage of the session for each role, in role order, and each is its role's first
 pub record AreFirst (session : Rings_data) (stages : List Stage) : Type 0 where
   pub count : length stages ≡ length session.machines
-  pub each : (r : ℕ) → r < length session.machines → (stage : Stage) × (slice_get stages r ≡ Some stage) × IsOf session stage × (shown stage ≡ first_stage session r)
+  pub each : (r : ℕ) → r < length session.machines → (stage : Stage) × (slice_get stages r ≡ Some stage) × IsOf session stage × (sight_of_stage stage ≡ first_stage session r)

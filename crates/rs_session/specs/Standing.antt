@@ -28,8 +28,8 @@ pub record IsOne (view : View) (role : Role) (state acts : ℕ) : Type 0 where
   pub is_acts : acts ≡ length (history_in view role.0)
 
 -- what is seen of the pass of one role
-abbrev pub seen_by : Pass_data → Role → Stage_data
-seen_by pass role = record { table = pass.table; role = role; part = part_of pass.view role.0 }
+abbrev pub sight_of_pass : Pass_data → Role → Stage_data
+sight_of_pass pass role = record { table = pass.table; role = role; part = part_of pass.view role.0 }
 
 -- the state sends to the peer, and has the arm at that place
 pub record SendsTo (rings : Rings_data) (stage : Stage_data) (place : ℕ) (peer : Role) (arm : Arm) : Type 0 where
@@ -38,9 +38,9 @@ pub record SendsTo (rings : Rings_data) (stage : Stage_data) (place : ℕ) (peer
   pub picks : slice_get arms place ≡ Some arm
 
 -- what a put of x to q tells, behind which the role stands in the state `next`
-abbrev pub PutTells : Rings_data → ℕ → Parcel → ℕ → Stage_data → Stage_data → Put → Type 0
-PutTells rings q x next old new put.Done = HasSent rings q x next old new
-PutTells rings q x next old new (put.Full sent taken back) = FindsFull rings q sent taken old new × (back ≡ x)
+abbrev pub StagePutTells : Rings_data → ℕ → Parcel → ℕ → Stage_data → Stage_data → Put → Type 0
+StagePutTells rings q x next old new put.Done = HasSent rings q x next old new
+StagePutTells rings q x next old new (put.Full sent taken back) = FindsFull rings q sent taken old new × (back ≡ x)
 
 -- what a look for a parcel from p tells, at these arms
 pub record HasGotBy (rings : Rings_data) (p : ℕ) (arms : List Arm) (place : ℕ) (value : Value) (old new : Stage_data) : Type 0 where
@@ -55,7 +55,7 @@ FoundTells rings p arms old new (One place value) = HasGotBy rings p arms place 
 FoundTells rings p arms old new (Nothing seen) = FindsEmpty p seen old new
 
 -- the rings are those of well-formed machines, one for each role
-pub record IsWhole (rings : Rings_data) : Type 0 where
+pub record RingsAreWhole (rings : Rings_data) : Type 0 where
   pub roles : rings.roles ≡ length rings.machines
   pub some : 2 ≤ length rings.machines
   pub few : length rings.machines ≤ MOST_ROLES

@@ -2,7 +2,7 @@
 ghost use Rattle.std.specs.Prelude.{◌≡◌, IfErr, IfOk, OnOk, length, map};
 ghost use Rattle.rs_rings.specs.Closed.{IsLeft, IsOver};
 ghost use Rattle.rs_session.specs.Ends.{AreAll, AreAllThere, AreOf, IsLeastMissing, KnowsFrom};
-ghost use Rattle.rs_session.specs.Stages.{IsEnded, shown};
+ghost use Rattle.rs_session.specs.Stages.{IsEnded, sight_of_stage};
 
 use crate::gathering::{gather, least_missing};
 use crate::sessions::Session;
@@ -47,10 +47,10 @@ impl Session {
     /// Gives the session up, wherever its roles stand. What is under way is dropped. Takes no memory.
     pub fn abandon(self, stages: Vec<Stage>) -> Closed
         requires of { AreOf self stages.items }
-        requires each { AreAllThere (length self.machines) (map shown stages.items) }
+        requires each { AreAllThere (length self.machines) (map sight_of_stage stages.items) }
         ensures machines { result.machines ≡ self.machines }
         ensures left { IsLeft result }
-        ensures knows { KnowsFrom (map shown stages.items) result }
+        ensures knows { KnowsFrom (map sight_of_stage stages.items) result }
     {
         let rings = self.into_rings();
         let pass = gather(&rings, stages);

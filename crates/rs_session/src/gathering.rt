@@ -4,7 +4,7 @@ ghost use Rattle.rs_model.specs.declared.limits.TheConstants.{MOST_ROLES};
 ghost use Rattle.rs_rings.specs.Views.{SpeaksFor, part_of};
 ghost use Rattle.rs_session.specs.Data.{Stage_data};
 ghost use Rattle.rs_session.specs.Ends.{AreAll, AreAllThere, IsLeastMissing, IsMissing, IsThere};
-ghost use Rattle.rs_session.specs.Stages.{shown};
+ghost use Rattle.rs_session.specs.Stages.{sight_of_stage};
 
 use crate::stages::{Ended, Left, Stage};
 use crate::standing::Standing;
@@ -23,9 +23,9 @@ pub(crate) trait Stands {
 }
 
 impl Stands for Stage {
-    ghost use Rattle.rs_session.specs.Stages.{shown};
+    ghost use Rattle.rs_session.specs.Stages.{sight_of_stage};
 
-    ghost stage = { shown };
+    ghost stage = { sight_of_stage };
 
     fn role_of(&self) -> Role {
         self.role()

@@ -2,7 +2,7 @@
 ghost use Rattle.std.specs.Prelude.{◌≡◌, IfErr, IfOk, OnOk, length};
 ghost use Rattle.rs_rings.specs.Closed.{IsLeft, loose_in};
 ghost use Rattle.rs_session.specs.Ends.{AreAll, AreAllThere, KnowsFrom};
-ghost use Rattle.rs_session.specs.Leaving.{IsFrom, Refuses};
+ghost use Rattle.rs_session.specs.Leaving.{IsFrom, LeavingRefuses};
 ghost use Rattle.rs_slots.specs.Places.{ring_count};
 
 use crate::gathering::{gather, least_missing};
@@ -46,7 +46,7 @@ impl Session {
         ensures left { IfOk result (λ over. IsLeft over.closed) }
         ensures knows { IfOk result (λ over. KnowsFrom left.items over.closed) }
         ensures loose { IfOk result (λ over. over.loose.items ≡ loose_in over.closed.last (length self.machines) (ring_count (length self.machines))) }
-        ensures refused { IfErr result (Refuses self left.items) }
+        ensures refused { IfErr result (LeavingRefuses self left.items) }
     {
         match least_missing(left.as_slice(), self.count()) {
             Some(missing) => Err(LeftFault::Missing {

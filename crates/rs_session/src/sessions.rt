@@ -6,8 +6,8 @@ ghost use Rattle.rs_model.specs.declared.machines.State.TheVariants.{Takes};
 ghost use Rattle.rs_model.specs.declared.values.Value.{Value};
 ghost use Rattle.rs_rings.specs.Views.{starting};
 ghost use Rattle.rs_session.specs.Acts.{SendsBy};
-ghost use Rattle.rs_session.specs.Stages.{AreFirst, IsOf, IsReceiving, first_stage, shown, state_at};
-ghost use Rattle.rs_session.specs.Standing.{IsFirst, IsWhole, SendsTo};
+ghost use Rattle.rs_session.specs.Stages.{AreFirst, IsOf, IsReceiving, first_stage, sight_of_stage, state_at};
+ghost use Rattle.rs_session.specs.Standing.{IsFirst, RingsAreWhole, SendsTo};
 
 use crate::stages::{Ended, Receiving, Sending, Stage};
 use crate::standing::Standing;
@@ -26,13 +26,13 @@ pub struct Session {
 
 impl Model for Session {
     ghost use Rattle.rs_rings.specs.Passes.{Rings_data};
-    ghost use Rattle.rs_session.specs.Standing.{IsWhole};
+    ghost use Rattle.rs_session.specs.Standing.{RingsAreWhole};
 
     ghost Value = { Rings_data };
 
     ghost view = { λ s. s.rings };
 
-    ghost invariant = { λ s. IsWhole s.rings };
+    ghost invariant = { λ s. RingsAreWhole s.rings };
 }
 
 impl Session {
@@ -76,20 +76,20 @@ impl Session {
     /// How many roles there are.
     pub(crate) fn count(&self) -> usize
         ensures count { result ≡ length self.now.machines }
-        ensures whole { IsWhole self.now }
+        ensures whole { RingsAreWhole self.now }
     {
         self.rings.machines().len()
     }
 
     pub(crate) fn rings(&self) -> &Rings
         ensures rings { result.now ≡ self.now }
-        ensures whole { IsWhole self.now }
+        ensures whole { RingsAreWhole self.now }
     {
         &self.rings
     }
 
     pub(crate) fn of_rings(rings: Rings) -> Session
-        requires { IsWhole rings }
+        requires { RingsAreWhole rings }
         ensures { result ≡ rings }
     {
         Session { rings }
@@ -97,7 +97,7 @@ impl Session {
 
     pub(crate) fn into_rings(self) -> Rings
         ensures rings { result ≡ self }
-        ensures whole { IsWhole self }
+        ensures whole { RingsAreWhole self }
     {
         let Session { rings } = self;
         rings
@@ -117,7 +117,7 @@ impl Session {
         requires table { standing.table ≡ self.now.table }
         requires there { IsSome (state_at self.now standing) }
         ensures of { IsOf self.now result }
-        ensures same { shown result ≡ standing }
+        ensures same { sight_of_stage result ≡ standing }
     {
         match self.state(&standing) {
             State::Done => Stage::Ended(Ended { standing }),
@@ -154,7 +154,7 @@ impl Session {
         requires well_formed { AreWellFormed self.now.machines }
         requires first { IsFirst self.now.machines role.0 pass.view }
         ensures of { IsOf self.now result }
-        ensures first { shown result ≡ first_stage self.now role.0 }
+        ensures first { sight_of_stage result ≡ first_stage self.now role.0 }
     {
         let start = self.machine(role).start;
         self.stage(Standing::first(pass, role, start))

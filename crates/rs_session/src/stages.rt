@@ -1,6 +1,6 @@
 ghost use Rattle.std.specs.Prelude.{◌≡◌, ◌<◌, ◌^◌, length};
 ghost use Rattle.rs_session.specs.Acts.{SendsBy, SendTells, ReceiveTells};
-ghost use Rattle.rs_session.specs.Stages.{IsReceiving, shown};
+ghost use Rattle.rs_session.specs.Stages.{IsReceiving, sight_of_stage};
 
 use crate::sessions::Session;
 use crate::standing::{Found, Standing};
@@ -227,7 +227,7 @@ impl Ended {
 impl Stage {
     /// The role that it stands for.
     pub fn role(&self) -> Role
-        ensures { result ≡ (shown self.now).role }
+        ensures { result ≡ (sight_of_stage self.now).role }
     {
         match self {
             Stage::Sending(stage) => stage.role(),
@@ -238,7 +238,7 @@ impl Stage {
 
     /// Gives the role up where it stands. Takes no memory.
     pub fn leave(self) -> Left
-        ensures { result ≡ shown self }
+        ensures { result ≡ sight_of_stage self }
     {
         match self {
             Stage::Sending(stage) => {

@@ -5,7 +5,7 @@ ghost use Rattle.rs_core.specs.Configurations.{state_of};
 ghost use Rattle.rs_model.specs.declared.machines.State.TheVariants.{Takes};
 ghost use Rattle.rs_rings.specs.Acts.{MayPut};
 ghost use Rattle.rs_rings.specs.Views.{SpeaksFor, part_of, state_in, history_in};
-ghost use Rattle.rs_session.specs.Standing.{FoundTells, PutTells, seen_by};
+ghost use Rattle.rs_session.specs.Standing.{FoundTells, StagePutTells, sight_of_pass};
 
 use crate::places::place_by_label;
 use rs_model::{Arm, Role, Value};
@@ -23,11 +23,11 @@ pub(crate) struct Standing {
 
 impl Model for Standing {
     ghost use Rattle.rs_session.specs.Data.{Stage_data};
-    ghost use Rattle.rs_session.specs.Standing.{IsOne, seen_by};
+    ghost use Rattle.rs_session.specs.Standing.{IsOne, sight_of_pass};
 
     ghost Value = { Stage_data };
 
-    ghost view = { λ s. seen_by s.pass s.role };
+    ghost view = { λ s. sight_of_pass s.pass s.role };
 
     ghost invariant = { λ s. IsOne s.pass.view s.role s.state s.acts };
 }
@@ -46,7 +46,7 @@ impl Standing {
         requires only { (r : ℕ) → SpeaksFor pass.view r → r ≡ role.0 }
         requires state { state ≡ state_in pass.view role.0 }
         requires nothing { history_in pass.view role.0 ≡ [] }
-        ensures { result ≡ seen_by pass role }
+        ensures { result ≡ sight_of_pass pass role }
     {
         Standing {
             pass,
@@ -95,7 +95,7 @@ impl Standing {
         requires well_formed { AreWellFormed rings.now.machines }
         requires may { MayPut rings.now.machines self.old.role.0 peer.0 self.old.part.state parcel next }
         requires acts { length self.old.part.history < 2 ^ 63 }
-        ensures told { PutTells rings.now peer.0 parcel next self.old self.new result }
+        ensures told { StagePutTells rings.now peer.0 parcel next self.old self.new result }
     {
         match rings.put(&mut self.pass, self.role, peer, parcel) {
             Put::Done => {

@@ -2,7 +2,7 @@ use Rattle.std.proofs.Common.{◌≡◌, ◌≢◌, ℕ, suc, ◌+◌, List, [],
 use Rattle.std.proofs.lemmas.Bool.Decides.{eqb_tells}
 use Rattle.std.specs.List.{list_any}
 use Rattle.rs_text.specs.Bytes.{is_blank}
-use Rattle.rs_text.specs.Lexing.{skipped}
+use Rattle.rs_text.specs.Lexing.{length_of_blanks}
 use Rattle.rs_text.specs.Tokens.{Gap, nothing, blank, comment, gap_bytes, EndsLine, IsGap}
 
 -- a token or a fault may begin here: neither a blank nor a comment does
@@ -10,7 +10,7 @@ abbrev pub Stops : List ℕ → Type 0
 Stops [] = Unit {0}
 Stops (b ∷ bs) = (is_blank b ≡ false) × (b ≢ 35)
 
--- what `skipped` passes over is a gap, and it passes over all of it
+-- what `length_of_blanks` passes over is a gap, and it passes over all of it
 pub record Passed (rest : List ℕ) (n : ℕ) : Type 0 where
   pub gap : Gap
   pub behind : List ℕ
@@ -51,37 +51,37 @@ true_or_false true = inl refl
 true_or_false false = inr refl
 
 mutual
-  pub passed : (rest : List ℕ) → Passed rest (skipped false rest)
+  pub passed : (rest : List ℕ) → Passed rest (length_of_blanks false rest)
   passed [] = record { gap = nothing; behind = []; parts = refl; size = refl; right = tt; stops = tt }
   passed (b ∷ bs) = elim (true_or_false (is_blank b)) [
-    | inl h ↦ rw h (on_blank b bs (skipped false bs) h (passed bs))
+    | inl h ↦ rw h (on_blank b bs (length_of_blanks false bs) h (passed bs))
     | inr h ↦ rw h (elim (eqb_tells b 35) [
-      | inl e ↦ rw (e.0, e.1) (on_comment bs (skipped true bs) (held bs))
+      | inl e ↦ rw (e.0, e.1) (on_comment bs (length_of_blanks true bs) (held bs))
       | inr e ↦ rw e.0 (on_stop b bs h e.1)
     ])
   ]
 
-  held : (rest : List ℕ) → Held rest (skipped true rest)
+  held : (rest : List ℕ) → Held rest (length_of_blanks true rest)
   held [] = record { held = []; gap = nothing; behind = []; parts = refl; size = refl; no_line = refl; ends = tt; right = tt; stops = tt }
   held (b ∷ bs) = elim (eqb_tells b 10) [
-    | inl e ↦ rw e.0 (on_line_end b bs (skipped false bs) e.1 (passed bs))
-    | inr e ↦ rw e.0 (on_held b bs (skipped true bs) e.0 (held bs))
+    | inl e ↦ rw e.0 (on_line_end b bs (length_of_blanks false bs) e.1 (passed bs))
+    | inr e ↦ rw e.0 (on_held b bs (length_of_blanks true bs) e.0 (held bs))
   ]
 
 -- ---- and the other way: a gap of which nothing is left is passed over whole
 
-on_first : (rest : List ℕ) (n : ℕ) → EndsLine rest → skipped false rest ≡ n → skipped true rest ≡ n
+on_first : (rest : List ℕ) (n : ℕ) → EndsLine rest → length_of_blanks false rest ≡ n → length_of_blanks true rest ≡ n
 on_first [] n h e = e
 on_first (b ∷ bs) n h e = rw h (rw h at e)
 
-with_comment : (text rest : List ℕ) (n : ℕ) → list_any (λ b. b == 10) text ≡ false → skipped true rest ≡ n → skipped true (text ++ rest) ≡ length text + n
+with_comment : (text rest : List ℕ) (n : ℕ) → list_any (λ b. b == 10) text ≡ false → length_of_blanks true rest ≡ n → length_of_blanks true (text ++ rest) ≡ length text + n
 with_comment [] rest n h e = omega arith
 with_comment (b ∷ text) rest n h e = elim (eqb_tells b 10) [
   | inl p ↦ absurd (cc (rw p.0 at h))
   | inr p ↦ rw p.0 (let m = with_comment text rest n (rw p.0 at h) e in omega arith)
 ]
 
-pub passes : (gap : Gap) (rest : List ℕ) → IsGap gap rest → Stops rest → skipped false (gap_bytes gap ++ rest) ≡ length (gap_bytes gap)
+pub passes : (gap : Gap) (rest : List ℕ) → IsGap gap rest → Stops rest → length_of_blanks false (gap_bytes gap ++ rest) ≡ length (gap_bytes gap)
 passes nothing [] h s = refl
 passes nothing (b ∷ bs) h s = elim (eqb_tells b 35) [ inl p ↦ absurd (s.1 p.1) | inr p ↦ rw (s.0, p.0) refl ]
 passes (blank b gap) rest h s = rw h.0 (ap suc (passes gap rest h.1 s))

@@ -7,7 +7,7 @@ use Rattle.std.specs.Bool.{Decides, IsTrue}
 use Rattle.std.specs.List.{list_all, All, AllPairs, AllByRecursion, IsDistinct}
 use Rattle.std.specs.Prelude.{slice_get}
 use Rattle.std.specs.Str.{bytes_eq}
-use Rattle.rs_text.specs.Names.{place_from, place_of, is_among, grown, differ}
+use Rattle.rs_text.specs.Names.{place_from, place_of, is_among, names_with, differ}
 use Rattle.rs_text.specs.NamePlaces.{StandsFirst}
 use Rattle.rs_model.specs.Data.{Names_data}
 use Rattle.rs_text.specs.Sound.{are_sound, IsSound}
@@ -129,7 +129,7 @@ and_right : (a b : Bool) → (a && b) ≡ true → b ≡ true
 and_right true b h = h
 and_right false b h = absurd (cc h)
 
-pub grown_append : (xs ys names : List (List ℕ)) → grown names (xs ++ ys) ≡ grown (grown names xs) ys
+pub grown_append : (xs ys names : List (List ℕ)) → names_with names (xs ++ ys) ≡ names_with (names_with names xs) ys
 grown_append [] ys names = refl
 grown_append (x ∷ xs) ys names = grown_append xs ys (if is_among x names then names else names ++ x ∷ [])
 
@@ -148,21 +148,21 @@ differ_push (y ∷ names) x h k = elim (true_or_false (is_among y names)) [
       (differ_push names x (rw e at h) (or_right (bytes_eq y x) (is_among x names) k))
 ]
 
-pub grown_differ : (xs names : List (List ℕ)) → differ names ≡ true → differ (grown names xs) ≡ true
+pub grown_differ : (xs names : List (List ℕ)) → differ names ≡ true → differ (names_with names xs) ≡ true
 grown_differ [] names h = h
 grown_differ (x ∷ xs) names h = elim (true_or_false (is_among x names)) [
   | inl e ↦ rw e (grown_differ xs names h)
   | inr e ↦ rw e (grown_differ xs (names ++ x ∷ []) (differ_push names x h e))
 ]
 
-pub grown_all : (test : List ℕ → Bool) (xs names : List (List ℕ)) → list_all test names ≡ true → list_all test xs ≡ true → list_all test (grown names xs) ≡ true
+pub grown_all : (test : List ℕ → Bool) (xs names : List (List ℕ)) → list_all test names ≡ true → list_all test xs ≡ true → list_all test (names_with names xs) ≡ true
 grown_all test [] names h k = h
 grown_all test (x ∷ xs) names h k = elim (true_or_false (is_among x names)) [
   | inl e ↦ rw e (grown_all test xs names h (and_right (test x) (list_all test xs) k))
   | inr e ↦ rw e (grown_all test xs (names ++ x ∷ []) (rw (list_all-append test names (x ∷ []), h, and_left (test x) (list_all test xs) k) refl) (and_right (test x) (list_all test xs) k))
 ]
 
-pub grown_stays : (more names : List (List ℕ)) (name : List ℕ) (k : ℕ) → place_of name names ≡ Some k → place_of name (grown names more) ≡ Some k
+pub grown_stays : (more names : List (List ℕ)) (name : List ℕ) (k : ℕ) → place_of name names ≡ Some k → place_of name (names_with names more) ≡ Some k
 grown_stays [] names name k h = h
 grown_stays (x ∷ more) names name k h = elim (true_or_false (is_among x names)) [
   | inl e ↦ rw e (grown_stays more names name k h)
@@ -188,7 +188,7 @@ once x more names name h = elim (true_or_false (bytes_eq x name)) [
 pushed : (x : List ℕ) (more names : List (List ℕ)) (name : List ℕ) → (is_among name (names ++ x ∷ []) || is_among name more) ≡ (is_among name names || is_among name (x ∷ more))
 pushed x more names name = rw (list_any-append (λ z. bytes_eq z name) names (x ∷ [])) (regroup (is_among name names) (bytes_eq x name) (is_among name more))
 
-pub grown_among : (more names : List (List ℕ)) (name : List ℕ) → is_among name (grown names more) ≡ (is_among name names || is_among name more)
+pub grown_among : (more names : List (List ℕ)) (name : List ℕ) → is_among name (names_with names more) ≡ (is_among name names || is_among name more)
 grown_among [] names name = or_nothing (is_among name names)
 grown_among (x ∷ more) names name = elim (true_or_false (is_among x names)) [
   | inl e ↦ rw e (grown_among more names name ∙ once x more names name e)
@@ -284,11 +284,11 @@ pub absent_by : (o : Option ℕ) (x : List ℕ) (names : List (List ℕ)) → pl
 absent_by None x names e h = e
 absent_by (Some k) x names e h = absurd (cc (among names x 0 k e, h))
 
-pub grown_one : (names xs : List (List ℕ)) (l : List ℕ) → grown (grown names (l ∷ [])) xs ≡ grown names (l ∷ xs)
+pub grown_one : (names xs : List (List ℕ)) (l : List ℕ) → names_with (names_with names (l ∷ [])) xs ≡ names_with names (l ∷ xs)
 grown_one names xs l = refl
 
-pub grown_new : (names : List (List ℕ)) (l : List ℕ) → place_of l names ≡ None → grown names (l ∷ []) ≡ names ++ l ∷ []
+pub grown_new : (names : List (List ℕ)) (l : List ℕ) → place_of l names ≡ None → names_with names (l ∷ []) ≡ names ++ l ∷ []
 grown_new names l e = ap (λ z. if z then names else names ++ l ∷ []) (not_among names l 0 e)
 
-pub grown_old : (names : List (List ℕ)) (l : List ℕ) (k : ℕ) → place_of l names ≡ Some k → grown names (l ∷ []) ≡ names
+pub grown_old : (names : List (List ℕ)) (l : List ℕ) (k : ℕ) → place_of l names ≡ Some k → names_with names (l ∷ []) ≡ names
 grown_old names l k e = ap (λ z. if z then names else names ++ l ∷ []) (among names l 0 k e)

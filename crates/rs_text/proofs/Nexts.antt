@@ -2,7 +2,7 @@ use Rattle.std.proofs.Common.{codes, nat_le, ◌≢◌, ◌≡◌, ℕ, zero, su
 use Rattle.std.proofs.lemmas.List.{drop-drop}
 use Rattle.std.proofs.Math.Seq.{drop-append_seam, drop-length}
 use Rattle.rs_text.specs.Lexemes.{Lexeme, is_last}
-use Rattle.rs_text.specs.Lexing.{skipped, front_of, placed, next_lexeme, Lexed}
+use Rattle.rs_text.specs.Lexing.{length_of_blanks, front_of, lexeme_at, next_lexeme, Lexed}
 use Rattle.rs_text.specs.Bytes.{is_letter, is_digit, begins}
 use Rattle.rs_text.specs.Words.{is_role_word}
 use Rattle.std.proofs.lemmas.Bool.Decides.{leb_tells}
@@ -17,7 +17,7 @@ use Rattle.rs_text.proofs.Starts.{Fits, front_fits, token_stops, token_front}
 pub behind_gap : (bytes : List ℕ) (at n : ℕ) (gap behind : List ℕ) → drop at bytes ≡ gap ++ behind → n ≡ length gap → drop (at + n) bytes ≡ behind
 behind_gap bytes at n gap behind parts size = rw (← drop-drop n at bytes, parts, size) (drop-append_seam gap behind)
 
-next_at : (bytes : List ℕ) (at n : ℕ) (p : Passed (drop at bytes) n) → Fits (front_of p.behind) p.behind → IsNext bytes at (placed (at + n) (front_of p.behind))
+next_at : (bytes : List ℕ) (at n : ℕ) (p : Passed (drop at bytes) n) → Fits (front_of p.behind) p.behind → IsNext bytes at (lexeme_at (at + n) (front_of p.behind))
 next_at bytes at n p f = record {
   gap = p.gap;
   text = f.text;
@@ -32,8 +32,8 @@ next_at bytes at n p f = record {
 pub next_is_next : (bytes : List ℕ) (at : ℕ) → IsNext bytes at (next_lexeme bytes at)
 next_is_next bytes at =
     let p = passed (drop at bytes) in
-    rw (behind_gap bytes at (skipped false (drop at bytes)) (gap_bytes p.gap) p.behind p.parts p.size)
-    (next_at bytes at (skipped false (drop at bytes)) p (front_fits p.behind p.stops))
+    rw (behind_gap bytes at (length_of_blanks false (drop at bytes)) (gap_bytes p.gap) p.behind p.parts p.size)
+    (next_at bytes at (length_of_blanks false (drop at bytes)) p (front_fits p.behind p.stops))
 
 same_lexeme : (l : Lexeme) (from until : ℕ) → l.from ≡ from → l.until ≡ until → l ≡ record { sign = l.sign; from = from; until = until }
 same_lexeme l from until p q = rw (← p, ← q) refl
@@ -41,7 +41,7 @@ same_lexeme l from until p q = rw (← p, ← q) refl
 pub one_next : (bytes : List ℕ) (at : ℕ) (l : Lexeme) → IsNext bytes at l → l ≡ next_lexeme bytes at
 one_next bytes at l x =
     let stops = token_stops l.sign x.text x.behind x.token in
-    let gap : skipped false (drop at bytes) ≡ length (gap_bytes x.gap) = rw x.parts (passes x.gap (x.text ++ x.behind) x.between stops) in
+    let gap : length_of_blanks false (drop at bytes) ≡ length (gap_bytes x.gap) = rw x.parts (passes x.gap (x.text ++ x.behind) x.between stops) in
     let here = behind_gap bytes at (length (gap_bytes x.gap)) (gap_bytes x.gap) (x.text ++ x.behind) x.parts refl in
     let f = token_front l.sign x.text x.behind x.token in
     rw (gap, here, f) (same_lexeme l (at + length (gap_bytes x.gap)) (at + length (gap_bytes x.gap) + length x.text) x.from (rw x.from at x.until))

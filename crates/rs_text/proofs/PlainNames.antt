@@ -11,7 +11,7 @@ use Rattle.rs_text.proofs.Naming.{place_law, grown_differ, among_at}
 use Rattle.rs_text.proofs.Values.{decimal_reads}
 use Rattle.rs_text.specs.Bytes.{is_letter, is_digit, is_word_byte}
 use Rattle.rs_text.specs.Lexemes.{value_of}
-use Rattle.rs_text.specs.Names.{grown, is_among, place_of, differ}
+use Rattle.rs_text.specs.Names.{names_with, is_among, place_of, differ}
 use Rattle.rs_text.specs.Words.{is_word, is_role_word}
 use Rattle.rs_text.proofs.Basics.{some_is, first_true, second_true, two_true}
 
@@ -74,7 +74,7 @@ plain_new letter n small = elim (true_or_false (is_among (plain_name letter n) (
   | inr e ↦ e
 ]
 
-pub plain_grown : (letter n : ℕ) → n < 2 ^ 64 → grown (plain_names letter n) (plain_name letter n ∷ []) ≡ plain_names letter (suc n)
+pub plain_grown : (letter n : ℕ) → n < 2 ^ 64 → names_with (plain_names letter n) (plain_name letter n ∷ []) ≡ plain_names letter (suc n)
 plain_grown letter n small = ap (λ z. if z then plain_names letter n else plain_names letter n ++ plain_name letter n ∷ []) (plain_new letter n small)
 
 pub plain_differ : (letter n : ℕ) → n < 2 ^ 64 → differ (plain_names letter n) ≡ true

@@ -18,10 +18,10 @@ use Rattle.std.proofs.lemmas.List.Elements.{All-cons, All-nil}
 use Rattle.std.proofs.Math.Seq.{drop-append_seam}
 use Rattle.std.specs.List.{flat_map, All}
 use Rattle.rs_text.specs.Lexemes.{Lexeme, is_last, signs_of}
-use Rattle.rs_text.specs.Lexing.{Lexed, next_lexeme, placed, front_of}
+use Rattle.rs_text.specs.Lexing.{Lexed, next_lexeme, lexeme_at, front_of}
 use Rattle.rs_text.specs.Signs.{Sign}
 use Rattle.rs_text.specs.Tokens.{IsToken, nothing}
-use Rattle.rs_text.specs.Writing.{Piece, blank, token, piece_text, piece_signs, ArePieces, IsWritten}
+use Rattle.rs_text.specs.Writing.{TextPiece, blank, token, piece_text, piece_signs, ArePieces, IsWritten}
 use Rattle.rs_text.proofs.Nexts.{one_next}
 
 behind_text : (bytes : List ℕ) (at : ℕ) (text behind : List ℕ) → drop at bytes ≡ text ++ behind → drop (at + length text) bytes ≡ behind
@@ -32,7 +32,7 @@ behind_text bytes at text behind parts = rw (← drop-drop (length text) at byte
 after_blank : (bytes : List ℕ) (at byte : ℕ) (rest : List ℕ) → drop at bytes ≡ byte ∷ rest → is_blank byte ≡ true → next_lexeme bytes (at + 1) ≡ next_lexeme bytes at
 after_blank bytes at byte rest parts h =
     let e : drop (at + 1) bytes ≡ rest = behind_text bytes at (byte ∷ []) rest parts in
-    rw (e, parts, h) (ap (λ from. placed from (front_of (drop from bytes))) (omega arith))
+    rw (e, parts, h) (ap (λ from. lexeme_at from (front_of (drop from bytes))) (omega arith))
 
 lexed_after_blank : (bytes : List ℕ) (at byte : ℕ) (rest : List ℕ) (ls : List Lexeme) → drop at bytes ≡ byte ∷ rest → is_blank byte ≡ true → Lexed bytes (at + 1) ls → Lexed bytes at ls
 lexed_after_blank bytes at byte rest [] parts h k = k
@@ -64,7 +64,7 @@ cut_more bytes at low high sign text behind signs ls parts t more from until res
   lexed = (token_next bytes at sign text behind parts t, (λ e. absurd (cc (e, more))), λ _. rest.lexed);
 }
 
-pub pieces_cut : (pieces : List Piece) (bytes behind : List ℕ) (at low high : ℕ) (ls : List Lexeme) → drop at bytes ≡ flat_map piece_text pieces ++ behind → ArePieces pieces behind → low ≤ at → at + length (flat_map piece_text pieces) ≤ high
+pub pieces_cut : (pieces : List TextPiece) (bytes behind : List ℕ) (at low high : ℕ) (ls : List Lexeme) → drop at bytes ≡ flat_map piece_text pieces ++ behind → ArePieces pieces behind → low ≤ at → at + length (flat_map piece_text pieces) ≤ high
     → Lexed bytes (at + length (flat_map piece_text pieces)) ls → AreCut bytes at low high (flat_map piece_signs pieces) ls
 pieces_cut [] bytes behind at low high ls parts right from until h = record { cut = []; signs_are = refl; inside = All-nil (λ (l : Lexeme). (low ≤ l.from) × (l.until ≤ high)); lexed = rw (add-zero at) at h }
 pieces_cut (blank byte ∷ pieces) bytes behind at low high ls parts right from until h =
@@ -105,7 +105,7 @@ no_more (b ∷ bs) = ap (λ xs. b ∷ xs) (no_more bs)
 pub token_written : (sign : Sign) (text behind : List ℕ) → IsToken sign text behind → is_last sign ≡ false → IsWritten (sign ∷ []) text behind
 token_written sign text behind t more = record { pieces = token sign text ∷ []; right = (t, more, tt); spelt = refl; put = no_more text }
 
-joined_pieces : (these others : List Piece) (behind : List ℕ) → ArePieces these (flat_map piece_text others ++ behind) → ArePieces others behind → ArePieces (these ++ others) behind
+joined_pieces : (these others : List TextPiece) (behind : List ℕ) → ArePieces these (flat_map piece_text others ++ behind) → ArePieces others behind → ArePieces (these ++ others) behind
 joined_pieces [] others behind h k = k
 joined_pieces (blank byte ∷ these) others behind h k = (h.0, joined_pieces these others behind h.1 k)
 joined_pieces (token sign text ∷ these) others behind h k =

@@ -12,10 +12,10 @@ use Rattle.rs_text.specs.Lexemes.{Lexeme, value_of, is_last}
 use Rattle.rs_text.specs.Signs.{Sign, number, arrow, bang, question, colon, dot, comma, open_brace, close_brace, open_paren, close_paren, open_bracket, close_bracket, finish, broken, word_sign}
 
 -- how many bytes in front are blanks and comments; the flag says that a comment is open
-abbrev pub skipped : Bool → List ℕ → ℕ
-skipped comment [] = 0
-skipped false (b ∷ bs) = if is_blank b then suc (skipped false bs) else if b == 35 then suc (skipped true bs) else 0
-skipped true (b ∷ bs) = suc (skipped (if b == 10 then false else true) bs)
+abbrev pub length_of_blanks : Bool → List ℕ → ℕ
+length_of_blanks comment [] = 0
+length_of_blanks false (b ∷ bs) = if is_blank b then suc (length_of_blanks false bs) else if b == 35 then suc (length_of_blanks true bs) else 0
+length_of_blanks true (b ∷ bs) = suc (length_of_blanks (if b == 10 then false else true) bs)
 
 -- how many bytes in front are of a word
 abbrev pub word_length : List ℕ → ℕ
@@ -73,12 +73,12 @@ front_of (b ∷ bs) =
     else mark_front b
 
 -- what stands in front, at its offset
-abbrev pub placed : ℕ → Front → Lexeme
-placed from f = record { sign = f.sign; from = from; until = from + f.size }
+abbrev pub lexeme_at : ℕ → Front → Lexeme
+lexeme_at from f = record { sign = f.sign; from = from; until = from + f.size }
 
 -- the next token from an offset on: blanks and comments are passed over
 abbrev pub next_lexeme : List ℕ → ℕ → Lexeme
-next_lexeme bytes at = let from = at + skipped false (drop at bytes) in placed from (front_of (drop from bytes))
+next_lexeme bytes at = let from = at + length_of_blanks false (drop at bytes) in lexeme_at from (front_of (drop from bytes))
 
 -- the bytes from `at` on, cut into tokens as far as the end or the first faulty one
 abbrev pub Lexed : List ℕ → ℕ → List Lexeme → Type 0

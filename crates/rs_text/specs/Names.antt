@@ -17,18 +17,18 @@ abbrev pub is_among : List ℕ → List (List ℕ) → Bool
 is_among name names = list_any (λ x. bytes_eq x name) names
 
 -- the names with further ones behind them, in order of their first places
-abbrev pub grown : List (List ℕ) → List (List ℕ) → List (List ℕ)
-grown names [] = names
-grown names (x ∷ xs) = grown (if is_among x names then names else names ++ x ∷ []) xs
+abbrev pub names_with : List (List ℕ) → List (List ℕ) → List (List ℕ)
+names_with names [] = names
+names_with names (x ∷ xs) = names_with (if is_among x names then names else names ++ x ∷ []) xs
 
 -- the recursion names round a place, the nearest first, each with a number
 abbrev pub Bound : Type 0
 Bound = List (List ℕ × ℕ)
 
 -- the number of the nearest one of a name
-abbrev pub bound_to : List ℕ → Bound → Option ℕ
-bound_to name [] = None
-bound_to name (b ∷ bs) = if bytes_eq b.0 name then Some b.1 else bound_to name bs
+abbrev pub nearest_binding : List ℕ → Bound → Option ℕ
+nearest_binding name [] = None
+nearest_binding name (b ∷ bs) = if bytes_eq b.0 name then Some b.1 else nearest_binding name bs
 
 -- the number, where there is one
 abbrev pub number_or : Option ℕ → ℕ

@@ -73,6 +73,6 @@ RefusedBy a stops.Memory r bytes at d = Unit {0}
 RefusedBy a (stops.Fault f) r bytes at d = (lexemes : List Lexeme) → Lexed bytes at lexemes → last_of a r (Ok r) lexemes ≡ d
 
 -- a refusal of memory is told at the offset where the reading began
-abbrev pub told : Stop → ℕ → TextFault
-told stops.Memory at = record { kind = kind.NoMemory; at = at }
-told (stops.Fault f) at = f
+abbrev pub fault_of_stop : Stop → ℕ → TextFault
+fault_of_stop stops.Memory at = record { kind = kind.NoMemory; at = at }
+fault_of_stop (stops.Fault f) at = f

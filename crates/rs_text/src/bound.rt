@@ -1,5 +1,5 @@
 ghost use Rattle.std.specs.Prelude.{◌≡◌, ◌-◌, length, drop, reverse};
-ghost use Rattle.rs_text.specs.Names.{bound_to};
+ghost use Rattle.rs_text.specs.Names.{nearest_binding};
 
 use std::marker::Model;
 
@@ -21,7 +21,7 @@ impl<'a> Model for Binding<'a> {
 /// The number that the name is bound to by the nearest of the bindings, which is the last one.
 #[tactic(auto, using(crate::proofs::Bindings::nearest))]
 pub fn bound_number(bindings: &[Binding], name: &[u8]) -> Option<u32>
-    ensures { result ≡ bound_to name.now (reverse bindings.now) }
+    ensures { result ≡ nearest_binding name.now (reverse bindings.now) }
 {
     let mut number = None;
     for binding in bindings {

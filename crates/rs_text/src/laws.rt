@@ -5,7 +5,7 @@ ghost use Rattle.std.specs.List.{All, list_all};
 ghost use Rattle.rs_text.specs.Bytes.{is_blank, is_digit, is_word_byte, begins};
 ghost use Rattle.rs_text.specs.Lexemes.{Lexeme, is_last, signs_of};
 ghost use Rattle.rs_text.specs.Lexing.{Lexed, next_lexeme};
-ghost use Rattle.rs_text.specs.Names.{place_of, is_among, grown, differ};
+ghost use Rattle.rs_text.specs.Names.{place_of, is_among, names_with, differ};
 ghost use Rattle.rs_text.specs.NamePlaces.{StandsFirst};
 ghost use Rattle.rs_text.specs.Signs.{Sign, finish, number, plain, word_sign};
 ghost use Rattle.rs_text.specs.Tokens.{AreTokens, IsNext, IsToken, IsWithin};
@@ -94,7 +94,7 @@ pub fn place_stays()
 
 /// So it does where the names grow.
 pub fn place_stays_in_grown()
-    ensures { (name : List ℕ) (names more : List (List ℕ)) (place : ℕ) → place_of name names ≡ Some place → place_of name (grown names more) ≡ Some place }
+    ensures { (name : List ℕ) (names more : List (List ℕ)) (place : ℕ) → place_of name names ≡ Some place → place_of name (names_with names more) ≡ Some place }
 {}
 
 /// A new name gets the place behind all others.
@@ -104,15 +104,15 @@ pub fn new_name_is_last()
 
 /// A name is among the grown ones exactly where it is among the old or the further ones.
 pub fn grown_has_both()
-    ensures { (name : List ℕ) (names more : List (List ℕ)) → is_among name (grown names more) ≡ (is_among name names || is_among name more) }
+    ensures { (name : List ℕ) (names more : List (List ℕ)) → is_among name (names_with names more) ≡ (is_among name names || is_among name more) }
 {}
 
 /// Names that differ still do so when they have grown ..
 pub fn grown_names_differ()
-    ensures { (names more : List (List ℕ)) → differ names ≡ true → differ (grown names more) ≡ true }
+    ensures { (names more : List (List ℕ)) → differ names ≡ true → differ (names_with names more) ≡ true }
 {}
 
 /// .. and what holds of the old and of the further ones holds of them all.
 pub fn grown_names_pass()
-    ensures { (test : List ℕ → Bool) (names more : List (List ℕ)) → list_all test names ≡ true → list_all test more ≡ true → list_all test (grown names more) ≡ true }
+    ensures { (test : List ℕ → Bool) (names more : List (List ℕ)) → list_all test names ≡ true → list_all test more ≡ true → list_all test (names_with names more) ≡ true }
 {}

@@ -1,7 +1,7 @@
 ghost use Rattle.std.specs.Prelude.{◌≡◌, ◌+◌, ◌-◌, ◌*◌, ◌<◌, ◌≤◌, ◌∷◌, [], length, take, drop, nat_lt, if◌then◌else◌, Some, None, OnErr, IfErr, IfOk, IfSome, IfNone, false, true};
 ghost use Rattle.rs_text.specs.Bytes as bytes;
 ghost use Rattle.rs_text.specs.Lexemes.{value_behind, value_of};
-ghost use Rattle.rs_text.specs.Lexing.{front, front_of, mark_front, word_front, number_front, skipped, word_length, number_length, next_lexeme, lexeme_of, broken_at};
+ghost use Rattle.rs_text.specs.Lexing.{front, front_of, mark_front, word_front, number_front, length_of_blanks, word_length, number_length, next_lexeme, lexeme_of, broken_at};
 ghost use Rattle.rs_text.specs.Signs.{word_sign};
 ghost use Rattle.rs_text.specs.Terminals.{terminal_sign};
 
@@ -108,7 +108,7 @@ fn with_digit(value: u32, digit: u8) -> Option<u32>
 
 /// The count of bytes in front that are blanks and comments.
 fn gap(bytes: &[u8]) -> usize
-    ensures count { result ≡ skipped false bytes.now }
+    ensures count { result ≡ length_of_blanks false bytes.now }
     ensures within { result ≤ length bytes.now }
 {
     let mut rest = bytes;
@@ -126,7 +126,7 @@ fn gap(bytes: &[u8]) -> usize
 
 /// The count of bytes in front that an open comment holds, as far as the end of its line.
 fn comment_size(bytes: &[u8]) -> usize
-    ensures passed { skipped true bytes.now ≡ result + skipped false (drop result bytes.now) }
+    ensures passed { length_of_blanks true bytes.now ≡ result + length_of_blanks false (drop result bytes.now) }
     ensures within { result ≤ length bytes.now }
 {
     match memchr(b'\n', bytes) {

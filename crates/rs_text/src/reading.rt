@@ -17,7 +17,7 @@ pub enum Stop {
 impl Stop {
     /// The fault that is told of a reading that began at the offset `at`: a refusal of memory stands there.
     pub fn told(self, at: usize) -> TextFault
-        ensures { result ≡ spec.told self at }
+        ensures { result ≡ spec.fault_of_stop self at }
     {
         match self {
             Stop::Fault(fault) => fault,

@@ -5,7 +5,7 @@ use Rattle.rs_answers.specs.Runs.{capacity_of}
 use Rattle.rs_answers.specs.Sessions.{HasMachines}
 use Rattle.rs_answers.proofs.OneReason.{not_refused, one_session_derived}
 use Rattle.rs_core.specs.Plain.{Ending, IsPlain}
-use Rattle.rs_demo_answers.specs.Demos.{AnswersDemo, HasBadNumbers, IsDocument, AnswersOwn, IsRefused, IsAccepted, IsTooSmall, IsRun, TellsEnd, HasEnded, IsStopped, Opens, actor_at}
+use Rattle.rs_demo_answers.specs.Demos.{AnswersDemo, HasBadNumbers, IsDocument, AnswersOwn, IsRefused, IsAccepted, IsTooSmall, IsRun, TellsDemoEnd, HasEnded, IsStopped, Opens, actor_at}
 use Rattle.rs_demo_answers.specs.declared.limits.TheConstants.{DEMO_LIMIT}
 use Rattle.rs_demo_answers.proofs.OneAnswer.{one_opening}
 use Rattle.rs_demo_answers.proofs.Stopping.{never_stopped}
@@ -43,7 +43,7 @@ was_performed : (a b : Answer_data) → a ≡ b → WasPerformed b → WasPerfor
 was_performed a b e h = subst WasPerformed (sym e) h
 
 end_is_performed : (kind : Demo) (bytes : List ℕ) (actors : List DemoActor) (text : List ℕ) (d : Document_data) (ps : List Projection_data) (ms : List Machine_data) (capacity : ℕ) (a : Answer_data) (o : Ending DemoActor) → length bytes ≤ MOST_BYTES
-    → Opens kind bytes actors text → SpellsDocument text d → HasMachines d ps ms → IsPlain ms by_demo (actor_at actors) DEMO_LIMIT (Some capacity) o → TellsEnd kind d.names (length ms) a o → WasPerformed a
+    → Opens kind bytes actors text → SpellsDocument text d → HasMachines d ps ms → IsPlain ms by_demo (actor_at actors) DEMO_LIMIT (Some capacity) o → TellsDemoEnd kind d.names (length ms) a o → WasPerformed a
 end_is_performed kind bytes actors text d ps ms capacity a o short opens spells h plain (HasEnded k xs has x) = was_performed a _ x tt
 end_is_performed kind bytes actors text d ps ms capacity a o short opens spells h plain (IsStopped p k x) = absurd (never_stopped kind bytes actors text d ps ms (Some capacity) p k short opens spells h plain)
 

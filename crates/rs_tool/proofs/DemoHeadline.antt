@@ -3,7 +3,7 @@ use Rattle.std.proofs.Common.{◌≡◌, ℕ, List, Option, Some, None, sym, sub
 use Rattle.std.specs.Prelude.{IfSome}
 use Rattle.rs_answers.specs.Data.{Answer_data}
 use Rattle.rs_answers.specs.Refusals.{refusal_answer}
-use Rattle.rs_demo_answers.specs.Demos.{AnswersDemo, HasBadNumbers, IsDocument, IsRefused, IsAccepted, IsTooSmall, IsRun, TellsEnd, HasEnded, IsStopped}
+use Rattle.rs_demo_answers.specs.Demos.{AnswersDemo, HasBadNumbers, IsDocument, IsRefused, IsAccepted, IsTooSmall, IsRun, TellsDemoEnd, HasEnded, IsStopped}
 use Rattle.rs_core.specs.Plain.{Ending}
 use Rattle.rs_demos.specs.declared.actors.DemoActor.{DemoActor}
 use Rattle.rs_demos.specs.declared.kinds.Demo.{Demo}
@@ -59,7 +59,7 @@ not-full a b e h = subst IsNotFull (sym e) h
 no-run-is-not-full : (a : Answer_data) → (IsOfRun (status_of a.verdict) → ⊥) → IsNotFull a
 no-run-is-not-full a h full = h (subst IsOfRun (sym full) tt)
 
-end-is-not-full : (kind : Demo) (names : Names_data) (roles : ℕ) (a : Answer_data) (o : Ending DemoActor) → TellsEnd kind names roles a o → IsNotFull a
+end-is-not-full : (kind : Demo) (names : Names_data) (roles : ℕ) (a : Answer_data) (o : Ending DemoActor) → TellsDemoEnd kind names roles a o → IsNotFull a
 end-is-not-full kind names roles a o (HasEnded k xs h x) = not-full a _ x (λ full. cc)
 end-is-not-full kind names roles a o (IsStopped p k x) = not-full a _ x (λ full. cc)
 

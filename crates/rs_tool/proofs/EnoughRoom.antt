@@ -11,7 +11,7 @@ use Rattle.rs_project.specs.Data.{Projection_data}
 use Rattle.rs_safety.specs.Accepting.{Accepted_data}
 use Rattle.rs_safety.specs.Room.{room_of}
 use Rattle.rs_answers.specs.Data.{Answer_data}
-use Rattle.rs_answers.specs.Derivations.{AreCanonical, IsBound}
+use Rattle.rs_answers.specs.Derivations.{AreCanonical, IsSearchBound}
 use Rattle.rs_tool.specs.RunHeadline.{IsOfRun}
 use Rattle.rs_answers.specs.Runs as runs
 use Rattle.rs_answers.specs.Runs.{Runs, TellsEnd, HasEnded, IsStopped, IsFull, TellsRun, actor_of, capacity_of}
@@ -31,7 +31,7 @@ stuck names ms ds options capacity a o never p (HasEnded k ts h e) full = let is
 stuck names ms ds options capacity a o never p (IsStopped q k e) full = let is = sym (ap (λ (z : Answer_data). z.verdict) e) ∙ full in cc (is)
 stuck names ms ds options capacity a o never p (IsFull k s r h e) full = never k p
 
-pub never_full : (options : RunOptions) (bytes : List ℕ) (d : Document_data) (ps : List Projection_data) (ms : List Machine_data) (ds : List Derivation_data) (a : Answer_data) → IsBound options.bound → SpellsDocument bytes d → HasMachines d ps ms
+pub never_full : (options : RunOptions) (bytes : List ℕ) (d : Document_data) (ps : List Projection_data) (ms : List Machine_data) (ds : List Derivation_data) (a : Answer_data) → IsSearchBound options.bound → SpellsDocument bytes d → HasMachines d ps ms
     → AreCanonical options.bound ms ps ds → room_of ds ≤ capacity_of options.ring (room_of ds) → Runs options d a → a.verdict ≡ Full → ⊥
 never_full options bytes d ps ms ds a within doc h f enough (runs.IsRefused r k is) full =
     no-run a _ is (refusal-is-no-run d.names r) (subst (λ (v : Verdict). IsOfRun (status_of v)) (sym full) tt)

@@ -2,7 +2,7 @@
 
 ghost use Rattle.std.specs.Prelude.{◌≡◌, length, true, false, IfOk};
 ghost use Rattle.rs_documents.specs.Canonical.{CanBeShown};
-ghost use Rattle.rs_documents.specs.Reading.{IsReady};
+ghost use Rattle.rs_documents.specs.Reading.{DocumentIsReady};
 ghost use Rattle.rs_tool.specs.Answers.{AnswersDocument, AnswersText};
 ghost use Rattle.rs_tool.specs.Sessions.{HandsOut, HandsOutOn};
 ghost use Rattle.rs_tool.specs.Tasks.{needs_workers, reads_document};
@@ -27,7 +27,7 @@ fn answer_to_document(
     requires range { IsInRange task }
     requires reads { reads_document task ≡ true }
     requires alone { needs_workers task ≡ false }
-    requires ready { IsReady document }
+    requires ready { DocumentIsReady document }
     requires roles { length document.names.roles ≡ document.protocol.roles }
     requires shown { CanBeShown document }
     ensures answer { IfOk result (λ a. AnswersDocument task document a.answer) }

@@ -7,7 +7,7 @@ ghost use Rattle.rs_model.specs.declared.limits.TheConstants.{MOST_BYTES, MOST_C
 ghost use Rattle.rs_tool.specs.Answers.{AnswersData};
 ghost use Rattle.rs_tool.specs.Sessions.{Gives};
 ghost use Rattle.rs_tool.specs.Tasks.{needs_workers, reads_input};
-ghost use Rattle.rs_words.specs.Meaning.{IsFrom, IsInRange};
+ghost use Rattle.rs_words.specs.Meaning.{IsFromTo, IsInRange};
 ghost use Rattle.rs_words.specs.declared.tasks.Task.{Task};
 
 use crate::answers::answer_to_text;
@@ -33,7 +33,7 @@ fn answer_to_data(
     ring: Option<u16>,
     bytes: &[u8],
 ) -> Result<AnswerWithSession, NoMemory>
-    requires { IfSome ring (IsFrom 1 MOST_CAPACITY) }
+    requires { IfSome ring (IsFromTo 1 MOST_CAPACITY) }
     ensures answer { IfOk result (λ a. AnswersData kind ring bytes.now a.answer) }
     ensures closed { IfOk result (λ a. IsThereWhere (HasCome a.answer.verdict) (WasPerformed kind bytes.now a.answer) a.closed) }
 {

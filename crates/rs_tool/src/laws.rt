@@ -12,7 +12,7 @@ ghost use Rattle.rs_safety.specs.Room.{room_of};
 ghost use Rattle.rs_tool.specs.Answers.{Answers};
 ghost use Rattle.rs_answers.specs.Data.{Answer_data};
 ghost use Rattle.rs_tool.specs.Headline.{SpellsSafeMachines};
-ghost use Rattle.rs_answers.specs.Derivations.{AreCanonical, IsBound};
+ghost use Rattle.rs_answers.specs.Derivations.{AreCanonical, IsSearchBound};
 ghost use Rattle.rs_answers.specs.Machines.{machines_of};
 ghost use Rattle.rs_answers.specs.Runs.{Runs, capacity_of};
 ghost use Rattle.rs_answers.specs.Sessions.{HasMachines};
@@ -52,6 +52,6 @@ pub fn headline_tells_of_safe_machines()
 /// A run whose queues hold as many messages as the room of the session says is never full.
 pub fn runs_with_enough_room_are_never_full()
     ensures { (options : RunOptions) (bytes : List ℕ) (document : Document_data) (projections : List Projection_data) (machines : List Machine_data) (derivations : List Derivation_data) (answer : Answer_data)
-        → IsBound options.bound → SpellsDocument bytes document → HasMachines document projections machines → AreCanonical options.bound machines projections derivations
+        → IsSearchBound options.bound → SpellsDocument bytes document → HasMachines document projections machines → AreCanonical options.bound machines projections derivations
         → room_of derivations ≤ capacity_of options.ring (room_of derivations) → Runs options document answer → answer.verdict ≡ Full → ⊥ }
 {}

@@ -4,11 +4,11 @@ ghost use Rattle.std.specs.Prelude.{◌≡◌, length, IfOk, IfSome, true};
 ghost use Rattle.rs_answers.specs.RunSessions.{HasCome, IsThereWhere};
 ghost use Rattle.rs_demo_answers.specs.DemoSessions.{WasPerformed};
 ghost use Rattle.rs_model.specs.declared.limits.TheConstants.{MOST_CAPACITY, MOST_WORKERS};
-ghost use Rattle.rs_documents.specs.Reading.{IsReady};
+ghost use Rattle.rs_documents.specs.Reading.{DocumentIsReady};
 ghost use Rattle.rs_tool.specs.Answers.{AnswersData, AnswersDocument, AnswersText};
 ghost use Rattle.rs_tool.specs.Sessions.{Gives, HandsOut, HandsOutOn};
 ghost use Rattle.rs_tool.specs.Tasks.{needs_workers, reads_document};
-ghost use Rattle.rs_words.specs.Meaning.{IsFrom, IsInRange};
+ghost use Rattle.rs_words.specs.Meaning.{IsFromTo, IsInRange};
 
 use rs_answers::Piece::Words;
 use rs_answers::{AnswerWithSession, RunOptions, answer_to_fault, run_by_workers, too_large};
@@ -32,8 +32,8 @@ fn data_by_workers<R: Threads + Wait + Sync, G: Gate + Sync>(
     bytes: &[u8],
     gate: &G,
 ) -> Result<AnswerWithSession, NoMemory>
-    requires ring { IfSome ring (IsFrom 1 MOST_CAPACITY) }
-    requires workers { IsFrom 1 MOST_WORKERS workers }
+    requires ring { IfSome ring (IsFromTo 1 MOST_CAPACITY) }
+    requires workers { IsFromTo 1 MOST_WORKERS workers }
     ensures answer { IfOk result (λ a. AnswersData kind ring bytes.now a.answer) }
     ensures closed { IfOk result (λ a. IsThereWhere (HasCome a.answer.verdict) (WasPerformed kind bytes.now a.answer) a.closed) }
 {
@@ -54,7 +54,7 @@ fn document_by_workers<R: Threads + Wait + Sync, G: Gate + Sync>(
     requires range { IsInRange task }
     requires reads { reads_document task ≡ true }
     requires needs { needs_workers task ≡ true }
-    requires ready { IsReady document }
+    requires ready { DocumentIsReady document }
     requires roles { length document.names.roles ≡ document.protocol.roles }
     ensures answer { IfOk result (λ a. AnswersDocument task document a.answer) }
     ensures closed { IfOk result (λ a. HandsOutOn task document a.answer a.closed) }

@@ -12,7 +12,7 @@ use Rattle.clap.specs.Faults.{settle_fault, turn_fault, use_fault}
 use Rattle.clap.proofs.LexerLemmas.{name_and_value-at, name_and_value-without}
 use Rattle.clap.specs.declared.error.kind.ErrorKind.TheVariants as kind
 use Rattle.rs_words.specs.Clap.{dashes_are_allowed, dash_is_allowed}
-use Rattle.rs_words.specs.Grammar.{AllNew, AllStand, EndingStands, Ending, Form, Piece, Bytes, Use, value_behind, begins_with_dash, dashed, dashes_and_word, ending_uses, ending_words, flag, HasChoice, has_use, value_joined, nothing, use_of, positional, word_id, words_of, dashes_alone}
+use Rattle.rs_words.specs.Grammar.{AllNew, AllStand, EndingStands, WordsEnd, Form, WordPiece, Bytes, Use, value_behind, begins_with_dash, option_word, dashes_and_word, ending_uses, ending_words, flag, HasChoice, has_use, value_joined, nothing, use_of, positional, word_id, words_of, dashes_alone}
 use Rattle.rs_words.proofs.Lookups.{built_choice, built_rules, built_shape, built_word, by_id, by_index, by_long, flagger, lacks_from, taker}
 use Rattle.rs_words.proofs.Sound.{HasOwnWord, choice_known, run_end, run_fault, run_rows, run_step, word_is, word_known}
 use Rattle.rs_words.proofs.Turns.{Known, again, append_nil, value_behind_turn, value_behind_walk, dashes, dashes_walk, flag_adds, flag_faults, flag_turn, flag_walk, held, value_joined_turn, value_joined_walk, placed_turn, placed_turn_behind, placed_walk, placed_walk_behind, plain_is_no_dash, resting, rows_of_uses, settle_faults, settles, stored, trailing, use_adds, use_faults, value_turn, value_walk, waiting}
@@ -76,7 +76,7 @@ some_same a b e = cc
 
 -- ---- the end
 
-end_case : (f : Form) → HasOwnWord f → (ending : Ending) (us : List Use) (o : Option Use) (placed : Bool) → Known f o → again us o ≡ false → EndingStands f ending → AllNew (stored us o) (ending_uses f ending) → PlaceFits f (stored us o) placed
+end_case : (f : Form) → HasOwnWord f → (ending : WordsEnd) (us : List Use) (o : Option Use) (placed : Bool) → Known f o → again us o ≡ false → EndingStands f ending → AllNew (stored us o) (ending_uses f ending) → PlaceFits f (stored us o) placed
     → IsTakenFrom f (resting us o placed) (ending_words ending) (stored us o ++ ending_uses f ending)
 end_case f good nothing us o placed k fresh e new fits =
     let t = end_took f us o (resting us o placed) k fresh refl in
@@ -107,27 +107,27 @@ end_case f good (dashes_and_word t) us o false k fresh e new fits =
 
 -- ---- the pieces
 
-abbrev pub Complete : Form → List Piece → Ending → Type 0
+abbrev pub Complete : Form → List WordPiece → WordsEnd → Type 0
 Complete f pieces ending = (us : List Use) (o : Option Use) (placed : Bool) → Known f o → again us o ≡ false → AllStand f pieces → AllNew (stored us o) (map (use_of f) pieces ++ ending_uses f ending) → PlaceFits f (stored us o) placed
     → IsTakenFrom f (resting us o placed) (flat_map words_of pieces ++ ending_words ending) (stored us o ++ (map (use_of f) pieces ++ ending_uses f ending))
 
 -- ---- options as words
 
-long_joined : (name v : Bytes) → list_any (λ x. x == 61) name ≡ false → (x : ℕ) (xs : Bytes) → name ≡ x ∷ xs → (bytes_eq (dashed (name ++ 61 ∷ v)) dashes ≡ false) × (long_of (dashed (name ++ 61 ∷ v)) ≡ Some (name, Some v))
+long_joined : (name v : Bytes) → list_any (λ x. x == 61) name ≡ false → (x : ℕ) (xs : Bytes) → name ≡ x ∷ xs → (bytes_eq (option_word (name ++ 61 ∷ v)) dashes ≡ false) × (long_of (option_word (name ++ 61 ∷ v)) ≡ Some (name, Some v))
 long_joined name v lacks x xs e =
-    (ap (λ n. bytes_eq (dashed (n ++ 61 ∷ v)) dashes) e, ap (λ n. long_of (dashed (n ++ 61 ∷ v))) e ∙ ap (λ n. Some (name_and_value (n ++ 61 ∷ v))) (sym e) ∙ ap (λ p. Some p) (name_and_value-at name v (lacks_from name lacks)))
+    (ap (λ n. bytes_eq (option_word (n ++ 61 ∷ v)) dashes) e, ap (λ n. long_of (option_word (n ++ 61 ∷ v))) e ∙ ap (λ n. Some (name_and_value (n ++ 61 ∷ v))) (sym e) ∙ ap (λ p. Some p) (name_and_value-at name v (lacks_from name lacks)))
 
-long_alone : (name : Bytes) → list_any (λ x. x == 61) name ≡ false → (x : ℕ) (xs : Bytes) → name ≡ x ∷ xs → (bytes_eq (dashed name) dashes ≡ false) × (long_of (dashed name) ≡ Some (name, None))
+long_alone : (name : Bytes) → list_any (λ x. x == 61) name ≡ false → (x : ℕ) (xs : Bytes) → name ≡ x ∷ xs → (bytes_eq (option_word name) dashes ≡ false) × (long_of (option_word name) ≡ Some (name, None))
 long_alone name lacks x xs e =
-    (ap (λ n. bytes_eq (dashed n) dashes) e, ap (λ n. long_of (dashed n)) e ∙ ap (λ n. Some (name_and_value n)) (sym e) ∙ ap (λ p. Some p) (name_and_value-without name (lacks_from name lacks)))
+    (ap (λ n. bytes_eq (option_word n) dashes) e, ap (λ n. long_of (option_word n)) e ∙ ap (λ n. Some (name_and_value n)) (sym e) ∙ ap (λ p. Some p) (name_and_value-without name (lacks_from name lacks)))
 
 still_fits : (f : Form) (us : List Use) (u : Use) (placed : Bool) → PlaceFits f us placed → PlaceFits f (us ++ u ∷ []) placed
 still_fits f us u placed fits = λ id w e. has_use_more id us u (fits id w e)
 
-value_joined_took : (f : Form) → HasPlainNames f → (name v : Bytes) (ps : List Piece) (ending : Ending) → Complete f ps ending → Complete f (value_joined name v ∷ ps) ending
+value_joined_took : (f : Form) → HasPlainNames f → (name v : Bytes) (ps : List WordPiece) (ending : WordsEnd) → Complete f ps ending → Complete f (value_joined name v ∷ ps) ending
 value_joined_took f names name v ps ending ih us o placed k fresh stand new fits =
     let u : Use = record { id = name; value = v } in
-    let w : Bytes = dashed (name ++ 61 ∷ v) in
+    let w : Bytes = option_word (name ++ 61 ∷ v) in
     let ws : List Bytes = flat_map words_of ps ++ ending_words ending in
     let good = names name true stand.0 in
     let long = long_joined name v good.0 good.1.0 good.1.1 good.1.2 in
@@ -146,10 +146,10 @@ value_joined_took f names name v ps ending ih us o placed k fresh stand new fits
       rows_are = g.1 ∙ r.rows_are ∙ ap rows_of_uses (append_assoc (stored us o) (u ∷ []) (map (use_of f) ps ++ ending_uses f ending));
     }
 
-flag_took : (f : Form) → HasPlainNames f → (name : Bytes) (ps : List Piece) (ending : Ending) → Complete f ps ending → Complete f (flag name ∷ ps) ending
+flag_took : (f : Form) → HasPlainNames f → (name : Bytes) (ps : List WordPiece) (ending : WordsEnd) → Complete f ps ending → Complete f (flag name ∷ ps) ending
 flag_took f names name ps ending ih us o placed k fresh stand new fits =
     let u : Use = record { id = name; value = codes "true" } in
-    let w : Bytes = dashed name in
+    let w : Bytes = option_word name in
     let ws : List Bytes = flat_map words_of ps ++ ending_words ending in
     let good = names name false stand.0 in
     let long = long_alone name good.0 good.1.0 good.1.1 good.1.2 in
@@ -168,10 +168,10 @@ flag_took f names name ps ending ih us o placed k fresh stand new fits =
       rows_are = g.1 ∙ r.rows_are ∙ ap rows_of_uses (append_assoc (stored us o) (u ∷ []) (map (use_of f) ps ++ ending_uses f ending));
     }
 
-value_behind_took : (f : Form) → HasPlainNames f → (name v : Bytes) (ps : List Piece) (ending : Ending) → Complete f ps ending → Complete f (value_behind name v ∷ ps) ending
+value_behind_took : (f : Form) → HasPlainNames f → (name v : Bytes) (ps : List WordPiece) (ending : WordsEnd) → Complete f ps ending → Complete f (value_behind name v ∷ ps) ending
 value_behind_took f names name v ps ending ih us o placed k fresh stand new fits =
     let u : Use = record { id = name; value = v } in
-    let w : Bytes = dashed name in
+    let w : Bytes = option_word name in
     let ws : List Bytes = flat_map words_of ps ++ ending_words ending in
     let has = stand.0.0 in
     let good = names name true has in
@@ -190,7 +190,7 @@ value_behind_took f names name v ps ending ih us o placed k fresh stand new fits
       rows_are = g.1 ∙ h.1 ∙ r.rows_are ∙ ap rows_of_uses (append_assoc (stored us o) (u ∷ []) (map (use_of f) ps ++ ending_uses f ending));
     }
 
-word_took : (f : Form) → HasOwnWord f → (t : Bytes) (ps : List Piece) (ending : Ending) → Complete f ps ending → Complete f (positional t ∷ ps) ending
+word_took : (f : Form) → HasOwnWord f → (t : Bytes) (ps : List WordPiece) (ending : WordsEnd) → Complete f ps ending → Complete f (positional t ∷ ps) ending
 word_took f good t ps ending ih us o true k fresh stand new fits =
     let id_is : word_id f ≡ stand.0.0 = ap (λ u. u.id) (word_is f stand.0.0 t stand.0.1) in
     absurd (true≢false (sym (fits stand.0.0 stand.0.1 refl) ∙ subst (λ i. has_use i (stored us o) ≡ false) id_is new.0))
@@ -215,7 +215,7 @@ word_took f good t ps ending ih us o false k fresh stand new fits =
     }
 
 -- what the grammar spells behind a command's name is taken
-pub complete : (f : Form) → HasOwnWord f → HasPlainNames f → (pieces : List Piece) (ending : Ending) → EndingStands f ending → Complete f pieces ending
+pub complete : (f : Form) → HasOwnWord f → HasPlainNames f → (pieces : List WordPiece) (ending : WordsEnd) → EndingStands f ending → Complete f pieces ending
 complete f good names [] ending end = λ us o placed k fresh stand new fits. end_case f good ending us o placed k fresh end new fits
 complete f good names (value_joined name v ∷ ps) ending end = value_joined_took f names name v ps ending (complete f good names ps ending end)
 complete f good names (flag name ∷ ps) ending end = flag_took f names name ps ending (complete f good names ps ending end)

@@ -12,7 +12,7 @@ use Rattle.rs_words.proofs.Complete.{HasPlainNames}
 use Rattle.clap.specs.declared.parser.matches.ValueSource.TheVariants.{DefaultValue}
 use Rattle.clap.specs.declared.builder.value_parser.Reading.TheVariants as reading
 use Rattle.rs_words.specs.Clap.{found_text, is_true_text}
-use Rattle.rs_words.specs.Grammar.{AllStand, Choice, EndingStands, Ending, Form, Piece, Stands, Bytes, Use, value_behind, begins_with_dash, dashes_and_word, forms, ending_uses, flag, HasChoice, value_joined, nothing, use_of, positional, dashes_alone}
+use Rattle.rs_words.specs.Grammar.{AllStand, CommandOption, EndingStands, WordsEnd, Form, WordPiece, PieceStands, Bytes, Use, value_behind, begins_with_dash, dashes_and_word, forms, ending_uses, flag, HasChoice, value_joined, nothing, use_of, positional, dashes_alone}
 use Rattle.rs_words.specs.Meaning.{value_of}
 use Rattle.rs_words.proofs.Lookups.{built_choice, built_rules, built_word, flagger, same_text, taker}
 use Rattle.rs_words.proofs.Turns.{rows_of_uses, row_of_use}
@@ -83,7 +83,7 @@ flag_there rows name e = rw e refl
 flag_default : (rows : List Row) (name : Bytes) → has_row name rows ≡ false → with_default rows (flagger name) ≡ rows ++ default_row name ∷ []
 flag_default rows name e = rw e (row_appended name (more_values DefaultValue (codes "false" ∷ [])) (default_row name ∷ []) rows e)
 
-abbrev flags_named : Bytes → List Choice → Bool
+abbrev flags_named : Bytes → List CommandOption → Bool
 flags_named id cs = list_any (λ c. not c.is_valued && bytes_eq c.name id) cs
 
 -- what the defaults change: the text of a flag that was not used
@@ -95,7 +95,7 @@ more_flags id rows final true b (inl h) = inl h
 more_flags id rows final true b (inr h) = inr (h.0, h.1, refl)
 more_flags id rows final false b h = h
 
-pub after_defaults : (id : Bytes) (w : Option Bytes) (cs : List Choice) (rows : List Row) → Unchanged id rows (fold with_default rows (map built_choice cs ++ built_word w)) (flags_named id cs)
+pub after_defaults : (id : Bytes) (w : Option Bytes) (cs : List CommandOption) (rows : List Row) → Unchanged id rows (fold with_default rows (map built_choice cs ++ built_word w)) (flags_named id cs)
 after_defaults id None [] rows = inl refl
 after_defaults id (Some i) [] rows = inl (ap (first_of id) (taker_default rows i None (Some 1)))
 after_defaults id w (c ∷ cs) rows = by_kind c.is_valued c.name (after_defaults id w cs)
@@ -124,10 +124,10 @@ abbrev pub derivations : Bytes
 derivations = codes "derivations"
 
 -- no `=` in the option's name, which is not empty, and is `derivations` exactly where it has no value
-abbrev pub choice_test : Choice → Bool
+abbrev pub choice_test : CommandOption → Bool
 choice_test c = not (list_any (λ x. x == 61) c.name) && (nat_lt 0 (length c.name) && cond c.is_valued (not (bytes_eq c.name derivations)) (bytes_eq c.name derivations))
 
-abbrev pub word_test : Option Bytes → List Choice → Bool
+abbrev pub word_test : Option Bytes → List CommandOption → Bool
 word_test None cs = true
 word_test (Some id) cs = not (is_some (find (λ k. bytes_eq k.name id) cs)) && not (bytes_eq id derivations)
 
@@ -161,7 +161,7 @@ is_none : {X : Type 0} (o : Option X) → not (is_some o) ≡ true → o ≡ Non
 is_none None e = refl
 is_none (Some x) e = absurd (true≢false (sym e))
 
-flags_are : (id : Bytes) (cs : List Choice) → list_all choice_test cs ≡ true → flags_named id cs ≡ true → bytes_eq id derivations ≡ true
+flags_are : (id : Bytes) (cs : List CommandOption) → list_all choice_test cs ≡ true → flags_named id cs ≡ true → bytes_eq id derivations ≡ true
 flags_are id [] a e = absurd (true≢false (sym e))
 flags_are id (c ∷ cs) a e = go c.is_valued c.name (both (choice_test c) (list_all choice_test cs) a).0 e (flags_are id cs (both (choice_test c) (list_all choice_test cs) a).1)
   where
@@ -215,13 +215,13 @@ flag_value (u ∷ us) t = go (bytes_eq u.id derivations) refl (flag_value us t.1
     go true e later = inr (ap (λ v. Some v) (t.0 e))
     go false e later = later
 
-use_true : (f : Form) → WellMade f → (p : Piece) → Stands f p → bytes_eq (use_of f p).id derivations ≡ true → (use_of f p).value ≡ codes "true"
+use_true : (f : Form) → WellMade f → (p : WordPiece) → PieceStands f p → bytes_eq (use_of f p).id derivations ≡ true → (use_of f p).value ≡ codes "true"
 use_true f m (value_behind name v) s e = absurd (m.unvalued (subst (λ n. HasChoice f n true) (same_text name derivations e) s.0))
 use_true f m (value_joined name v) s e = absurd (m.unvalued (subst (λ n. HasChoice f n true) (same_text name derivations e) s))
 use_true f m (flag name) s e = refl
 use_true f m (positional t) s e = absurd (true≢false (sym e ∙ ap (λ i. bytes_eq i derivations) (ap (λ u. u.id) (word_is f s.0 t s.1)) ∙ m.other_word s.0 s.1))
 
-pub uses_true : (f : Form) → WellMade f → (pieces : List Piece) (ending : Ending) → AllStand f pieces → EndingStands f ending → TrueOnly (map (use_of f) pieces ++ ending_uses f ending)
+pub uses_true : (f : Form) → WellMade f → (pieces : List WordPiece) (ending : WordsEnd) → AllStand f pieces → EndingStands f ending → TrueOnly (map (use_of f) pieces ++ ending_uses f ending)
 uses_true f m [] nothing a e = tt
 uses_true f m [] dashes_alone a e = tt
 uses_true f m [] (dashes_and_word t) a e = (use_true f m (positional t) e, tt)

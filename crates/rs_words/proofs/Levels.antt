@@ -13,7 +13,7 @@ use Rattle.clap.specs.Simple.{entered, label_of, names_of, rows_at}
 use Rattle.clap.specs.Words.{Row, Shape, built, subcommand_of}
 use Rattle.clap.specs.declared.error.kind.ErrorKind.TheVariants as kind
 use Rattle.rs_words.specs.Clap.{app, dash_is_allowed}
-use Rattle.rs_words.specs.Grammar.{Choice, Form, Bytes, dashed, forms}
+use Rattle.rs_words.specs.Grammar.{CommandOption, Form, Bytes, option_word, forms}
 use Rattle.rs_words.proofs.Lookups.{built_choice, built_rules, built_shape, built_word, taker}
 use Rattle.rs_words.proofs.Sound.{clash, no_kinds, ends, run_fault, run_rows, view}
 use Rattle.rs_words.proofs.Turns.{append_nil, dashes, plain_is_no_dash, resting}
@@ -48,7 +48,7 @@ choice_default : (v : Bool) (name : Bytes) (rows : List Row) → default_fault r
 choice_default true name rows = rw (or_true (has_row name rows)) refl
 choice_default false name rows = default_none (has_row name rows || false)
 
-pub no_defaults : (w : Option Bytes) (cs : List Choice) (rows : List Row) → defaults_fault rows (map built_choice cs ++ built_word w) ≡ []
+pub no_defaults : (w : Option Bytes) (cs : List CommandOption) (rows : List Row) → defaults_fault rows (map built_choice cs ++ built_word w) ≡ []
 unfolding defaults_fault
 no_defaults None [] rows = refl
 no_defaults (Some id) [] rows = ap (λ k. or_else k []) (word_default rows id)
@@ -58,7 +58,7 @@ choice_free : (v : Bool) (name : Bytes) → (built_choice (record { name = name;
 choice_free true name = refl
 choice_free false name = refl
 
-none_required : (p : Bytes → Bool) (w : Option Bytes) (cs : List Choice) → list_any (λ a. a.required && p a.id) (map built_choice cs ++ built_word w) ≡ false
+none_required : (p : Bytes → Bool) (w : Option Bytes) (cs : List CommandOption) → list_any (λ a. a.required && p a.id) (map built_choice cs ++ built_word w) ≡ false
 none_required p None [] = refl
 none_required p (Some id) [] = refl
 none_required p w (c ∷ cs) = ap (λ b. (b && p (built_choice c).id) || list_any (λ a. a.required && p a.id) (map built_choice cs ++ built_word w)) (choice_free c.is_valued c.name) ∙ none_required p w cs
@@ -178,7 +178,7 @@ no_command n rest none allowed e =
     let turn = first_turn n rest e in
     ⊎_elim (λ t. dashes_first rest (subst (λ y. fault_of app (y ∷ rest) ≡ []) t e))
     (λ s. ⊎_elim (λ t.
-    clash (turn_fault top names (walk_from nothing_held) (dashed (t.0 ∷ t.1))) kind.UnknownArgument [] refl (subst (λ y. turn_fault top names (walk_from nothing_held) y ≡ []) t.2 turn))
+    clash (turn_fault top names (walk_from nothing_held) (option_word (t.0 ∷ t.1))) kind.UnknownArgument [] refl (subst (λ y. turn_fault top names (walk_from nothing_held) y ≡ []) t.2 turn))
     (λ plain.
     let p = plain_is_no_dash n plain in
     let fault : turn_fault top names (walk_from nothing_held) n ≡ kind.UnknownArgument ∷ kind.InvalidSubcommand ∷ [] = rw (unmet, p.0, p.1, p.2) refl in

@@ -12,7 +12,7 @@ use Rattle.clap.specs.Words.{Rule, Shape, built, new_rule}
 use Rattle.clap.specs.Simple.{new_shape}
 use Rattle.clap.specs.declared.builder.action.ArgAction.TheVariants.{Set, SetTrue}
 use Rattle.clap.specs.declared.builder.value_parser.ValueParser.TheVariants as vp
-use Rattle.rs_words.specs.Grammar.{Choice, Form, Bytes, forms}
+use Rattle.rs_words.specs.Grammar.{CommandOption, Form, Bytes, forms}
 use Rattle.rs_words.specs.Clap.{app}
 
 -- an argument that takes one text, as clap builds it
@@ -23,7 +23,7 @@ taker id long index = record (new_rule id) { long = long; index = index; action 
 abbrev pub flagger : Bytes → Rule
 flagger name = record (new_rule name) { long = Some name; action = Some SetTrue; range = Some (record { start_inclusive = 0; end_inclusive = 0 }); defaults = codes "false" ∷ []; missing = codes "true" ∷ []; parser = Some vp.Bool }
 
-abbrev pub built_choice : Choice → Rule
+abbrev pub built_choice : CommandOption → Rule
 built_choice c = if_valued c.is_valued c.name
   where
     if_valued : Bool → Bytes → Rule
@@ -65,7 +65,7 @@ or_false : (b : Bool) → (b || false) ≡ b
 or_false true = refl
 or_false false = refl
 
-long_of_choice : (c : Choice) (name : Bytes) → (not (is_some (built_choice c).index) && has_long (built_choice c) name) ≡ bytes_eq c.name name
+long_of_choice : (c : CommandOption) (name : Bytes) → (not (is_some (built_choice c).index) && has_long (built_choice c) name) ≡ bytes_eq c.name name
 long_of_choice c name = go c.is_valued refl
   where
     go : (v : Bool) → c.is_valued ≡ v → (not (is_some (built_choice c).index) && has_long (built_choice c) name) ≡ bytes_eq c.name name
@@ -79,7 +79,7 @@ by_long f name = go f.choices
     words None = refl
     words (Some id) = refl
 
-    go : (cs : List Choice) → arg_by_long (map built_choice cs ++ built_word f.word) name ≡ option_map built_choice (find (λ c. bytes_eq c.name name) cs)
+    go : (cs : List CommandOption) → arg_by_long (map built_choice cs ++ built_word f.word) name ≡ option_map built_choice (find (λ c. bytes_eq c.name name) cs)
     go [] = words f.word
     go (c ∷ cs) = rw (long_of_choice c name) (by_test (bytes_eq c.name name) (go cs))
       where
@@ -87,7 +87,7 @@ by_long f name = go f.choices
         by_test true later = refl
         by_test false later = later
 
-id_of_choice : (c : Choice) → (built_choice c).id ≡ c.name
+id_of_choice : (c : CommandOption) → (built_choice c).id ≡ c.name
 id_of_choice c = go c.is_valued refl
   where
     go : (v : Bool) → c.is_valued ≡ v → (built_choice c).id ≡ c.name
@@ -95,10 +95,10 @@ id_of_choice c = go c.is_valued refl
     go false e = rw e refl
 
 -- by an id, where some option has that name
-pub by_id : (f : Form) (name : Bytes) (c : Choice) → find (λ k. bytes_eq k.name name) f.choices ≡ Some c → arg_by_id (built_rules f) name ≡ Some (built_choice c)
+pub by_id : (f : Form) (name : Bytes) (c : CommandOption) → find (λ k. bytes_eq k.name name) f.choices ≡ Some c → arg_by_id (built_rules f) name ≡ Some (built_choice c)
 by_id f name c e = go f.choices e
   where
-    go : (cs : List Choice) → find (λ k. bytes_eq k.name name) cs ≡ Some c → arg_by_id (map built_choice cs ++ built_word f.word) name ≡ Some (built_choice c)
+    go : (cs : List CommandOption) → find (λ k. bytes_eq k.name name) cs ≡ Some c → arg_by_id (map built_choice cs ++ built_word f.word) name ≡ Some (built_choice c)
     go [] h = cc
     go (k ∷ ks) h = rw (id_of_choice k) (by_test (bytes_eq k.name name) h (go ks))
       where
@@ -114,7 +114,7 @@ by_word f id w e = go f.choices e
     words None h = cc
     words (Some i) h = let same : i ≡ id = cc in rw (same, (bytes_eq-Decides id id).1 refl) refl
 
-    go : (cs : List Choice) → find (λ k. bytes_eq k.name id) cs ≡ None → arg_by_id (map built_choice cs ++ built_word f.word) id ≡ Some (taker id None (Some 1))
+    go : (cs : List CommandOption) → find (λ k. bytes_eq k.name id) cs ≡ None → arg_by_id (map built_choice cs ++ built_word f.word) id ≡ Some (taker id None (Some 1))
     go [] h = words f.word w
     go (k ∷ ks) h = rw (id_of_choice k) (by_test (bytes_eq k.name id) h (go ks))
       where
@@ -122,7 +122,7 @@ by_word f id w e = go f.choices e
         by_test true t later = cc
         by_test false t later = later t
 
-index_of_choice : (c : Choice) → (built_choice c).index ≡ None
+index_of_choice : (c : CommandOption) → (built_choice c).index ≡ None
 index_of_choice c = go c.is_valued refl
   where
     go : (v : Bool) → c.is_valued ≡ v → (built_choice c).index ≡ None
@@ -132,7 +132,7 @@ index_of_choice c = go c.is_valued refl
 pub by_index : (f : Form) (i : ℕ) → arg_by_index (built_rules f) i ≡ arg_by_index (built_word f.word) i
 by_index f i = go f.choices
   where
-    go : (cs : List Choice) → arg_by_index (map built_choice cs ++ built_word f.word) i ≡ arg_by_index (built_word f.word) i
+    go : (cs : List CommandOption) → arg_by_index (map built_choice cs ++ built_word f.word) i ≡ arg_by_index (built_word f.word) i
     go [] = refl
     go (c ∷ cs) = rw (index_of_choice c) (go cs)
 

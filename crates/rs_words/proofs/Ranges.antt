@@ -12,17 +12,17 @@ use Rattle.rs_demos.specs.declared.kinds.Demo.{Demo}
 use Rattle.rs_words.specs.declared.tasks.Task.{Task}
 use Rattle.rs_words.specs.declared.tasks.Task.TheVariants as task
 use Rattle.rs_words.specs.Grammar.{Bytes}
-use Rattle.rs_words.specs.Meaning.{IsFrom, IsInRange, SpellsTask, bound_in, check_task, demo_of_name, demo_task, gen_task, limit_in, number_in, number_or, optional_in, ring_in, run_task, seed_in, task_of, value_of, workers_in}
+use Rattle.rs_words.specs.Meaning.{IsFromTo, IsInRange, SpellsTask, bound_of_option, check_task, demo_of_name, demo_task, gen_task, limit_in, number_in, number_or, optional_in, ring_in, run_task, seed_in, task_of, value_of, workers_in}
 
 -- numbers
 
-number_is_in : (low high : ℕ) (text : Bytes) → IfSome (number_in low high text) (IsFrom low high)
+number_is_in : (low high : ℕ) (text : Bytes) → IfSome (number_in low high text) (IsFromTo low high)
 number_is_in low high text = go (bytes_eq (decimal n) text && (nat_le low n && nat_le n high)) refl
   where
     n : ℕ
     n = digits_value 10 text
 
-    go : (b : Bool) → (bytes_eq (decimal n) text && (nat_le low n && nat_le n high)) ≡ b → IfSome (cond b (Some n) None) (IsFrom low high)
+    go : (b : Bool) → (bytes_eq (decimal n) text && (nat_le low n && nat_le n high)) ≡ b → IfSome (cond b (Some n) None) (IsFromTo low high)
     go false e = tt
     go true e =
         let tests = both (bytes_eq (decimal n) text) (nat_le low n && nat_le n high) e in
@@ -30,15 +30,15 @@ number_is_in low high text = go (bytes_eq (decimal n) text && (nat_le low n && n
         let least : low ≤ n = let l = bounds.0 in grind (arith, nat_tests) in
         let most : n ≤ high = let l = bounds.1 in grind (arith, nat_tests) in (least, most)
 
-number_or_is_in : (fallback low high : ℕ) (text : Option Bytes) → IsFrom low high fallback → IfSome (number_or fallback low high text) (IsFrom low high)
+number_or_is_in : (fallback low high : ℕ) (text : Option Bytes) → IsFromTo low high fallback → IfSome (number_or fallback low high text) (IsFromTo low high)
 number_or_is_in fallback low high None own = own
 number_or_is_in fallback low high (Some text) own = number_is_in low high text
 
-optional_is_in : (low high : ℕ) (text : Option Bytes) → IfSome (optional_in low high text) (λ o. IfSome o (IsFrom low high))
+optional_is_in : (low high : ℕ) (text : Option Bytes) → IfSome (optional_in low high text) (λ o. IfSome o (IsFromTo low high))
 optional_is_in low high None = tt
 optional_is_in low high (Some text) = go (number_in low high text) (number_is_in low high text)
   where
-    go : (o : Option ℕ) → IfSome o (IsFrom low high) → IfSome (option_map (λ n. Some n) o) (λ o. IfSome o (IsFrom low high))
+    go : (o : Option ℕ) → IfSome o (IsFromTo low high) → IfSome (option_map (λ n. Some n) o) (λ o. IfSome o (IsFromTo low high))
     go None h = tt
     go (Some n) h = h
 
@@ -53,15 +53,15 @@ map_is_in P f None h next = tt
 map_is_in P f (Some a) h next = next a h
 
 check_is_in : (bound : Option Bytes) (derivations : Bool) → IfSome (check_task bound derivations) IsInRange
-check_is_in bound derivations = map_is_in (IsFrom 1 MOST_BOUND) (λ k. task.Check k derivations) (bound_in bound) (number_or_is_in DEFAULT_BOUND 1 MOST_BOUND bound (omega arith, omega arith)) (λ k h. h)
+check_is_in bound derivations = map_is_in (IsFromTo 1 MOST_BOUND) (λ k. task.Check k derivations) (bound_of_option bound) (number_or_is_in DEFAULT_BOUND 1 MOST_BOUND bound (omega arith, omega arith)) (λ k h. h)
 
 run_is_in : (bound ring workers limit seed : Option Bytes) → IfSome (run_task bound ring workers limit seed) IsInRange
 run_is_in bound ring workers limit seed =
-    and_then_is_in (IsFrom 1 MOST_BOUND) IsInRange _ (bound_in bound) (number_or_is_in DEFAULT_BOUND 1 MOST_BOUND bound (omega arith, omega arith)) (λ k hk.
-    and_then_is_in (λ o. IfSome o (IsFrom 1 MOST_CAPACITY)) IsInRange _ (ring_in ring) (optional_is_in 1 MOST_CAPACITY ring) (λ c hc.
-    and_then_is_in (IsFrom 1 MOST_WORKERS) IsInRange _ (workers_in workers) (number_or_is_in 1 1 MOST_WORKERS workers (omega arith, omega arith)) (λ n hn.
-    and_then_is_in (IsFrom 1 MOST_LIMIT) IsInRange _ (limit_in limit) (number_or_is_in DEFAULT_LIMIT 1 MOST_LIMIT limit (omega arith, omega arith)) (λ l hl.
-    map_is_in (IsFrom 0 MOST_SEED) (λ x. task.Run k c n l x) (seed_in seed) (number_or_is_in 0 0 MOST_SEED seed (omega arith, omega arith)) (λ x hx. (hk, hc, hn, hl, hx))))))
+    and_then_is_in (IsFromTo 1 MOST_BOUND) IsInRange _ (bound_of_option bound) (number_or_is_in DEFAULT_BOUND 1 MOST_BOUND bound (omega arith, omega arith)) (λ k hk.
+    and_then_is_in (λ o. IfSome o (IsFromTo 1 MOST_CAPACITY)) IsInRange _ (ring_in ring) (optional_is_in 1 MOST_CAPACITY ring) (λ c hc.
+    and_then_is_in (IsFromTo 1 MOST_WORKERS) IsInRange _ (workers_in workers) (number_or_is_in 1 1 MOST_WORKERS workers (omega arith, omega arith)) (λ n hn.
+    and_then_is_in (IsFromTo 1 MOST_LIMIT) IsInRange _ (limit_in limit) (number_or_is_in DEFAULT_LIMIT 1 MOST_LIMIT limit (omega arith, omega arith)) (λ l hl.
+    map_is_in (IsFromTo 0 MOST_SEED) (λ x. task.Run k c n l x) (seed_in seed) (number_or_is_in 0 0 MOST_SEED seed (omega arith, omega arith)) (λ x hx. (hk, hc, hn, hl, hx))))))
 
 demo_is_in : (name ring workers : Option Bytes) → IfSome (demo_task name ring workers) IsInRange
 demo_is_in name ring workers = go (option_and_then demo_of_name name)
@@ -69,12 +69,12 @@ demo_is_in name ring workers = go (option_and_then demo_of_name name)
     go : (o : Option Demo) → IfSome (option_and_then (λ d. option_and_then (λ c. option_map (λ n. task.Demo d c n) (workers_in workers)) (ring_in ring)) o) IsInRange
     go None = tt
     go (Some d) =
-        and_then_is_in (λ o. IfSome o (IsFrom 1 MOST_CAPACITY)) IsInRange _ (ring_in ring) (optional_is_in 1 MOST_CAPACITY ring) (λ c hc.
-        map_is_in (IsFrom 1 MOST_WORKERS) (λ n. task.Demo d c n) (workers_in workers) (number_or_is_in 1 1 MOST_WORKERS workers (omega arith, omega arith)) (λ n hn. (hc, hn)))
+        and_then_is_in (λ o. IfSome o (IsFromTo 1 MOST_CAPACITY)) IsInRange _ (ring_in ring) (optional_is_in 1 MOST_CAPACITY ring) (λ c hc.
+        map_is_in (IsFromTo 1 MOST_WORKERS) (λ n. task.Demo d c n) (workers_in workers) (number_or_is_in 1 1 MOST_WORKERS workers (omega arith, omega arith)) (λ n hn. (hc, hn)))
 
 gen_is_in : (number : Option Bytes) → IfSome (gen_task number) IsInRange
 gen_is_in None = tt
-gen_is_in (Some text) = map_is_in (IsFrom 0 MOST_GEN) (λ n. task.Gen n) (number_in 0 MOST_GEN text) (number_is_in 0 MOST_GEN text) (λ n h. h)
+gen_is_in (Some text) = map_is_in (IsFromTo 0 MOST_GEN) (λ n. task.Gen n) (number_in 0 MOST_GEN text) (number_is_in 0 MOST_GEN text) (λ n h. h)
 
 either_is_in : (b : Bool) (x y : Option Task) → IfSome x IsInRange → IfSome y IsInRange → IfSome (cond b x y) IsInRange
 either_is_in true x y h k = h

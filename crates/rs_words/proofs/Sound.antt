@@ -16,7 +16,7 @@ use Rattle.clap.proofs.WalkLemmas.{both}
 use Rattle.clap.specs.declared.error.kind.ErrorKind.{ErrorKind}
 use Rattle.clap.specs.declared.error.kind.ErrorKind.TheVariants as kind
 use Rattle.rs_words.specs.Clap.{dashes_are_allowed, dash_is_allowed}
-use Rattle.rs_words.specs.Grammar.{AllNew, AllStand, Choice, EndingStands, Ending, Form, Piece, Stands, Bytes, Use, value_behind, begins_with_dash, dashed, dashes_and_word, ending_uses, ending_words, flag, HasChoice, has_use, value_joined, nothing, use_of, positional, words_of, dashes_alone}
+use Rattle.rs_words.specs.Grammar.{AllNew, AllStand, CommandOption, EndingStands, WordsEnd, Form, WordPiece, PieceStands, Bytes, Use, value_behind, begins_with_dash, option_word, dashes_and_word, ending_uses, ending_words, flag, HasChoice, has_use, value_joined, nothing, use_of, positional, words_of, dashes_alone}
 use Rattle.rs_words.proofs.Lookups.{Cut, built_choice, built_rules, built_shape, built_word, by_id, by_index, by_long, by_word, cut, flagger, found_passes, same_text, second_place, taker}
 use Rattle.rs_words.proofs.Turns.{Known, again, append_nil, value_behind_turn, value_behind_walk, at_place, dashes, dashes_walk, doomed, doomed_turn, doomed_walk, flag_adds, flag_faults, flag_turn, flag_walk, flag_with_value, held, value_joined_turn, value_joined_walk, never_settles, no_option_there, placed_turn, placed_turn_behind, placed_walk, placed_walk_behind, plain_is_no_dash, resting, rows_of_uses, settle_faults, settles, stored, stray_behind, stray_turn, trailing, unknown_turn, use_adds, use_faults, value_walk, waiting}
 
@@ -65,8 +65,8 @@ HasOwnWord f = (id : Bytes) → f.word ≡ Some id → find (λ k. bytes_eq k.na
 -- ---- what the words from a place on spell
 
 pub record Rest (f : Form) (us : List Use) (o : Option Use) (words : List Bytes) (rows : List Row) : Type 0 where
-  pub pieces : List Piece
-  pub ending : Ending
+  pub pieces : List WordPiece
+  pub ending : WordsEnd
   pub text : words ≡ flat_map words_of pieces ++ ending_words ending
   pub stand : AllStand f pieces
   pub end : EndingStands f ending
@@ -79,7 +79,7 @@ Sound f words = (us : List Use) (o : Option Use) (placed : Bool) → Known f o �
     → Rest f us o words (run_rows f (resting us o placed) words)
 
 -- one piece more, whose use waits to be stored
-later : (f : Form) (us : List Use) (o : Option Use) (p : Piece) (u : Use) (rest : List Bytes) (rows : List Row) → use_of f p ≡ u → Stands f p → again us o ≡ false
+later : (f : Form) (us : List Use) (o : Option Use) (p : WordPiece) (u : Use) (rest : List Bytes) (rows : List Row) → use_of f p ≡ u → PieceStands f p → again us o ≡ false
     → Rest f (stored us o) (Some u) rest rows → Rest f us o (words_of p ++ rest) rows
 later f us o p u rest rows is stands fresh r = record {
   pieces = p ∷ r.pieces;
@@ -93,7 +93,7 @@ later f us o p u rest rows is stands fresh r = record {
 }
 
 -- one piece more, whose use is stored
-now : (f : Form) (us : List Use) (o : Option Use) (p : Piece) (u : Use) (rest : List Bytes) (rows : List Row) → use_of f p ≡ u → Stands f p → again us o ≡ false → has_use u.id (stored us o) ≡ false
+now : (f : Form) (us : List Use) (o : Option Use) (p : WordPiece) (u : Use) (rest : List Bytes) (rows : List Row) → use_of f p ≡ u → PieceStands f p → again us o ≡ false → has_use u.id (stored us o) ≡ false
     → Rest f (stored us o ++ u ∷ []) None rest rows → Rest f us o (words_of p ++ rest) rows
 now f us o p u rest rows is stands fresh new r = record {
   pieces = p ∷ r.pieces;
@@ -116,18 +116,18 @@ fresh_from f us o k e = was_false (again us o) [] (sym (settle_faults f us o k) 
 
 -- ---- what a word looks like
 
-pub view : (w : Bytes) → dash_is_allowed false w ≡ true → (w ≡ dashes) ⊎ (((x : ℕ) × (xs : Bytes) × (w ≡ dashed (x ∷ xs))) ⊎ (begins_with_dash w ≡ false))
+pub view : (w : Bytes) → dash_is_allowed false w ≡ true → (w ≡ dashes) ⊎ (((x : ℕ) × (xs : Bytes) × (w ≡ option_word (x ∷ xs))) ⊎ (begins_with_dash w ≡ false))
 view [] e = inr (inr refl)
-view (x ∷ xs) e = ⊎_elim (λ t. subst (λ y. (y ∷ xs ≡ dashes) ⊎ (((z : ℕ) × (zs : Bytes) × (y ∷ xs ≡ dashed (z ∷ zs))) ⊎ (begins_with_dash (y ∷ xs) ≡ false))) (sym t.1) (second xs (subst (λ y. dash_is_allowed false (y ∷ xs) ≡ true) t.1 e)))
+view (x ∷ xs) e = ⊎_elim (λ t. subst (λ y. (y ∷ xs ≡ dashes) ⊎ (((z : ℕ) × (zs : Bytes) × (y ∷ xs ≡ option_word (z ∷ zs))) ⊎ (begins_with_dash (y ∷ xs) ≡ false))) (sym t.1) (second xs (subst (λ y. dash_is_allowed false (y ∷ xs) ≡ true) t.1 e)))
     (λ t. inr (inr t.0)) (eqb_tells x 45)
   where
-    third : (ys : Bytes) → (45 ∷ 45 ∷ ys ≡ dashes) ⊎ (((z : ℕ) × (zs : Bytes) × (45 ∷ 45 ∷ ys ≡ dashed (z ∷ zs))) ⊎ (begins_with_dash (45 ∷ 45 ∷ ys) ≡ false))
+    third : (ys : Bytes) → (45 ∷ 45 ∷ ys ≡ dashes) ⊎ (((z : ℕ) × (zs : Bytes) × (45 ∷ 45 ∷ ys ≡ option_word (z ∷ zs))) ⊎ (begins_with_dash (45 ∷ 45 ∷ ys) ≡ false))
     third [] = inl refl
     third (z ∷ zs) = inr (inl (z, zs, refl))
 
-    second : (l : Bytes) → dash_is_allowed false (45 ∷ l) ≡ true → (45 ∷ l ≡ dashes) ⊎ (((z : ℕ) × (zs : Bytes) × (45 ∷ l ≡ dashed (z ∷ zs))) ⊎ (begins_with_dash (45 ∷ l) ≡ false))
+    second : (l : Bytes) → dash_is_allowed false (45 ∷ l) ≡ true → (45 ∷ l ≡ dashes) ⊎ (((z : ℕ) × (zs : Bytes) × (45 ∷ l ≡ option_word (z ∷ zs))) ⊎ (begins_with_dash (45 ∷ l) ≡ false))
     second [] h = absurd (true≢false (sym h))
-    second (y ∷ ys) h = ⊎_elim (λ t. subst (λ y. (45 ∷ y ∷ ys ≡ dashes) ⊎ (((z : ℕ) × (zs : Bytes) × (45 ∷ y ∷ ys ≡ dashed (z ∷ zs))) ⊎ (begins_with_dash (45 ∷ y ∷ ys) ≡ false))) (sym t.1) (third ys))
+    second (y ∷ ys) h = ⊎_elim (λ t. subst (λ y. (45 ∷ y ∷ ys ≡ dashes) ⊎ (((z : ℕ) × (zs : Bytes) × (45 ∷ y ∷ ys ≡ option_word (z ∷ zs))) ⊎ (begins_with_dash (45 ∷ y ∷ ys) ≡ false))) (sym t.1) (third ys))
         (λ t. absurd (true≢false (sym h ∙ t.0))) (eqb_tells y 45)
 
 -- ---- the end
@@ -246,10 +246,10 @@ pub choice_known : (f : Form) (name v : Bytes) → HasChoice f name true → Kno
 choice_known f name v h = (Some name, None, by_id f name (record { name = name; is_valued = true }) h)
 
 -- `--name=value`
-value_joined_case : (f : Form) (x : ℕ) (xs name v : Bytes) (rest : List Bytes) → x ∷ xs ≡ name ++ 61 ∷ v → HasChoice f name true → long_of (dashed (x ∷ xs)) ≡ Some (name, Some v) → Sound f rest → Sound f (dashed (x ∷ xs) ∷ rest)
+value_joined_case : (f : Form) (x : ℕ) (xs name v : Bytes) (rest : List Bytes) → x ∷ xs ≡ name ++ 61 ∷ v → HasChoice f name true → long_of (option_word (x ∷ xs)) ≡ Some (name, Some v) → Sound f rest → Sound f (option_word (x ∷ xs) ∷ rest)
 value_joined_case f x xs name v rest parts has is ih us o placed k allowed e =
     let u : Use = record { id = name; value = v } in
-    let w : Bytes = dashed (x ∷ xs) in
+    let w : Bytes = option_word (x ∷ xs) in
     let found : arg_by_long (built_rules f) name ≡ Some (taker name (Some name) None) = by_long f name ∙ ap (option_map built_choice) has in
     let turn = (on f (resting us o placed) (walked (built_rules f) [] (resting us o placed) w) w rest e refl).0 in
     let step = no_kinds (or_else (settle_fault (built_rules f) false (held us o)) (use_fault false (taker name (Some name) None) (v ∷ []) (settled (built_rules f) (held us o)).rows)) [] (sym (value_joined_turn f us o placed w name v refl is found) ∙ turn) in
@@ -261,14 +261,14 @@ value_joined_case f x xs name v rest parts has is ih us o placed k allowed e =
     value_joined_walk f us o placed w name v refl is found ∙ ap (λ l. record (resting us None placed) { held = record { rows = l; pending = None; skip = 0 } }) (ap (used (taker name (Some name) None) (v ∷ [])) rows ∙ use_adds u (Some name) None (stored us o) new) in
     let r = ih (stored us o ++ u ∷ []) None placed tt allowed (on f (resting us o placed) (resting (stored us o ++ u ∷ []) None placed) w rest e next).1 in
     let made : Rest f us o (words_of (value_joined name v) ++ rest) (run_rows f (resting (stored us o ++ u ∷ []) None placed) rest) = now f us o (value_joined name v) u rest (run_rows f (resting (stored us o ++ u ∷ []) None placed) rest) refl has fresh new r in
-    subst (λ t. Rest f us o (dashed t ∷ rest) (run_rows f (resting us o placed) (w ∷ rest))) (sym parts) (subst (Rest f us o (words_of (value_joined name v) ++ rest)) (sym (ap (λ y. run_rows f y rest) next)) made)
+    subst (λ t. Rest f us o (option_word t ∷ rest) (run_rows f (resting us o placed) (w ∷ rest))) (sym parts) (subst (Rest f us o (words_of (value_joined name v) ++ rest)) (sym (ap (λ y. run_rows f y rest) next)) made)
 
 -- a flag
-flag_case : (f : Form) (x : ℕ) (xs : Bytes) (rest : List Bytes) → HasChoice f (x ∷ xs) false → long_of (dashed (x ∷ xs)) ≡ Some (x ∷ xs, None) → Sound f rest → Sound f (dashed (x ∷ xs) ∷ rest)
+flag_case : (f : Form) (x : ℕ) (xs : Bytes) (rest : List Bytes) → HasChoice f (x ∷ xs) false → long_of (option_word (x ∷ xs)) ≡ Some (x ∷ xs, None) → Sound f rest → Sound f (option_word (x ∷ xs) ∷ rest)
 flag_case f x xs rest has is ih us o placed k allowed e =
     let name : Bytes = x ∷ xs in
     let u : Use = record { id = name; value = codes "true" } in
-    let w : Bytes = dashed (x ∷ xs) in
+    let w : Bytes = option_word (x ∷ xs) in
     let found : arg_by_long (built_rules f) name ≡ Some (flagger name) = by_long f name ∙ ap (option_map built_choice) has in
     let turn = (on f (resting us o placed) (walked (built_rules f) [] (resting us o placed) w) w rest e refl).0 in
     let step = no_kinds (or_else (settle_fault (built_rules f) false (held us o)) (use_fault false (flagger name) [] (settled (built_rules f) (held us o)).rows)) [] (sym (flag_turn f us o placed w name refl is found) ∙ turn) in
@@ -292,14 +292,14 @@ never_ends f us name placed known [] e =
     let never = never_settles f us name (Some name) None known in cc
 never_ends f us name placed known (t ∷ l) e = doomed_turn f us name placed known t (on f (doomed f us name placed known) (walked (built_rules f) [] (doomed f us name placed known) t) t l e refl).0
 
-value_behind_case : (f : Form) (x : ℕ) (xs : Bytes) (rest : List Bytes) → HasChoice f (x ∷ xs) true → long_of (dashed (x ∷ xs)) ≡ Some (x ∷ xs, None) → Behind f rest → Sound f (dashed (x ∷ xs) ∷ rest)
+value_behind_case : (f : Form) (x : ℕ) (xs : Bytes) (rest : List Bytes) → HasChoice f (x ∷ xs) true → long_of (option_word (x ∷ xs)) ≡ Some (x ∷ xs, None) → Behind f rest → Sound f (option_word (x ∷ xs) ∷ rest)
 value_behind_case f x xs rest has is ih us o placed k allowed e = go rest ih allowed e
   where
     name : Bytes
     name = x ∷ xs
 
     w : Bytes
-    w = dashed (x ∷ xs)
+    w = option_word (x ∷ xs)
 
     found : arg_by_long (built_rules f) name ≡ Some (taker name (Some name) None)
     found = by_long f name ∙ ap (option_map built_choice) has
@@ -326,7 +326,7 @@ value_behind_case f x xs rest has is ih us o placed k allowed e = go rest ih all
         let rows : run_rows f (resting us o placed) (w ∷ v ∷ l) ≡ run_rows f (waiting (stored us o) name placed) (v ∷ l) = ap (λ y. run_rows f y (v ∷ l)) (next_of fresh) in
         ⊎_elim (λ t. absurd (never_ends f (stored us o) name placed known l (on f (waiting (stored us o) name placed) (doomed f (stored us o) name placed known) dashes l
         (subst (λ y. run_fault f (waiting (stored us o) name placed) (y ∷ l) ≡ []) t run) (doomed_walk f (stored us o) name placed known)).1))
-        (λ s. ⊎_elim (λ t. absurd (no_option_there f (stored us o) name placed known (dashed (t.0 ∷ t.1)) (name_and_value (t.0 ∷ t.1)).0 (name_and_value (t.0 ∷ t.1)).1 refl refl
+        (λ s. ⊎_elim (λ t. absurd (no_option_there f (stored us o) name placed known (option_word (t.0 ∷ t.1)) (name_and_value (t.0 ∷ t.1)).0 (name_and_value (t.0 ∷ t.1)).1 refl refl
         (subst (λ y. turn_fault (built_shape f) [] (waiting (stored us o) name placed) y ≡ []) t.2 turn)))
         (λ plain.
         let u : Use = record { id = name; value = v } in
@@ -336,11 +336,11 @@ value_behind_case f x xs rest has is ih us o placed k allowed e = go rest ih all
         subst (Rest f us o (w ∷ v ∷ l)) (sym (rows ∙ ap (λ y. run_rows f y l) next)) (later f us o (value_behind name v) u l (run_rows f (resting (stored us o) (Some u) placed) l) refl (has, plain) fresh r)) s)
         (view v parts.0)
 
-long_case : (f : Form) → (x : ℕ) (xs : Bytes) (rest : List Bytes) → Sound f rest → Behind f rest → Sound f (dashed (x ∷ xs) ∷ rest)
+long_case : (f : Form) → (x : ℕ) (xs : Bytes) (rest : List Bytes) → Sound f rest → Behind f rest → Sound f (option_word (x ∷ xs) ∷ rest)
 long_case f x xs rest ih ih2 us o placed k allowed e = ⊎_elim without with_value (cut (x ∷ xs))
   where
     w : Bytes
-    w = dashed (x ∷ xs)
+    w = option_word (x ∷ xs)
 
     turn : turn_fault (built_shape f) [] (resting us o placed) w ≡ []
     turn = (on f (resting us o placed) (walked (built_rules f) [] (resting us o placed) w) w rest e refl).0
@@ -349,7 +349,7 @@ long_case f x xs rest ih ih2 us o placed k allowed e = ⊎_elim without with_val
     no_choice name v is none = let fault = unknown_turn f us o placed w name v refl is (by_long f name ∙ ap (option_map built_choice) none) in clash (turn_fault (built_shape f) [] (resting us o placed) w) kind.UnknownArgument [] fault turn
 
     -- the choice found has the name
-    choice_is : (name : Bytes) (c : Choice) (b : Bool) → find (λ k. bytes_eq k.name name) f.choices ≡ Some c → c.is_valued ≡ b → HasChoice f name b
+    choice_is : (name : Bytes) (c : CommandOption) (b : Bool) → find (λ k. bytes_eq k.name name) f.choices ≡ Some c → c.is_valued ≡ b → HasChoice f name b
     choice_is name c b i v = i ∙ ap₂ (λ n t. Some (record { name = n; is_valued = t })) (same_text c.name name (found_passes (λ k. bytes_eq k.name name) f.choices c i)) v
 
     without : Lacks 61 (x ∷ xs) → Rest f us o (w ∷ rest) (run_rows f (resting us o placed) (w ∷ rest))
@@ -358,11 +358,11 @@ long_case f x xs rest ih ih2 us o placed k allowed e = ⊎_elim without with_val
         is : long_of w ≡ Some (x ∷ xs, None)
         is = ap (λ p. Some p) (name_and_value-without (x ∷ xs) lacks)
 
-        by_kind : (c : Choice) (b : Bool) → c.is_valued ≡ b → find (λ k. bytes_eq k.name (x ∷ xs)) f.choices ≡ Some c → Rest f us o (w ∷ rest) (run_rows f (resting us o placed) (w ∷ rest))
+        by_kind : (c : CommandOption) (b : Bool) → c.is_valued ≡ b → find (λ k. bytes_eq k.name (x ∷ xs)) f.choices ≡ Some c → Rest f us o (w ∷ rest) (run_rows f (resting us o placed) (w ∷ rest))
         by_kind c true v i = value_behind_case f x xs rest (choice_is (x ∷ xs) c true i v) is ih2 us o placed k allowed e
         by_kind c false v i = flag_case f x xs rest (choice_is (x ∷ xs) c false i v) is ih us o placed k allowed e
 
-        by_choice : (found : Option Choice) → find (λ k. bytes_eq k.name (x ∷ xs)) f.choices ≡ found → Rest f us o (w ∷ rest) (run_rows f (resting us o placed) (w ∷ rest))
+        by_choice : (found : Option CommandOption) → find (λ k. bytes_eq k.name (x ∷ xs)) f.choices ≡ found → Rest f us o (w ∷ rest) (run_rows f (resting us o placed) (w ∷ rest))
         by_choice None i = absurd (no_choice (x ∷ xs) None is i)
         by_choice (Some c) i = by_kind c c.is_valued refl i
 
@@ -372,13 +372,13 @@ long_case f x xs rest ih ih2 us o placed k allowed e = ⊎_elim without with_val
         is : long_of w ≡ Some (parts.name, Some parts.value)
         is = ap (λ p. Some p) (ap name_and_value parts.parts ∙ name_and_value-at parts.name parts.value parts.lacks)
 
-        by_kind : (c : Choice) (b : Bool) → c.is_valued ≡ b → find (λ k. bytes_eq k.name parts.name) f.choices ≡ Some c → Rest f us o (w ∷ rest) (run_rows f (resting us o placed) (w ∷ rest))
+        by_kind : (c : CommandOption) (b : Bool) → c.is_valued ≡ b → find (λ k. bytes_eq k.name parts.name) f.choices ≡ Some c → Rest f us o (w ∷ rest) (run_rows f (resting us o placed) (w ∷ rest))
         by_kind c true v i = value_joined_case f x xs parts.name parts.value rest parts.parts (choice_is parts.name c true i v) is ih us o placed k allowed e
         by_kind c false v i =
             let has = choice_is parts.name c false i v in
             let fault = flag_with_value f us o placed w parts.name parts.value refl is (by_long f parts.name ∙ ap (option_map built_choice) has) in absurd (clash (turn_fault (built_shape f) [] (resting us o placed) w) kind.TooManyValues [] fault turn)
 
-        by_choice : (found : Option Choice) → find (λ k. bytes_eq k.name parts.name) f.choices ≡ found → Rest f us o (w ∷ rest) (run_rows f (resting us o placed) (w ∷ rest))
+        by_choice : (found : Option CommandOption) → find (λ k. bytes_eq k.name parts.name) f.choices ≡ found → Rest f us o (w ∷ rest) (run_rows f (resting us o placed) (w ∷ rest))
         by_choice None i = absurd (no_choice parts.name (Some parts.value) is i)
         by_choice (Some c) i = by_kind c c.is_valued refl i
 

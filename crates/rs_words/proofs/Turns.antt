@@ -11,7 +11,7 @@ use Rattle.clap.specs.Words.{Row, Rule}
 use Rattle.clap.specs.declared.builder.value_parser.Reading.TheVariants as reading
 use Rattle.clap.specs.declared.parser.matches.ValueSource.TheVariants.{CommandLine}
 use Rattle.clap.specs.declared.error.kind.ErrorKind.TheVariants as kind
-use Rattle.rs_words.specs.Grammar.{Choice, Form, Bytes, Use, begins_with_dash, dashed, has_use}
+use Rattle.rs_words.specs.Grammar.{CommandOption, Form, Bytes, Use, begins_with_dash, option_word, has_use}
 use Rattle.rs_words.proofs.Lookups.{taker, flagger, built_choice, built_word, built_rules, built_shape, by_index, by_long, second_place}
 
 -- the row of a use
@@ -127,16 +127,16 @@ never_settles f us name long index e = rw e refl
 -- ---- words
 
 abbrev pub dashes : Bytes
-dashes = dashed []
+dashes = option_word []
 
 pub plain_is_no_dash : (w : Bytes) → begins_with_dash w ≡ false → (bytes_eq w dashes ≡ false) × (long_of w ≡ None) × (short_of w ≡ None)
 plain_is_no_dash [] e = (refl, refl, refl)
 plain_is_no_dash (x ∷ xs) e = (rw e refl, rw e refl, rw e refl)
 
-pub long_is : (x : ℕ) (xs : Bytes) → long_of (dashed (x ∷ xs)) ≡ Some (name_and_value (x ∷ xs))
+pub long_is : (x : ℕ) (xs : Bytes) → long_of (option_word (x ∷ xs)) ≡ Some (name_and_value (x ∷ xs))
 long_is x xs = refl
 
-pub long_is_no_dashes : (x : ℕ) (xs : Bytes) → bytes_eq (dashed (x ∷ xs)) dashes ≡ false
+pub long_is_no_dashes : (x : ℕ) (xs : Bytes) → bytes_eq (option_word (x ∷ xs)) dashes ≡ false
 long_is_no_dashes x xs = refl
 
 -- ---- one word of a level
@@ -252,7 +252,7 @@ module _ (f : Form) (us : List Use) (name : Bytes) (placed : Bool) (known : arg_
   pub no_option_there : (w other : Bytes) (v : Option Bytes) → bytes_eq w dashes ≡ false → long_of w ≡ Some (other, v) → turn_fault (built_shape f) [] (waiting us name placed) w ≡ [] → ⊥
   no_option_there w other v isnt is e = go (find (λ k. bytes_eq k.name other) f.choices) refl
     where
-      go : (found : Option Choice) → find (λ k. bytes_eq k.name other) f.choices ≡ found → ⊥
+      go : (found : Option CommandOption) → find (λ k. bytes_eq k.name other) f.choices ≡ found → ⊥
       go None i =
           let none : arg_by_long (built_rules f) other ≡ None = by_long f other ∙ ap (option_map built_choice) i in
           let fault : turn_fault (built_shape f) [] (waiting us name placed) w ≡ kind.UnknownArgument ∷ [] = rw (isnt, is, none) refl in cc

@@ -5,7 +5,7 @@ use Rattle.clap.specs.Words.{App, Row, Rule, first_of, fault_of, new_app, new_ru
 use Rattle.clap.specs.declared.builder.action.ArgAction.TheVariants.{Set, SetTrue}
 use Rattle.clap.specs.declared.parser.matches.ArgMatches.{ArgMatches}
 use Rattle.rs_words.specs.declared.tasks.Task.{Task}
-use Rattle.rs_words.specs.Grammar.{Bytes, Form, begins_with_dash, dashed, forms}
+use Rattle.rs_words.specs.Grammar.{Bytes, Form, begins_with_dash, option_word, forms}
 use Rattle.rs_words.specs.Meaning.{task_of}
 
 -- an option as clap is told it
@@ -63,7 +63,7 @@ dash_is_allowed false word = not (begins_with_dash word) || begins_with_two_dash
 -- each word may stand where it stands; of others clap would take some that the program doesn't
 abbrev pub dashes_are_allowed : List Bytes → Bool → Bool
 dashes_are_allowed [] behind = true
-dashes_are_allowed (word ∷ words) behind = dash_is_allowed behind word && dashes_are_allowed words (behind || bytes_eq word (dashed []))
+dashes_are_allowed (word ∷ words) behind = dash_is_allowed behind word && dashes_are_allowed words (behind || bytes_eq word (option_word []))
 
 -- clap took the words, and found this; or it refused them
 abbrev pub ClapFinds : List Bytes → Option ArgMatches → Type 0

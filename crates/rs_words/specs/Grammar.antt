@@ -8,18 +8,18 @@ abbrev pub Bytes : Type 0
 Bytes = List ℕ
 
 -- an option: its name, and whether it has a value
-pub record Choice : Type 0 where
+pub record CommandOption : Type 0 where
   pub name : Bytes
   pub is_valued : Bool
 
 -- what a command takes: its name, its options, and the id of its positional word, where it has one
 pub record Form : Type 0 where
   pub name : Bytes
-  pub choices : List Choice
+  pub choices : List CommandOption
   pub word : Option Bytes
 
 -- options with these names, each with a value
-abbrev pub with_values : List Bytes → List Choice
+abbrev pub with_values : List Bytes → List CommandOption
 with_values names = map (λ name. record { name = name; is_valued = true }) names
 
 -- a command with nothing behind its name
@@ -52,25 +52,25 @@ begins_with_dash [] = false
 begins_with_dash (x ∷ xs) = x == 45
 
 -- `--` and the name
-abbrev pub dashed : Bytes → Bytes
-dashed name = 45 ∷ 45 ∷ name
+abbrev pub option_word : Bytes → Bytes
+option_word name = 45 ∷ 45 ∷ name
 
 -- an option or a positional word, as it may stand behind the command's name
-pub data Piece : Type 0 where
+pub data WordPiece : Type 0 where
   -- `--name value`
-  value_behind : (name value : Bytes) → Piece
+  value_behind : (name value : Bytes) → WordPiece
   -- `--name=value`
-  value_joined : (name value : Bytes) → Piece
+  value_joined : (name value : Bytes) → WordPiece
   -- `--name`
-  flag : (name : Bytes) → Piece
+  flag : (name : Bytes) → WordPiece
   -- `text`
-  positional : (text : Bytes) → Piece
+  positional : (text : Bytes) → WordPiece
 
 -- the words of a piece
-abbrev pub words_of : Piece → List Bytes
-words_of (value_behind name value) = dashed name ∷ value ∷ []
-words_of (value_joined name value) = dashed (name ++ 61 ∷ value) ∷ []
-words_of (flag name) = dashed name ∷ []
+abbrev pub words_of : WordPiece → List Bytes
+words_of (value_behind name value) = option_word name ∷ value ∷ []
+words_of (value_joined name value) = option_word (name ++ 61 ∷ value) ∷ []
+words_of (flag name) = option_word name ∷ []
 words_of (positional text) = text ∷ []
 
 -- the command has an option of this name, with a value or without
@@ -78,32 +78,32 @@ abbrev pub HasChoice : Form → Bytes → Bool → Type 0
 HasChoice form name is_valued = find (λ c. bytes_eq c.name name) form.choices ≡ Some (record { name = name; is_valued = is_valued })
 
 -- the command takes the piece: a value in a word of its own doesn't begin with `-`, and no positional word does
-abbrev pub Stands : Form → Piece → Type 0
-Stands form (value_behind name value) = HasChoice form name true × (begins_with_dash value ≡ false)
-Stands form (value_joined name value) = HasChoice form name true
-Stands form (flag name) = HasChoice form name false
-Stands form (positional text) = (id : Bytes) × (form.word ≡ Some id) × (begins_with_dash text ≡ false)
+abbrev pub PieceStands : Form → WordPiece → Type 0
+PieceStands form (value_behind name value) = HasChoice form name true × (begins_with_dash value ≡ false)
+PieceStands form (value_joined name value) = HasChoice form name true
+PieceStands form (flag name) = HasChoice form name false
+PieceStands form (positional text) = (id : Bytes) × (form.word ≡ Some id) × (begins_with_dash text ≡ false)
 
 -- the command takes each of the pieces
-abbrev pub AllStand : Form → List Piece → Type 0
+abbrev pub AllStand : Form → List WordPiece → Type 0
 AllStand form [] = Unit {0}
-AllStand form (p ∷ ps) = Stands form p × AllStand form ps
+AllStand form (p ∷ ps) = PieceStands form p × AllStand form ps
 
 -- what stands behind the last piece: nothing, `--`, or `--` and a positional word
-pub data Ending : Type 0 where
-  nothing : Ending
-  dashes_alone : Ending
-  dashes_and_word : (text : Bytes) → Ending
+pub data WordsEnd : Type 0 where
+  nothing : WordsEnd
+  dashes_alone : WordsEnd
+  dashes_and_word : (text : Bytes) → WordsEnd
 
 -- the words of an ending
-abbrev pub ending_words : Ending → List Bytes
+abbrev pub ending_words : WordsEnd → List Bytes
 ending_words nothing = []
-ending_words dashes_alone = dashed [] ∷ []
-ending_words (dashes_and_word text) = dashed [] ∷ text ∷ []
+ending_words dashes_alone = option_word [] ∷ []
+ending_words (dashes_and_word text) = option_word [] ∷ text ∷ []
 
 -- the command takes the ending
-abbrev pub EndingStands : Form → Ending → Type 0
-EndingStands form (dashes_and_word text) = Stands form (positional text)
+abbrev pub EndingStands : Form → WordsEnd → Type 0
+EndingStands form (dashes_and_word text) = PieceStands form (positional text)
 EndingStands form _ = Unit {0}
 
 -- one use of what a command takes: an option by its name, or the positional word by its id, and the text that it was given
@@ -120,14 +120,14 @@ word_id form = id_or_nothing form.word
     id_or_nothing (Some id) = id
 
 -- what a piece uses; an option without a value is given the text `true`
-abbrev pub use_of : Form → Piece → Use
+abbrev pub use_of : Form → WordPiece → Use
 use_of form (value_behind name value) = record { id = name; value = value }
 use_of form (value_joined name value) = record { id = name; value = value }
 use_of form (flag name) = record { id = name; value = codes "true" }
 use_of form (positional text) = record { id = word_id form; value = text }
 
 -- what an ending uses
-abbrev pub ending_uses : Form → Ending → List Use
+abbrev pub ending_uses : Form → WordsEnd → List Use
 ending_uses form (dashes_and_word text) = use_of form (positional text) ∷ []
 ending_uses form _ = []
 
@@ -143,8 +143,8 @@ AllNew before (u ∷ us) = (has_use u.id before ≡ false) × AllNew (before ++ 
 -- the words behind the name of a command spell these uses: pieces that it takes and an ending that it takes, none of
 -- which uses what another one used
 pub record SpellsUses (form : Form) (words : List Bytes) (uses : List Use) : Type 0 where
-  pub pieces : List Piece
-  pub ending : Ending
+  pub pieces : List WordPiece
+  pub ending : WordsEnd
   pub words_are : words ≡ flat_map words_of pieces ++ ending_words ending
   pub pieces_stand : AllStand form pieces
   pub ending_stands : EndingStands form ending

@@ -39,8 +39,8 @@ demo_of_name text = if bytes_eq text (codes "double") then Some demo.Double
     else if bytes_eq text (codes "butterfly") then Some demo.Butterfly else None
 
 -- the numbers of the options, each with its range and its default
-abbrev pub bound_in : Option Bytes → Option ℕ
-bound_in text = number_or DEFAULT_BOUND 1 MOST_BOUND text
+abbrev pub bound_of_option : Option Bytes → Option ℕ
+bound_of_option text = number_or DEFAULT_BOUND 1 MOST_BOUND text
 
 -- the capacity of rings, which may be left out
 abbrev pub ring_in : Option Bytes → Option (Option ℕ)
@@ -60,13 +60,13 @@ seed_in text = number_or 0 0 MOST_SEED text
 
 -- what `check` asks for, by the text of its bound and whether it is to print derivations
 abbrev pub check_task : Option Bytes → Bool → Option Task
-check_task bound derivations = option_map (λ k. task.Check k derivations) (bound_in bound)
+check_task bound derivations = option_map (λ k. task.Check k derivations) (bound_of_option bound)
 
 -- what `run` asks for, by the texts of its options
 abbrev pub run_task : Option Bytes → Option Bytes → Option Bytes → Option Bytes → Option Bytes → Option Task
 run_task bound ring workers limit seed =
     option_and_then (λ k. option_and_then (λ c. option_and_then (λ n. option_and_then (λ l. option_map (λ x. task.Run k c n l x)
-    (seed_in seed)) (limit_in limit)) (workers_in workers)) (ring_in ring)) (bound_in bound)
+    (seed_in seed)) (limit_in limit)) (workers_in workers)) (ring_in ring)) (bound_of_option bound)
 
 -- what `demo` asks for, by the text of its name and those of its options
 abbrev pub demo_task : Option Bytes → Option Bytes → Option Bytes → Option Task
@@ -106,14 +106,14 @@ IsMeaning words (Some spelt) = SpellsTask words spelt
 IsMeaning words None = (any : Task) → SpellsTask words any → ⊥
 
 -- the number lies from the low one to the high one
-abbrev pub IsFrom : ℕ → ℕ → ℕ → Type 0
-IsFrom low high n = (low ≤ n) × (n ≤ high)
+abbrev pub IsFromTo : ℕ → ℕ → ℕ → Type 0
+IsFromTo low high n = (low ≤ n) × (n ≤ high)
 
 -- each number of the task lies in its range
 abbrev pub IsInRange : Task → Type 0
-IsInRange (task.Check bound derivations) = IsFrom 1 MOST_BOUND bound
+IsInRange (task.Check bound derivations) = IsFromTo 1 MOST_BOUND bound
 IsInRange (task.Run bound ring workers limit seed) =
-    IsFrom 1 MOST_BOUND bound × IfSome ring (IsFrom 1 MOST_CAPACITY) × IsFrom 1 MOST_WORKERS workers × IsFrom 1 MOST_LIMIT limit × IsFrom 0 MOST_SEED seed
-IsInRange (task.Demo kind ring workers) = IfSome ring (IsFrom 1 MOST_CAPACITY) × IsFrom 1 MOST_WORKERS workers
-IsInRange (task.Gen number) = IsFrom 0 MOST_GEN number
+    IsFromTo 1 MOST_BOUND bound × IfSome ring (IsFromTo 1 MOST_CAPACITY) × IsFromTo 1 MOST_WORKERS workers × IsFromTo 1 MOST_LIMIT limit × IsFromTo 0 MOST_SEED seed
+IsInRange (task.Demo kind ring workers) = IfSome ring (IsFromTo 1 MOST_CAPACITY) × IsFromTo 1 MOST_WORKERS workers
+IsInRange (task.Gen number) = IsFromTo 0 MOST_GEN number
 IsInRange _ = Unit {0}

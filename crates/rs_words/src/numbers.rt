@@ -70,7 +70,7 @@ fn optional_in(
 
 /// The bound of a search.
 pub(crate) fn bound_in(alloc: Global, text: Option<&str>) -> Result<Option<u8>, AllocError>
-    ensures { IfOk result (λ r. r ≡ spec.bound_in (option_map (λ s. s.now) text.entry)) }
+    ensures { IfOk result (λ r. r ≡ spec.bound_of_option (option_map (λ s. s.now) text.entry)) }
 {
     match number_or(alloc, u32::from(DEFAULT_BOUND), 1, MOST_BOUND as u32, text)? {
         None => Ok(None),

@@ -3,7 +3,7 @@
 ghost use Rattle.std.specs.Prelude.{◌≡◌, length};
 ghost use Rattle.rs_model.specs.Limits.{IsCapacity};
 ghost use Rattle.rs_core.specs.Configurations.{role_of};
-ghost use Rattle.rs_documents.specs.Reading.{IsReady};
+ghost use Rattle.rs_documents.specs.Reading.{DocumentIsReady};
 
 use rs_answers::{DerivedSession, accept_derived, derived_session};
 use rs_core::Event;
@@ -61,7 +61,7 @@ fn told_of(alloc: Global, accepted: &Accepted, capacity: u16) -> Option<RingsTol
 }
 
 fn document_told(alloc: Global, document: &Document, capacity: u16) -> Option<RingsTold>
-    requires ready { IsReady document.now }
+    requires ready { DocumentIsReady document.now }
     requires roles { length document.now.names.roles ≡ document.now.protocol.roles }
     requires capacity { IsCapacity capacity }
 {

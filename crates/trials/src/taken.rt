@@ -2,7 +2,7 @@
 
 ghost use Rattle.std.specs.Prelude.{◌≡◌, ◌≢◌, ◌<◌, ◌^◌, IfOk, IfSome, length};
 ghost use Rattle.rs_core.specs.Configurations.{role_of};
-ghost use Rattle.rs_documents.specs.Reading.{IsReady};
+ghost use Rattle.rs_documents.specs.Reading.{DocumentIsReady};
 
 use rs_alive::{AliveFault, taken_within};
 use rs_answers::{DerivedSession, accept_derived, derived_session};
@@ -197,7 +197,7 @@ fn each_taken(alloc: Global, accepted: &Accepted, past: &[Event]) -> bool
 }
 
 fn is_document_taken(alloc: Global, document: &Document, past: &[Event]) -> bool
-    requires ready { IsReady document.now }
+    requires ready { DocumentIsReady document.now }
     requires roles { length document.now.names.roles ≡ document.now.protocol.roles }
     requires short { length past.now < 2 ^ 32 }
 {
@@ -257,7 +257,7 @@ fn document_answer(
     receiver: Role,
     place: u32,
 ) -> Option<Result<Vec<Event>, AliveFault>>
-    requires ready { IsReady document.now }
+    requires ready { DocumentIsReady document.now }
     requires roles { length document.now.names.roles ≡ document.now.protocol.roles }
     requires short { length past.now < 2 ^ 32 }
 {

@@ -3,7 +3,7 @@ ghost use Rattle.std.specs.Prelude.{◌≡◌, ◌++◌, ◌∷◌, [], None, If
 ghost use Rattle.rs_model.specs.Limits.{IsCapacity};
 ghost use Rattle.rs_exec.specs.Polling.{HasStopped};
 ghost use Rattle.rs_exec.specs.Tasks.{IsTaskOf};
-ghost use Rattle.rs_session.specs.Stages.{AreFirst, IsEnded, shown};
+ghost use Rattle.rs_session.specs.Stages.{AreFirst, IsEnded, sight_of_stage};
 ghost use Rattle.rs_session.specs.declared.stages.Stage.TheVariants as kind;
 
 use crate::session::{Session as Accepting, session_of};
@@ -66,7 +66,7 @@ struct Pair {
 
 /// A task with an actor for the role of a first stage.
 fn task_of(rt: &impl Abort, alloc: Global, stage: Stage) -> RoleTask<SeededActor>
-    requires nothing { (shown stage).part.history ≡ [] }
+    requires nothing { (sight_of_stage stage).part.history ≡ [] }
     ensures stage { result.stage ≡ stage }
     ensures kept { result.kept ≡ None }
 {

@@ -1,7 +1,7 @@
 use Rattle.std.proofs.Common.{rules, subst}
 use Rattle.rs_core.specs.declared.messages.Event.{Event}
 use Rattle.rs_core.specs.Configurations.{Step}
-use Rattle.rs_core.specs.Core.{IsRefused, configuration_of}
+use Rattle.rs_core.specs.Core.{StepIsRefused, configuration_of}
 use Rattle.rs_alive.proofs.Acting.{can-move, has-act, is-step, memory}
 use Rattle.rs_alive.proofs.schedule.advance.Goals as goal
 
@@ -12,7 +12,7 @@ act_of-requires-clause-acts c =
 
 pub only_memory-requires : goal.only_memory-requires
 only_memory-requires c =
-    let P : Event → Type 0 = λ z. IsRefused c.args.core.now.machines (configuration_of c.args.core.now) z c.in-Err.refused.fault in
+    let P : Event → Type 0 = λ z. StepIsRefused c.args.core.now.machines (configuration_of c.args.core.now) z c.in-Err.refused.fault in
     memory c.args.core.now.machines (configuration_of c.args.core.now) c.last_of-role.result c.in_ok-event.event c.in-Err.refused.fault
     (can-move c.args.core.now.machines (configuration_of c.args.core.now) c.args.receiver.0 c.last_of-role.result.0 c.requires.leads c.last_of-role.ensures.leads)
     (search rules) (subst P c.in_ok-copy_of.ensures c.in-Err.ensures.refused)

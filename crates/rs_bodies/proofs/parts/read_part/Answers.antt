@@ -1,5 +1,5 @@
 use Rattle.std.proofs.Common.{rules, ◌≡◌, subst}
-use Rattle.rs_bodies.specs.Feeding.{begin, feeding}
+use Rattle.rs_bodies.specs.Feeding.{start_of_part, feeding}
 use Rattle.rs_bodies.proofs.Refusals.{begins_with, left, reads_spelt}
 use Rattle.rs_bodies.proofs.parts.read_part.Goals as goal
 use Rattle.rs_text.proofs.Keeping.{told_within, refused}
@@ -9,17 +9,17 @@ use Rattle.rs_text.specs.Readings.{StopsBy}
 
 pub returns-in-Ok-clause-ok : goal.returns-in-Ok-clause-ok
 returns-in-Ok-clause-ok c =
-    let first : c.new-reader.result ≡ begin c.args.dialect c.args.names.now = begins_with c.args.dialect c.new-reader.result c.args.names.now _ _ c.new-reader.ensures (search rules) (search rules) in
+    let first : c.new-reader.result ≡ start_of_part c.args.dialect c.args.names.now = begins_with c.args.dialect c.new-reader.result c.args.names.now _ _ c.new-reader.ensures (search rules) (search rules) in
     reads_spelt c.args.dialect c.args.names.now _ c.args.bytes.now c.args.at c.new-reader.result _ c.in-Ok.read.1 c.in-Ok.read.0 first c.requires.at c.in-Ok.ensures.ok (search rules) c.in-Ok.ensures.spelling
 
 pub returns-clause-err : goal.returns-clause-err
 returns-clause-err c =
-    let first : c.new-reader.result ≡ begin c.args.dialect c.args.names.now = begins_with c.args.dialect c.new-reader.result c.args.names.now _ _ c.new-reader.ensures (search rules) (search rules) in
-    refused (judges c.args.dialect c.args.names.now) (begin c.args.dialect c.args.names.now) (begins c.args.dialect c.args.names.now) c.in-Err.stop c.args.bytes.now c.args.at c.told.result c.told.ensures c.requires.at (subst (λ z. StopsBy (feeding c.args.dialect) c.in-Err.stop z c.args.bytes.now c.args.at) first c.in-Err.ensures.err)
+    let first : c.new-reader.result ≡ start_of_part c.args.dialect c.args.names.now = begins_with c.args.dialect c.new-reader.result c.args.names.now _ _ c.new-reader.ensures (search rules) (search rules) in
+    refused (judges c.args.dialect c.args.names.now) (start_of_part c.args.dialect c.args.names.now) (begins c.args.dialect c.args.names.now) c.in-Err.stop c.args.bytes.now c.args.at c.told.result c.told.ensures c.requires.at (subst (λ z. StopsBy (feeding c.args.dialect) c.in-Err.stop z c.args.bytes.now c.args.at) first c.in-Err.ensures.err)
 
 pub returns-clause-left : goal.returns-clause-left
 returns-clause-left c =
-    let first : c.new-reader.result ≡ begin c.args.dialect c.args.names.now = begins_with c.args.dialect c.new-reader.result c.args.names.now _ _ c.new-reader.ensures (search rules) (search rules) in
+    let first : c.new-reader.result ≡ start_of_part c.args.dialect c.args.names.now = begins_with c.args.dialect c.new-reader.result c.args.names.now _ _ c.new-reader.ensures (search rules) (search rules) in
     left c.args.dialect c.in-Err.stop c.args.names.now _ c.new-reader.result c.read_with-result.new.reader c.args.bytes.now c.args.at c.told.result c.told.ensures first c.requires.at c.in-Err.ensures.err c.in-Err.ensures.left (search rules)
     c.requires.first c.in-Err.ensures.kept
 

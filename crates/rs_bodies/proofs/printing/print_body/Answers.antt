@@ -1,5 +1,5 @@
 use Rattle.std.proofs.Common.{rules, ◌≡◌, ◌<◌, length, sym, ap, ◌∙◌, subst, arith}
-use Rattle.rs_bodies.specs.Printing.{Printer_data, turned}
+use Rattle.rs_bodies.specs.Printing.{Printer_data, next_printer}
 use Rattle.rs_bodies.proofs.BackFlags.{flags_are_back}
 use Rattle.rs_bodies.proofs.EndsLast.{end_is_last}
 use Rattle.rs_bodies.proofs.Few.{spelt_few}
@@ -23,8 +23,8 @@ loop-printer-preserved g c =
 pub loop-printer-smaller : goal.loop-printer-smaller
 loop-printer-smaller g c =
     let p = g.G.Numbered.places c.args.graph.now in
-    let more : length c.loop-printer.printer.text < length (turned p c.loop-printer.printer).text = turned_longer p c.loop-printer.printer (sym c.is_left.ensures ∙ c.loop-printer-test.true) in
-    let same : length c.turn.new.self.text ≡ length (turned p c.loop-printer.printer).text = ap (λ (d : Printer_data). length d.text) c.in_ok-turn.ensures.state in
+    let more : length c.loop-printer.printer.text < length (next_printer p c.loop-printer.printer).text = turned_longer p c.loop-printer.printer (sym c.is_left.ensures ∙ c.loop-printer-test.true) in
+    let same : length c.turn.new.self.text ≡ length (next_printer p c.loop-printer.printer).text = ap (λ (d : Printer_data). length d.text) c.in_ok-turn.ensures.state in
     let small = c.in_ok-turn.ensures.size in
     omega arith
 

@@ -5,10 +5,10 @@ use Rattle.rs_core.specs.declared.playing.End.{End}
 use Rattle.rs_core.proofs.Shown.{show-ended, show-stopped, full-at}
 use Rattle.rs_core.proofs.runs.run_bounded.Goals as goal
 
-pub returns-in_ok-ended-in-Ended-clause-plain : goal.returns-in_ok-ended-in-Ended-clause-plain
-returns-in_ok-ended-in-Ended-clause-plain g c given is =
-    show-ended g.A.Actor.behaviour c.args.machines.items given c.args.limit (Some c.args.capacity) c.in_ok-played.played.end c.in_ok-played.played.players.items c.in_ok-ended-in-Ended.field-0.outcome c.in_ok-ended-in-Ended.field-0.actors.items
-    (c.in_ok-played.ensures.plain given is) c.in-Ended.is c.in_ok-ended-in-Ended.ensures.outcome c.in_ok-ended-in-Ended.ensures.actors
+pub returns-in_ok-run_that_ended-in-Ended-clause-plain : goal.returns-in_ok-run_that_ended-in-Ended-clause-plain
+returns-in_ok-run_that_ended-in-Ended-clause-plain g c given is =
+    show-ended g.A.Actor.behaviour c.args.machines.items given c.args.limit (Some c.args.capacity) c.in_ok-played.played.end c.in_ok-played.played.players.items c.in_ok-run_that_ended-in-Ended.field-0.outcome c.in_ok-run_that_ended-in-Ended.field-0.actors.items
+    (c.in_ok-played.ensures.plain given is) c.in-Ended.is c.in_ok-run_that_ended-in-Ended.ensures.outcome c.in_ok-run_that_ended-in-Ended.ensures.actors
 
 pub returns-in_ok-stopped-in-Stopped-clause-plain : goal.returns-in_ok-stopped-in-Stopped-clause-plain
 returns-in_ok-stopped-in-Stopped-clause-plain g c given is =

@@ -53,17 +53,17 @@ returns-in-Ok-Got-step g c =
     let P : Next → Type 0 = λ n. NextTells g.A.Actor.behaviour c.args.limit c.args.core.now c.args.role.0 c.args.player.now c.next_of.new.player n in
     let tells = subst P c.in-Receives.is c.in_ok-next_of.ensures.tells in
     let S : Stepped → Type 0 = λ z. HasStepped c.args.core.now.machines (configuration_of c.args.core.now) (Receive c.args.role) (configuration_of c.step-in-Receives.new.self) z in
-    let y : Player g.row.A.Denot = record { actor = c.told.new.actor; kept = c.next_of.new.player.kept; transcript = c.push-in-Ok-Got-step.new.self } in
+    let y : Player g.row.A.Denot = record { actor = c.tell_actor.new.actor; kept = c.next_of.new.player.kept; transcript = c.push-in-Ok-Got-step.new.self } in
     record {
       tells = (
         tells.0,
         got-turn g.A.Actor.behaviour c.args.capacity c.args.core.now c.step-in-Receives.new.self c.args.role.0 c.args.player.now
-            record { actor = c.told.new.actor; kept = c.next_of.new.player.kept; transcript = c.push-in-Ok-Got-step.new.self }
+            record { actor = c.tell_actor.new.actor; kept = c.next_of.new.player.kept; transcript = c.push-in-Ok-Got-step.new.self }
             c.in-Receives.peer tells.1.0 c.in-Ok-Got-step.label c.in-Ok-Got-step.value tells.1.1 (subst S c.in-Ok-Got-step.field-0-is c.in-Ok-Got-step.ensures.step)
             (λ peer arms place arm takes follows same.
             (let R : List Machine_data → ℕ → Type 0 = λ ms n. state_of (slice_get ms c.args.role.0) n ≡ Some (Takes peer arms) in
             ap (λ (z : Player g.row.A.Denot). g.A.Actor.behaviour.told z.actor arms place c.in-Ok-Got-step.value) (sym tells.2)
-            ∙ c.in_ok-told-in-Ok-Got-step.ensures.becomes peer arms place arm (subst₂ R (sym c.in-Ok-Got-step.ensures.machines) (sym c.state-number.ensures) takes) follows same))
+            ∙ c.in_ok-tell_actor-in-Ok-Got-step.ensures.becomes peer arms place arm (subst₂ R (sym c.in-Ok-Got-step.ensures.machines) (sym c.state-number.ensures) takes) follows same))
             (ap (λ (z : Player g.row.A.Denot). z.kept) tells.2)
             (c.in_ok-push-in-Ok-Got-step.ensures.ok ∙ ap (λ (z : Player g.row.A.Denot). z.transcript ++ (entry.Got c.in-Receives.peer c.in-Ok-Got-step.label c.in-Ok-Got-step.value ∷ [])) tells.2),
         c.in-Ok-Got-step.ensures.machines,

@@ -1,7 +1,7 @@
 use Rattle.std.proofs.Common.{rules, ◌≡◌, ◌≤◌, [], ◌∷◌, length, sym, ap, ◌∙◌, arith}
 use Rattle.std.proofs.Math.Nat.{min-le_left}
 use Rattle.rs_derive.specs.Data.{DNode_data}
-use Rattle.rs_derive.specs.Checks.{counted}
+use Rattle.rs_derive.specs.Checks.{fault_of_count}
 use Rattle.rs_derive.proofs.Few.{few, one_more}
 use Rattle.rs_derive.proofs.Loops.{at_count, left, stepped}
 use Rattle.rs_derive.specs.Moves.{owing_receive}
@@ -33,6 +33,6 @@ loop-place-preserved c = record {
 pub returns : goal.returns
 returns c =
     let e : length c.as_slice-2.result.now ≡ length c.args.node.now.next = ap (λ z. length z) c.as_slice-2.ensures ∙ ap (λ (z : DNode_data). length z.next) c.node.view_is in
-    c.count_fault.ensures ∙ ap (λ n. counted c.args.source.node c.min-due.result (length c.args.arms.now) n) e
+    c.count_fault.ensures ∙ ap (λ n. fault_of_count c.args.source.node c.min-due.result (length c.args.arms.now) n) e
     ∙ at_count (λ b. owing_receive (spot_of c.args.node.now) c.args.peer b ∷ []) c.args.nodes.now c.args.source.keeps c.args.source.rank c.args.source.node c.args.arms.now c.args.node.now.next c.loop-place.place c.min-due.result _
     (search rules) (search rules) c.loop-place.invariant.rest

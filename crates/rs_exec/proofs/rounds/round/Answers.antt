@@ -3,7 +3,7 @@ use Rattle.std.proofs.lemmas.List.{length-set}
 use Rattle.std.proofs.lemmas.Option.{slice_get_read}
 use Rattle.rs_core.specs.Turns.{TurnTells}
 use Rattle.rs_core.proofs.Lifting.{or-true, or-false, sofar-start, sofar-moved, sofar-idle}
-use Rattle.rs_exec.specs.Members.{core_of, player_of, players_of, turned_by}
+use Rattle.rs_exec.specs.Members.{core_of, player_of, players_of, turn_kind_of}
 use Rattle.rs_exec.specs.declared.members.Went.{Went}
 use Rattle.rs_exec.specs.declared.members.Went.TheVariants as went
 use Rattle.rs_exec.proofs.MembersRounds.{hold_on, playing_on, ready_at, round_on, round_stops, together_on}
@@ -33,8 +33,8 @@ returns-in-AtLimit g c =
     let old = c.index_mut.result.now in
     let is : slice_get c.loop-number.members.items c.loop-number.number ≡ Some c.index_mut.result.now = slice_get_read c.loop-number.members.items (length c.loop-number.members.items) c.loop-number.number c.index_mut.result.now refl (let n = c.loop-number.invariant.count in let t = c.loop-number-test.true in omega arith) c.index_mut.ensures.value in
     let e = c.in_ok-turn.ensures in
-    let at : TurnTells g.A.Actor.behaviour c.args.limit (Some c.args.session.now.capacity) (core_of c.args.session.now.machines c.loop-number.all.view) (player_of old) c.loop-number.number (core_of c.args.session.now.machines c.turn.new.all.view) (player_of c.turn.new.self) (turned_by went.AtLimit) =
-    subst (λ (t : Went). TurnTells g.A.Actor.behaviour c.args.limit (Some c.args.session.now.capacity) (core_of c.args.session.now.machines c.loop-number.all.view) (player_of old) c.loop-number.number (core_of c.args.session.now.machines c.turn.new.all.view) (player_of c.turn.new.self) (turned_by t)) c.in-AtLimit.is e.tells in
+    let at : TurnTells g.A.Actor.behaviour c.args.limit (Some c.args.session.now.capacity) (core_of c.args.session.now.machines c.loop-number.all.view) (player_of old) c.loop-number.number (core_of c.args.session.now.machines c.turn.new.all.view) (player_of c.turn.new.self) (turn_kind_of went.AtLimit) =
+    subst (λ (t : Went). TurnTells g.A.Actor.behaviour c.args.limit (Some c.args.session.now.capacity) (core_of c.args.session.now.machines c.loop-number.all.view) (player_of old) c.loop-number.number (core_of c.args.session.now.machines c.turn.new.all.view) (player_of c.turn.new.self) (turn_kind_of t)) c.in-AtLimit.is e.tells in
     record {
       held = hold_on c.args.all.now c.loop-number.all c.turn.new.all inv.held e.held;
       together = together_on g.A.Actor.behaviour c.args.session.now c.loop-number.all c.turn.new.all c.loop-number.members.items c.loop-number.number old c.turn.new.self inv.together is e.turned e.held;
@@ -49,7 +49,7 @@ loop-number-preserved g c =
     let is : slice_get c.loop-number.members.items c.loop-number.number ≡ Some c.index_mut.result.now = slice_get_read c.loop-number.members.items (length c.loop-number.members.items) c.loop-number.number c.index_mut.result.now refl (let n = c.loop-number.invariant.count in let t = c.loop-number-test.true in omega arith) c.index_mut.ensures.value in
     let e = c.in_ok-turn.ensures in
     let tells = λ (u : Went) (same : c.in_ok-turn.field-0 ≡ u).
-    subst (λ (t : Went). TurnTells g.A.Actor.behaviour c.args.limit (Some c.args.session.now.capacity) (core_of c.args.session.now.machines c.loop-number.all.view) (player_of old) c.loop-number.number (core_of c.args.session.now.machines c.turn.new.all.view) (player_of c.turn.new.self) (turned_by t)) same e.tells in
+    subst (λ (t : Went). TurnTells g.A.Actor.behaviour c.args.limit (Some c.args.session.now.capacity) (core_of c.args.session.now.machines c.loop-number.all.view) (player_of old) c.loop-number.number (core_of c.args.session.now.machines c.turn.new.all.view) (player_of c.turn.new.self) (turn_kind_of t)) same e.tells in
     record {
       count = inv.count ∙ sym (length-set c.loop-number.members.items c.loop-number.number c.turn.new.self);
       held = hold_on c.args.all.now c.loop-number.all c.turn.new.all inv.held e.held;

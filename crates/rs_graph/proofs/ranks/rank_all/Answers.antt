@@ -1,6 +1,6 @@
 use Rattle.std.proofs.Common.{rules, arith, ◌≡◌, [], ℕ, List, length, slice_index_or, slice_get, Some, subst, refl, ap}
 use Rattle.rs_graph.specs.Lists.{Among}
-use Rattle.rs_graph.specs.Ranks.{Fits}
+use Rattle.rs_graph.specs.Ranks.{RankFits}
 use Rattle.rs_graph.proofs.Buckets.{the_row}
 use Rattle.rs_graph.proofs.Growth.{reads_at}
 use Rattle.rs_graph.proofs.Ranking.{ranked_none, ranked_on}
@@ -40,7 +40,7 @@ pub loop-i-preserved : goal.loop-i-preserved
 loop-i-preserved c =
     let is : slice_get c.args.order.now c.loop-i.i ≡ Some (slice_index_or c.args.order.now c.loop-i.i 0) = reads_at c.args.order.now c.loop-i.i (slice_index_or c.args.order.now c.loop-i.i 0) 0 c.loop-i-test.true refl in
     let e = the_row c.args.rows.now (slice_index_or c.args.order.now c.loop-i.i 0) c.as_slice.result.now c.index-rows-n.result (c.requires.ordered.within c.loop-i.i (slice_index_or c.args.order.now c.loop-i.i 0) is) c.as_slice.ensures c.index-rows-n.is in
-    let f : Fits (slice_index_or c.args.rows.now (slice_index_or c.args.order.now c.loop-i.i 0) []) c.loop-i.ranks.items c.top-rank.result =
-    subst (λ (y : List ℕ). Fits (slice_index_or c.args.rows.now (slice_index_or c.args.order.now c.loop-i.i 0) []) y c.top-rank.result) c.as_slice-in-loop-i.ensures.value
-    (subst (λ (y : List ℕ). Fits y c.as_slice-in-loop-i.result.now c.top-rank.result) e c.top-rank.ensures.fits) in
+    let f : RankFits (slice_index_or c.args.rows.now (slice_index_or c.args.order.now c.loop-i.i 0) []) c.loop-i.ranks.items c.top-rank.result =
+    subst (λ (y : List ℕ). RankFits (slice_index_or c.args.rows.now (slice_index_or c.args.order.now c.loop-i.i 0) []) y c.top-rank.result) c.as_slice-in-loop-i.ensures.value
+    (subst (λ (y : List ℕ). RankFits y c.as_slice-in-loop-i.result.now c.top-rank.result) e c.top-rank.ensures.fits) in
     ranked_on c.args.rows.now c.args.order.now c.loop-i.ranks.items c.loop-i.i (slice_index_or c.args.order.now c.loop-i.i 0) c.top-rank.result c.requires.ordered is c.loop-i.invariant f c.top-rank.ensures.low

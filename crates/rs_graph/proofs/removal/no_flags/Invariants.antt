@@ -1,6 +1,6 @@
 use Rattle.std.proofs.Common.{◌≡◌, take}
-use Rattle.rs_graph.specs.Removal.{unflagged}
+use Rattle.rs_graph.specs.Removal.{lowered_flags}
 use Rattle.rs_graph.proofs.removal.no_flags.Given as goal
 
 abbrev pub invariant-loop-node : goal.invariant-loop-node
-invariant-loop-node l = l.lost.items ≡ unflagged (take l.node l.graph.outs)
+invariant-loop-node l = l.lost.items ≡ lowered_flags (take l.node l.graph.outs)

@@ -5,7 +5,7 @@ use Rattle.rs_exec.specs.Tasks.{HasEnded}
 use Rattle.rs_rings.specs.Passes.{Rings_data}
 use Rattle.rs_session.specs.Data.{Stage_data}
 use Rattle.rs_session.specs.Ends.{AreAll, AreAllThere, AreOf, KnowsFrom}
-use Rattle.rs_session.specs.Stages.{IsEnded, shown}
+use Rattle.rs_session.specs.Stages.{IsEnded, sight_of_stage}
 use Rattle.rs_session.specs.declared.stages.Stage.{Stage}
 use Rattle.rs_core.specs.declared.transcripts.Entry.{Entry}
 use Rattle.rs_pool.specs.Jobs.{actors_of, first_with, stages_of}
@@ -29,13 +29,13 @@ abandon-closed-requires-clause-of g c =
 pub abandon-requires-clause-each : goal.abandon-requires-clause-each
 abandon-requires-clause-each g c =
     let b = g.A.Actor.behaviour in let start = g.N.StartName.start in let n = length c.args.session.machines in let jobs = c.args.jobs.items in
-    subst (λ (l : List Stage). AreAllThere n (map shown l)) (sym c.parts_of-stages.ensures.stages)
+    subst (λ (l : List Stage). AreAllThere n (map sight_of_stage l)) (sym c.parts_of-stages.ensures.stages)
     (all_there b start n jobs c.requires.collected.count (fits_at b start n jobs c.requires.collected) (ap (λ (s : Rings_data). length s.machines) c.requires.session))
 
 pub abandon-closed-requires-clause-each : goal.abandon-closed-requires-clause-each
 abandon-closed-requires-clause-each g c =
     let b = g.A.Actor.behaviour in let start = g.N.StartName.start in let n = length c.args.session.machines in let jobs = c.args.jobs.items in
-    subst (λ (l : List Stage). AreAllThere n (map shown l)) (sym c.parts_of-stages.ensures.stages)
+    subst (λ (l : List Stage). AreAllThere n (map sight_of_stage l)) (sym c.parts_of-stages.ensures.stages)
     (all_there b start n jobs c.requires.collected.count (fits_at b start n jobs c.requires.collected) (ap (λ (s : Rings_data). length s.machines) c.requires.session))
 
 pub ended_of-requires-clause-ended : goal.ended_of-requires-clause-ended
@@ -52,13 +52,13 @@ close-closed-requires-clause-of g c =
     (ap (first_with progress.Refused 0) (sym c.as_slice.ensures.value) ∙ sym c.first_with-refused.ensures ∙ c.in-None-None.is-0)
     (ap (first_with progress.AtLimit 0) (sym c.as_slice-2.ensures.value) ∙ sym c.first_with-stopped.ensures ∙ c.in-None-None.is-1) in
     let all = are_all_ended b start n jobs c.requires.collected.count (fits_at b start n jobs c.requires.collected) (ap (λ (s : Rings_data). length s.machines) c.requires.session) over in
-    subst (AreAll (IsEnded c.args.session)) (sym (c.ended_of.ensures ∙ ap (map shown) c.parts_of-stages.ensures.stages))
-    (subst (λ (s : Rings_data). AreAll (IsEnded s) (map shown (stages_of jobs))) (sym c.requires.session) all)
+    subst (AreAll (IsEnded c.args.session)) (sym (c.ended_of.ensures ∙ ap (map sight_of_stage) c.parts_of-stages.ensures.stages))
+    (subst (λ (s : Rings_data). AreAll (IsEnded s) (map sight_of_stage (stages_of jobs))) (sym c.requires.session) all)
 
 pub close-closed-requires-clause-there : goal.close-closed-requires-clause-there
 close-closed-requires-clause-there g c =
     let b = g.A.Actor.behaviour in let start = g.N.StartName.start in let n = length c.args.session.machines in let jobs = c.args.jobs.items in
-    subst (AreAllThere n) (sym (c.ended_of.ensures ∙ ap (map shown) c.parts_of-stages.ensures.stages))
+    subst (AreAllThere n) (sym (c.ended_of.ensures ∙ ap (map sight_of_stage) c.parts_of-stages.ensures.stages))
     (all_there b start n jobs c.requires.collected.count (fits_at b start n jobs c.requires.collected) (ap (λ (s : Rings_data). length s.machines) c.requires.session))
 
 pub returns-in-None-Some : goal.returns-in-None-Some
@@ -67,7 +67,7 @@ returns-in-None-Some g c =
     let closed = c.abandon-closed.result in let parts = c.parts_of-stages.ensures in
     let one = first_at progress.AtLimit jobs c.in-None-Some.role (ap (first_with progress.AtLimit 0) (sym c.as_slice-2.ensures.value) ∙ sym c.first_with-stopped.ensures ∙ c.in-None-Some.is-1) in
     let none = none_at progress.Refused jobs (ap (first_with progress.Refused 0) (sym c.as_slice.ensures.value) ∙ sym c.first_with-refused.ensures ∙ c.in-None-Some.is-0) in
-    let knows = subst (λ (l : List Stage). KnowsFrom (map shown l) closed) parts.stages c.abandon-closed.ensures.knows in
+    let knows = subst (λ (l : List Stage). KnowsFrom (map sight_of_stage l) closed) parts.stages c.abandon-closed.ensures.knows in
     let so = session_stopped b start n jobs c.requires.collected.count (fits_at b start n jobs c.requires.collected) (ap (λ (s : Rings_data). length s.machines) c.requires.session)
     closed (c.abandon-closed.ensures.machines ∙ ap (λ (s : Rings_data). s.machines) c.requires.session) knows (record { 0 = c.in-None-Some.role }) one.0 one.1 one.2 none parts.same c.abandon-closed.ensures.left in
     record { session = subst (λ (l : List g.row.A.Denot). IsSessionOfRun start.session.machines b start.given start.limit closed (outcome.Stopped (record { 0 = c.in-None-Some.role })) l) (sym parts.actors) so }
@@ -77,7 +77,7 @@ returns-in-None-None g c =
     let b = g.A.Actor.behaviour in let start = g.N.StartName.start in let n = length c.args.session.machines in let jobs = c.args.jobs.items in
     let closed = c.close-closed.result in let parts = c.parts_of-stages.ensures in
     let none = none_at progress.Refused jobs (ap (first_with progress.Refused 0) (sym c.as_slice.ensures.value) ∙ sym c.first_with-refused.ensures ∙ c.in-None-None.is-0) in
-    let knows = subst (λ (l : List Stage_data). KnowsFrom l closed) (c.ended_of.ensures ∙ ap (map shown) parts.stages) c.close-closed.ensures.knows in
+    let knows = subst (λ (l : List Stage_data). KnowsFrom l closed) (c.ended_of.ensures ∙ ap (map sight_of_stage) parts.stages) c.close-closed.ensures.knows in
     let so = session_ended b start n jobs c.requires.collected.count (fits_at b start n jobs c.requires.collected) (ap (λ (s : Rings_data). length s.machines) c.requires.session)
     closed (c.close-closed.ensures.machines ∙ ap (λ (s : Rings_data). s.machines) c.requires.session) knows none parts.same c.close-closed.ensures.over in
     record {

@@ -1,7 +1,7 @@
 use Rattle.std.proofs.Common.{rules, All, Some, ap, refl, sym, subst}
 use Rattle.std.proofs.lemmas.List.Elements.{All-pop, All-push}
 use Rattle.rs_exec.specs.Data.{Task_data}
-use Rattle.rs_pool.specs.Jobs.{HasDoneNothing, IsNew}
+use Rattle.rs_pool.specs.Jobs.{HasDoneNothing, JobIsNew}
 use Rattle.rs_pool.specs.declared.jobs.Job.{Job}
 use Rattle.rs_pool.specs.declared.jobs.Progress.TheVariants.{Underway}
 use Rattle.rs_pool.proofs.Lists.{all_reverse, moves_back}
@@ -20,7 +20,7 @@ loop-stage-preserved g c =
       search rules,
       search rules,
       (All-pop HasDoneNothing c.loop-stage.stages.items c.pop.new.self.items (Some c.in-Some.stage) c.in-Some.ensures.items c.loop-stage.invariant.7).0,
-      subst (All (IsNew c.args.limit)) (sym c.put.ensures.items) (All-push (IsNew c.args.limit) old job c.loop-stage.invariant.8
+      subst (All (JobIsNew c.args.limit)) (sym c.put.ensures.items) (All-push (JobIsNew c.args.limit) old job c.loop-stage.invariant.8
           (record {
             progress = refl;
             limit = ap (λ (t : Task_data g.row.A.Denot). t.limit) e;
@@ -30,4 +30,4 @@ loop-stage-preserved g c =
     )
 
 pub returns-clause-jobs : goal.returns-clause-jobs
-returns-clause-jobs g c = subst (All (IsNew c.args.limit)) (sym c.reverse.ensures.items) (all_reverse (IsNew c.args.limit) c.loop-stage.jobs.items c.loop-stage.invariant.8)
+returns-clause-jobs g c = subst (All (JobIsNew c.args.limit)) (sym c.reverse.ensures.items) (all_reverse (JobIsNew c.args.limit) c.loop-stage.jobs.items c.loop-stage.invariant.8)

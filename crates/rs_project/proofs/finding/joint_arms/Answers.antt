@@ -3,9 +3,9 @@ use Rattle.std.specs.List.{All}
 use Rattle.std.proofs.lemmas.Option.{slice_get-get_or}
 use Rattle.rs_model.specs.declared.graph.Arm.{Arm}
 use Rattle.rs_model.specs.declared.values.Sort.TheVariants.{Unit as unit}
-use Rattle.rs_project.specs.Marks.{Survey_data, IsKnown}
+use Rattle.rs_project.specs.Marks.{Survey_data, IsTrueSurvey}
 use Rattle.rs_project.specs.Numbered.{nexts_of}
-use Rattle.rs_project.specs.Projection.{Choice, choice_of, merged_choices}
+use Rattle.rs_project.specs.Projection.{LabelChoice, choice_of, merged_choices}
 use Rattle.rs_project.specs.Working.{ArmsFault, Discovers}
 use Rattle.rs_project.proofs.Behind.{fault-behind, finds-behind, starts-of, starts-within}
 use Rattle.rs_project.proofs.Handed.{handed-on}
@@ -25,7 +25,7 @@ find-requires c =
     let choices = c.as_slice-choice-items.result.now in
     let a : Arm = get_or choices c.loop-choice.choice-index record { label = record { 0 = 0 }; sort = unit; next = 0 } in
     let P : List ℕ → Type 0 = λ z. All (λ s. s < length c.args.survey.now.protocol.nodes) z in
-    subst P (sym (c.as_slice.ensures ∙ c.in_ok-starts.ensures ∙ ap (λ (z : Survey_data). starts-of z.protocol c.args.talks.now a.label) c.survey.view_is)) (starts-within c.args.survey.now.protocol c.args.talks.now a.label (subst IsKnown c.survey.view_is c.survey.invariant).well_formed)
+    subst P (sym (c.as_slice.ensures ∙ c.in_ok-starts.ensures ∙ ap (λ (z : Survey_data). starts-of z.protocol c.args.talks.now a.label) c.survey.view_is)) (starts-within c.args.survey.now.protocol c.args.talks.now a.label (subst IsTrueSurvey c.survey.view_is c.survey.invariant).well_formed)
 
 pub returns-in_err-next-clause-err : goal.returns-in_err-next-clause-err
 returns-in_err-next-clause-err c =
@@ -36,7 +36,7 @@ returns-in_err-next-clause-err c =
     let a : Arm = get_or choices c.loop-choice.choice-index record { label = record { 0 = 0 }; sort = unit; next = 0 } in
     let at = slice_get-get_or choices c.loop-choice.choice-index _ c.loop-choice-test.true in
     let same = ap (λ (z : List Arm). map choice_of z) c.as_slice-choice-items.ensures ∙ c.in_ok-choices.ensures ∙ ap (λ (z : Survey_data). merged_choices z.protocol c.args.talks.now) c.survey.view_is in
-    let Q : List Choice → Type 0 = λ z. ArmsFault pr role c.args.fronts.now talks z c.in_err-next.field-0.0 in
+    let Q : List LabelChoice → Type 0 = λ z. ArmsFault pr role c.args.fronts.now talks z c.in_err-next.field-0.0 in
     handed-on c.from_residual-in_err-next.result c.in_err-next.field-0.0 (λ e. ArmsFault pr role c.args.fronts.now talks (merged_choices pr talks) e)
     c.from_residual-in_err-next.ensures.1
     (subst Q same
@@ -55,7 +55,7 @@ loop-choice-preserved c =
     let same = ap (λ (z : List Arm). map choice_of z) c.as_slice-choice-items.ensures ∙ c.in_ok-choices.ensures ∙ ap (λ (z : Survey_data). merged_choices z.protocol c.args.talks.now) c.survey.view_is in
     record {
       discovers = arm-more pr role c.args.survey.now c.args.fronts.now c.loop-choice.fronts c.find.new.fronts talks choices c.loop-choice.choice-index a
-          c.loop-choice.arms c.push.new.self c.in_ok-next.next (subst IsKnown c.survey.view_is c.survey.invariant).survey same at c.in_ok-push.ensures.ok c.loop-choice.invariant.discovers
+          c.loop-choice.arms c.push.new.self c.in_ok-next.next (subst IsTrueSurvey c.survey.view_is c.survey.invariant).survey same at c.in_ok-push.ensures.ok c.loop-choice.invariant.discovers
           (finds-behind pr role c.loop-choice.fronts talks a.label c.as_slice.result.now c.find.new.fronts c.in_ok-next.next (c.as_slice.ensures ∙ c.in_ok-starts.ensures ∙ ap (λ (z : Survey_data). starts-of z.protocol c.args.talks.now a.label) c.survey.view_is) c.in_ok-next.ensures.ok);
       same = same-more choices c.loop-choice.choice-index a c.loop-choice.arms c.push.new.self c.in_ok-next.next at c.in_ok-push.ensures.ok c.loop-choice.invariant.same;
     }
@@ -65,7 +65,7 @@ returns-clause-ok c =
     let pr = c.args.survey.now.protocol in
     let talks = c.args.talks.now in
     let same = ap (λ (z : List Arm). map choice_of z) c.as_slice-choice-items.ensures ∙ c.in_ok-choices.ensures ∙ ap (λ (z : Survey_data). merged_choices z.protocol c.args.talks.now) c.survey.view_is in
-    let Q : List Choice → Type 0 = λ z. Discovers pr c.args.survey.now.role c.args.fronts.now talks z c.loop-choice.fronts (nexts_of c.loop-choice.arms) in
+    let Q : List LabelChoice → Type 0 = λ z. Discovers pr c.args.survey.now.role c.args.fronts.now talks z c.loop-choice.fronts (nexts_of c.loop-choice.arms) in
     subst Q (taken-all c.as_slice-choice-items.result.now c.loop-choice.choice-index (let f = c.loop-choice-test.false in omega (arith, f)) ∙ same) c.loop-choice.invariant.discovers
 
 pub returns-clause-choices : goal.returns-clause-choices

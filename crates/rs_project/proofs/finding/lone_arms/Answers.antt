@@ -2,9 +2,9 @@ use Rattle.std.proofs.Common.{arith, rules, ◌≡◌, ◌∷◌, [], List, map,
 use Rattle.std.proofs.lemmas.Option.{slice_get-get_or}
 use Rattle.rs_model.specs.declared.graph.Arm.{Arm}
 use Rattle.rs_model.specs.declared.values.Sort.TheVariants.{Unit as unit}
-use Rattle.rs_project.specs.Marks.{IsKnown}
+use Rattle.rs_project.specs.Marks.{IsTrueSurvey}
 use Rattle.rs_project.specs.Numbered.{nexts_of}
-use Rattle.rs_project.specs.Projection.{Choice, choice_of, merged_choices}
+use Rattle.rs_project.specs.Projection.{LabelChoice, choice_of, merged_choices}
 use Rattle.rs_project.specs.Working.{ArmsFault, Discovers}
 use Rattle.rs_project.proofs.Alone.{choices-in, next-in, start-alone}
 use Rattle.rs_project.proofs.Behind.{fault-behind, finds-behind}
@@ -27,7 +27,7 @@ find-requires c =
     let node = c.index.result.now in
     let here = read-via c.args.survey.now.protocol.nodes c.protocol.inside.nodes.items c.args.talk node (search rules) c.requires.talk c.index.ensures in
     let P : List Arm → Type 0 = λ z. slice_get z c.loop-choice.choice-index ≡ Some a in
-    next-in c.args.survey.now.protocol c.args.talk node c.loop-choice.choice-index a (subst IsKnown c.survey.view_is c.survey.invariant).well_formed here
+    next-in c.args.survey.now.protocol c.args.talk node c.loop-choice.choice-index a (subst IsTrueSurvey c.survey.view_is c.survey.invariant).well_formed here
     (subst P c.arms_in-choices.ensures (slice_get-get_or c.arms_in-choices.result.now c.loop-choice.choice-index _ c.loop-choice-test.true))
 
 pub returns-in_err-next-clause-err : goal.returns-in_err-next-clause-err
@@ -41,9 +41,9 @@ returns-in_err-next-clause-err c =
     let node = c.index.result.now in
     let here = read-via pr.nodes c.protocol.inside.nodes.items c.args.talk node (search rules) c.requires.talk c.index.ensures in
     let P : List Arm → Type 0 = λ z. slice_get z c.loop-choice.choice-index ≡ Some a in
-    let starts = start-alone pr c.args.talk node c.loop-choice.choice-index a (subst IsKnown c.survey.view_is c.survey.invariant).well_formed here (subst P c.arms_in-choices.ensures at) in
-    let same = ap (λ (z : List Arm). map choice_of z) c.arms_in-choices.ensures ∙ choices-in pr c.args.talk node (subst IsKnown c.survey.view_is c.survey.invariant).well_formed here in
-    let Q : List Choice → Type 0 = λ z. ArmsFault pr role c.args.fronts.now talks z c.in_err-next.field-0.0 in
+    let starts = start-alone pr c.args.talk node c.loop-choice.choice-index a (subst IsTrueSurvey c.survey.view_is c.survey.invariant).well_formed here (subst P c.arms_in-choices.ensures at) in
+    let same = ap (λ (z : List Arm). map choice_of z) c.arms_in-choices.ensures ∙ choices-in pr c.args.talk node (subst IsTrueSurvey c.survey.view_is c.survey.invariant).well_formed here in
+    let Q : List LabelChoice → Type 0 = λ z. ArmsFault pr role c.args.fronts.now talks z c.in_err-next.field-0.0 in
     handed-on c.from_residual.result c.in_err-next.field-0.0 (λ e. ArmsFault pr role c.args.fronts.now talks (merged_choices pr talks) e)
     c.from_residual.ensures.1
     (subst Q same
@@ -61,11 +61,11 @@ loop-choice-preserved c =
     let node = c.index.result.now in
     let here = read-via pr.nodes c.protocol.inside.nodes.items c.args.talk node (search rules) c.requires.talk c.index.ensures in
     let P : List Arm → Type 0 = λ z. slice_get z c.loop-choice.choice-index ≡ Some a in
-    let starts = start-alone pr c.args.talk node c.loop-choice.choice-index a (subst IsKnown c.survey.view_is c.survey.invariant).well_formed here (subst P c.arms_in-choices.ensures at) in
-    let same = ap (λ (z : List Arm). map choice_of z) c.arms_in-choices.ensures ∙ choices-in pr c.args.talk node (subst IsKnown c.survey.view_is c.survey.invariant).well_formed here in
+    let starts = start-alone pr c.args.talk node c.loop-choice.choice-index a (subst IsTrueSurvey c.survey.view_is c.survey.invariant).well_formed here (subst P c.arms_in-choices.ensures at) in
+    let same = ap (λ (z : List Arm). map choice_of z) c.arms_in-choices.ensures ∙ choices-in pr c.args.talk node (subst IsTrueSurvey c.survey.view_is c.survey.invariant).well_formed here in
     record {
       discovers = arm-more pr role c.args.survey.now c.args.fronts.now c.loop-choice.fronts c.find.new.fronts talks choices c.loop-choice.choice-index a
-          c.loop-choice.arms c.push.new.self c.in_ok-next.next (subst IsKnown c.survey.view_is c.survey.invariant).survey same at c.in_ok-push.ensures.ok c.loop-choice.invariant.discovers
+          c.loop-choice.arms c.push.new.self c.in_ok-next.next (subst IsTrueSurvey c.survey.view_is c.survey.invariant).survey same at c.in_ok-push.ensures.ok c.loop-choice.invariant.discovers
           (finds-behind pr role c.loop-choice.fronts talks a.label (a.next ∷ []) c.find.new.fronts c.in_ok-next.next starts c.in_ok-next.ensures.ok);
       same = same-more choices c.loop-choice.choice-index a c.loop-choice.arms c.push.new.self c.in_ok-next.next at c.in_ok-push.ensures.ok c.loop-choice.invariant.same;
     }
@@ -76,8 +76,8 @@ returns-clause-ok c =
     let talks = c.args.talk ∷ [] in
     let node = c.index.result.now in
     let here = read-via pr.nodes c.protocol.inside.nodes.items c.args.talk node (search rules) c.requires.talk c.index.ensures in
-    let same = ap (λ (z : List Arm). map choice_of z) c.arms_in-choices.ensures ∙ choices-in pr c.args.talk node (subst IsKnown c.survey.view_is c.survey.invariant).well_formed here in
-    let Q : List Choice → Type 0 = λ z. Discovers pr c.args.survey.now.role c.args.fronts.now talks z c.loop-choice.fronts (nexts_of c.loop-choice.arms) in
+    let same = ap (λ (z : List Arm). map choice_of z) c.arms_in-choices.ensures ∙ choices-in pr c.args.talk node (subst IsTrueSurvey c.survey.view_is c.survey.invariant).well_formed here in
+    let Q : List LabelChoice → Type 0 = λ z. Discovers pr c.args.survey.now.role c.args.fronts.now talks z c.loop-choice.fronts (nexts_of c.loop-choice.arms) in
     subst Q (taken-all c.arms_in-choices.result.now c.loop-choice.choice-index (let f = c.loop-choice-test.false in omega (arith, f)) ∙ same) c.loop-choice.invariant.discovers
 
 pub returns-clause-choices : goal.returns-clause-choices
@@ -85,5 +85,5 @@ returns-clause-choices c =
     let pr = c.args.survey.now.protocol in
     let node = c.index.result.now in
     let here = read-via pr.nodes c.protocol.inside.nodes.items c.args.talk node (search rules) c.requires.talk c.index.ensures in
-    let same = ap (λ (z : List Arm). map choice_of z) c.arms_in-choices.ensures ∙ choices-in pr c.args.talk node (subst IsKnown c.survey.view_is c.survey.invariant).well_formed here in
+    let same = ap (λ (z : List Arm). map choice_of z) c.arms_in-choices.ensures ∙ choices-in pr c.args.talk node (subst IsTrueSurvey c.survey.view_is c.survey.invariant).well_formed here in
     c.loop-choice.invariant.same ∙ taken-all c.arms_in-choices.result.now c.loop-choice.choice-index (let f = c.loop-choice-test.false in omega (arith, f)) ∙ same

@@ -1,6 +1,6 @@
 use Rattle.std.proofs.Common.{◌≡◌, ◌<◌, false, not, ℕ, Bool, List, All, length, get_or, ap, subst, sym, ◌∙◌}
 use Rattle.std.specs.List.{filter, list_any}
-use Rattle.rs_project.specs.Marks.{IsKnown, IsSpread, Survey_data}
+use Rattle.rs_project.specs.Marks.{IsTrueSurvey, IsSpread, Survey_data}
 use Rattle.rs_project.proofs.Walks.{front-listed, listed-within}
 use Rattle.rs_project.proofs.fronts.marked_front.Goals as goal
 
@@ -10,7 +10,7 @@ flagged-requires c =
     let P : List ℕ → Type 0 = λ z. All (λ n. n < length c.deref-2.result.now) z in
     subst P (sym c.as_slice-numbers.ensures.is)
     (listed-within c.spread.new.self.flags c.spread.new.self.numbers (length c.deref-2.result.now)
-    (c.in_ok-spread.ensures.size ∙ ap (λ (z : Survey_data). length z.protocol.nodes) c.survey.view_is ∙ sym (ap (λ (z : List Bool). length z) flags ∙ (subst IsKnown c.survey.view_is c.survey.invariant).survey.involved_size)) c.as_slice-numbers.ensures.listed)
+    (c.in_ok-spread.ensures.size ∙ ap (λ (z : Survey_data). length z.protocol.nodes) c.survey.view_is ∙ sym (ap (λ (z : List Bool). length z) flags ∙ (subst IsTrueSurvey c.survey.view_is c.survey.invariant).survey.involved_size)) c.as_slice-numbers.ensures.listed)
 
 pub has_unflagged-ends-requires : goal.has_unflagged-ends-requires
 has_unflagged-ends-requires c =
@@ -18,7 +18,7 @@ has_unflagged-ends-requires c =
     let P : List ℕ → Type 0 = λ z. All (λ n. n < length c.deref-3.result.now) z in
     subst P (sym c.as_slice-numbers.ensures.is)
     (listed-within c.spread.new.self.flags c.spread.new.self.numbers (length c.deref-3.result.now)
-    (c.in_ok-spread.ensures.size ∙ ap (λ (z : Survey_data). length z.protocol.nodes) c.survey.view_is ∙ sym (ap (λ (z : List Bool). length z) flags ∙ (subst IsKnown c.survey.view_is c.survey.invariant).survey.awaited_size)) c.as_slice-numbers.ensures.listed)
+    (c.in_ok-spread.ensures.size ∙ ap (λ (z : Survey_data). length z.protocol.nodes) c.survey.view_is ∙ sym (ap (λ (z : List Bool). length z) flags ∙ (subst IsTrueSurvey c.survey.view_is c.survey.invariant).survey.awaited_size)) c.as_slice-numbers.ensures.listed)
 
 pub returns : goal.returns
 returns c =
@@ -33,4 +33,4 @@ returns c =
     let ends = c.has_unflagged-ends.ensures ∙ ap (λ (z : List ℕ). list_any (λ n. not (get_or c.deref-3.result.now n false)) z) c.as_slice-numbers.ensures.is
     ∙ ap (λ (z : List Bool). list_any (λ n. not (get_or z n false)) numbers) awaited in
     front-listed c.args.survey.now.protocol c.args.survey.now.role c.args.survey.now c.args.starts.now c.spread.new.self.flags numbers c.in_ok-talks.talks.items c.in_order.result.items
-    c.has_unflagged-ends.result (subst IsKnown c.survey.view_is c.survey.invariant).survey (subst P passing (subst D c.survey.view_is c.in_ok-spread.ensures)) c.as_slice-numbers.ensures.listed those c.in_order.ensures.rising c.in_order.ensures.same ends
+    c.has_unflagged-ends.result (subst IsTrueSurvey c.survey.view_is c.survey.invariant).survey (subst P passing (subst D c.survey.view_is c.in_ok-spread.ensures)) c.as_slice-numbers.ensures.listed those c.in_order.ensures.rising c.in_order.ensures.same ends

@@ -3,7 +3,7 @@ use Rattle.std.specs.List.{All, Contains}
 use Rattle.rs_project.specs.Clashes.{AllAgree, EndsAlone}
 use Rattle.rs_project.specs.Data.{Front_data}
 use Rattle.rs_project.specs.Graph.{Involves}
-use Rattle.rs_project.specs.Marks.{Among, IsKnown, Survey_data}
+use Rattle.rs_project.specs.Marks.{Among, IsTrueSurvey, Survey_data}
 use Rattle.rs_project.specs.Projection.{Agree, merged_choices}
 use Rattle.rs_project.specs.Working.{Discovers, HasShape, StateFault}
 use Rattle.rs_project.proofs.Handed.{handed-on}
@@ -53,7 +53,7 @@ act_of-requires-clause-agree c = λ one other a b.
     let here = read-via c.args.fronts.now c.as_slice.result.now c.args.number f c.as_slice.ensures c.requires.number c.index-as_slice-number.is in
     let talks : c.as_slice-3.result.now ≡ f.talks = c.as_slice-3.ensures ∙ c.in_ok-talks.ensures.ok ∙ c.deref.ensures.value ∙ ap (λ (z : Front_data). z.talks) c.front.view_is in
     let C : Survey_data → Type 0 = λ z. AllAgree z.protocol z.role f.talks (length f.talks) × EndsAlone f in
-    let merges = merges-at pr role role c.args.fronts.now c.args.number f refl (subst IsKnown c.survey.view_is c.survey.invariant).well_formed c.requires.found here
+    let merges = merges-at pr role role c.args.fronts.now c.args.number f refl (subst IsTrueSurvey c.survey.view_is c.survey.invariant).well_formed c.requires.found here
     (subst C c.survey.view_is (noted-none c.in_ok-found.found _ _ c.in_default.is c.in_ok-found.ensures)) in
     let P : List ℕ → Type 0 = λ z. Contains z one in
     let Q : List ℕ → Type 0 = λ z. Contains z other in
@@ -68,7 +68,7 @@ returns-in_err-arms-clause-err c =
     let here = read-via c.args.fronts.now c.as_slice.result.now c.args.number f c.as_slice.ensures c.requires.number c.index-as_slice-number.is in
     let talks : c.as_slice-2.result.now ≡ f.talks = c.as_slice-2.ensures ∙ c.in_ok-talks.ensures.ok ∙ c.deref.ensures.value ∙ ap (λ (z : Front_data). z.talks) c.front.view_is in
     let C : Survey_data → Type 0 = λ z. AllAgree z.protocol z.role f.talks (length f.talks) × EndsAlone f in
-    let merges = merges-at pr role role c.args.fronts.now c.args.number f refl (subst IsKnown c.survey.view_is c.survey.invariant).well_formed c.requires.found here
+    let merges = merges-at pr role role c.args.fronts.now c.args.number f refl (subst IsTrueSurvey c.survey.view_is c.survey.invariant).well_formed c.requires.found here
     (subst C c.survey.view_is (noted-none c.in_ok-found.found _ _ c.in_default.is c.in_ok-found.ensures)) in
     handed-on c.from_residual-in_err-arms.result c.in_err-arms.field-0.0 (λ e. StateFault pr role c.args.fronts.now c.args.number e)
     c.from_residual-in_err-arms.ensures.1
@@ -82,7 +82,7 @@ returns-clause-ok c =
     let here = read-via c.args.fronts.now c.as_slice.result.now c.args.number f c.as_slice.ensures c.requires.number c.index-as_slice-number.is in
     let talks : c.as_slice-2.result.now ≡ f.talks = c.as_slice-2.ensures ∙ c.in_ok-talks.ensures.ok ∙ c.deref.ensures.value ∙ ap (λ (z : Front_data). z.talks) c.front.view_is in
     let C : Survey_data → Type 0 = λ z. AllAgree z.protocol z.role f.talks (length f.talks) × EndsAlone f in
-    let merges = merges-at pr role role c.args.fronts.now c.args.number f refl (subst IsKnown c.survey.view_is c.survey.invariant).well_formed c.requires.found here
+    let merges = merges-at pr role role c.args.fronts.now c.args.number f refl (subst IsTrueSurvey c.survey.view_is c.survey.invariant).well_formed c.requires.found here
     (subst C c.survey.view_is (noted-none c.in_ok-found.found _ _ c.in_default.is c.in_ok-found.ensures)) in
     let talks-3 : c.as_slice-3.result.now ≡ f.talks = c.as_slice-3.ensures ∙ c.in_ok-talks.ensures.ok ∙ c.deref.ensures.value ∙ ap (λ (z : Front_data). z.talks) c.front.view_is in
     let P : Survey_data → Type 0 = λ z. HasShape z.protocol z.role c.as_slice-3.result.now c.act_of.result in

@@ -3,7 +3,7 @@ use Rattle.std.specs.List.{Contains}
 use Rattle.rs_project.specs.Data.{Front_data}
 use Rattle.rs_project.specs.Filing.{lone_front}
 use Rattle.rs_project.specs.Graph.{Involves}
-use Rattle.rs_project.specs.Marks.{IsKnown, Survey_data}
+use Rattle.rs_project.specs.Marks.{IsTrueSurvey, Survey_data}
 use Rattle.rs_project.specs.Projection.{Agree, merged_choices}
 use Rattle.rs_project.specs.Working.{Discovers, HasShape, StateFault}
 use Rattle.rs_project.proofs.Behind.{involved-within}
@@ -24,7 +24,7 @@ returns-in_err-arms-clause-err c =
     let role = c.args.survey.now.role in
     let f = c.index-as_slice-number.result in
     let here = read-via c.args.fronts.now c.as_slice.result.now c.args.number f c.as_slice.ensures c.requires.number c.index-as_slice-number.is ∙ ap (λ (z : Front_data). Some z) c.in-Some.ensures in
-    let known = subst IsKnown c.survey.view_is c.survey.invariant in
+    let known = subst IsTrueSurvey c.survey.view_is c.survey.invariant in
     let merges = lone-merges pr role c.in-Some.talk known.well_formed (c.requires.found.right c.args.number (lone_front c.in-Some.talk) c.in-Some.talk here (inl refl)) in
     handed-on c.from_residual.result c.in_err-arms.field-0.0 (λ e. StateFault pr role c.args.fronts.now c.args.number e)
     c.from_residual.ensures.1
@@ -43,7 +43,7 @@ act_of-requires-clause-agree c =
     let f = c.index-as_slice-number.result in
     let here = read-via c.args.fronts.now c.as_slice.result.now c.args.number f c.as_slice.ensures c.requires.number c.index-as_slice-number.is ∙ ap (λ (z : Front_data). Some z) c.in-Some.ensures in
     let i = c.requires.found.right c.args.number (lone_front c.in-Some.talk) c.in-Some.talk here (inl refl) in
-    let known = subst IsKnown c.survey.view_is c.survey.invariant in
+    let known = subst IsTrueSurvey c.survey.view_is c.survey.invariant in
     let P : Survey_data → Type 0 = λ z. (one other : ℕ) → Contains (c.in-Some.talk ∷ []) one → Contains (c.in-Some.talk ∷ []) other → Agree z.protocol z.role one other in
     subst P (sym c.survey.view_is) (lone-merges c.args.survey.now.protocol c.args.survey.now.role c.in-Some.talk known.well_formed i).agree
 
@@ -54,7 +54,7 @@ returns-in-Some-clause-ok c =
     let f = c.index-as_slice-number.result in
     let here = read-via c.args.fronts.now c.as_slice.result.now c.args.number f c.as_slice.ensures c.requires.number c.index-as_slice-number.is ∙ ap (λ (z : Front_data). Some z) c.in-Some.ensures in
     let i = c.requires.found.right c.args.number (lone_front c.in-Some.talk) c.in-Some.talk here (inl refl) in
-    let known = subst IsKnown c.survey.view_is c.survey.invariant in
+    let known = subst IsTrueSurvey c.survey.view_is c.survey.invariant in
     let P : Survey_data → Type 0 = λ z. HasShape z.protocol z.role (c.in-Some.talk ∷ []) c.act_of.result in
     let Q : List ℕ → Type 0 = λ z. Discovers pr role c.args.fronts.now (c.in-Some.talk ∷ []) (merged_choices pr (c.in-Some.talk ∷ [])) c.lone_arms.new.fronts z in
     works-on pr role c.args.fronts.now c.lone_arms.new.fronts c.args.number (lone_front c.in-Some.talk) (c.in-Some.talk ∷ []) c.act_of.result refl here (lone-merges pr role c.in-Some.talk known.well_formed i)

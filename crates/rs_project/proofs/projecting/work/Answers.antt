@@ -3,7 +3,7 @@ use Rattle.rs_model.specs.declared.machines.State.{State}
 use Rattle.std.specs.declared.alloc.Global.{Global}
 use Rattle.rs_model.specs.declared.graph.Role.{Role}
 use Rattle.rs_project.specs.Data.{Front_data}
-use Rattle.rs_project.specs.Marks.{IsKnown, Survey_data}
+use Rattle.rs_project.specs.Marks.{IsTrueSurvey, Survey_data}
 use Rattle.rs_project.specs.Numbered.{IsNumberedProjection}
 use Rattle.rs_project.specs.Working.{Working, WorksOn, StateFault}
 use Rattle.rs_project.specs.Refusals.{FirstRefusal}
@@ -16,7 +16,7 @@ pub loop-marks-init : goal.loop-marks-init
 loop-marks-init c =
     let e : c.add.new.self ≡ c.args.start ∷ [] = search (rules, c.in_ok-add.ensures.ok, c.in_ok-fronts.ensures) in
     let P : List Front_data → List State → Type 0 = λ y z. Working c.args.survey.now.protocol c.args.survey.now.role y z in
-    subst₂ P (sym e) (sym c.in_ok-states.ensures.items) (working-begin c.args.survey.now.protocol c.args.survey.now.role c.args.survey.now c.args.start (subst IsKnown c.survey.view_is c.survey.invariant).survey c.requires.start)
+    subst₂ P (sym e) (sym c.in_ok-states.ensures.items) (working-begin c.args.survey.now.protocol c.args.survey.now.role c.args.survey.now c.args.start (subst IsTrueSurvey c.survey.view_is c.survey.invariant).survey c.requires.start)
 
 pub returns-in_err-state-clause-err : goal.returns-in_err-state-clause-err
 returns-in_err-state-clause-err c =

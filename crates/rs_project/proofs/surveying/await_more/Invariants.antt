@@ -1,7 +1,7 @@
 use Rattle.std.proofs.Common.{◌≡◌, ℕ, ◌<◌, ◌≤◌, true, false, length, Some, slice_get}
 use Rattle.rs_model.specs.declared.graph.Node.{Node}
 use Rattle.rs_model.specs.declared.graph.Role.{Role}
-use Rattle.rs_project.specs.Marks.{AllAwaited, HasFlags, IsOn, leads_on, unmarked}
+use Rattle.rs_project.specs.Marks.{AllAwaited, HasFlags, IsOn, leads_on, count_of_lowered}
 use Rattle.rs_project.proofs.surveying.await_more.Given as goal
 
 abbrev pub invariant-loop-left : goal.invariant-loop-left
@@ -10,7 +10,7 @@ invariant-loop-left l = record {
   size : length l.awaited.items ≡ length l.protocol.nodes;
   sound : (role : Role) → AllAwaited l.protocol role l.fn.awaited.items → AllAwaited l.protocol role l.awaited.items;
   has : HasFlags l.fn.awaited.items l.awaited.items;
-  less : l.more ≡ true → unmarked l.awaited.items < unmarked l.fn.awaited.items;
+  less : l.more ≡ true → count_of_lowered l.awaited.items < count_of_lowered l.fn.awaited.items;
   same : l.more ≡ false → l.awaited.items ≡ l.fn.awaited.items;
   settled : l.more ≡ false → (n : ℕ) (node : Node) → l.left ≤ n → slice_get l.protocol.nodes n ≡ Some node → leads_on l.awaited.items node ≡ true → IsOn l.awaited.items n;
 }

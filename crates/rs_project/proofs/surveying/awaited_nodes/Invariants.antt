@@ -1,6 +1,6 @@
 use Rattle.std.proofs.Common.{◌≡◌, length}
 use Rattle.rs_model.specs.declared.graph.Role.{Role}
-use Rattle.rs_project.specs.Marks.{AllAwaited, HasFlags, unmarked}
+use Rattle.rs_project.specs.Marks.{AllAwaited, HasFlags, count_of_lowered}
 use Rattle.rs_project.proofs.surveying.awaited_nodes.Given as goal
 
 abbrev pub invariant-loop : goal.invariant-loop
@@ -11,4 +11,4 @@ invariant-loop l = record {
 }
 
 abbrev pub decreases-loop : goal.decreases-loop
-decreases-loop l = unmarked l.awaited.items
+decreases-loop l = count_of_lowered l.awaited.items

@@ -6,7 +6,7 @@ use Rattle.rs_slots.specs.declared.parcels.Parcel.{Parcel}
 use Rattle.rs_rings.specs.Acts.{parcels_got}
 use Rattle.rs_rings.specs.Closed.{loose_from, loose_in, sender_of, receiver_of}
 use Rattle.rs_rings.specs.Emptied.{RingHolds}
-use Rattle.rs_rings.specs.Views.{history_in, left_in}
+use Rattle.rs_rings.specs.Views.{history_in, parcels_under_way}
 use Rattle.rs_rings.specs.declared.loose.Loose.{Loose}
 use Rattle.rs_rings.specs.declared.views.View.{View}
 use Rattle.rs_rings.proofs.PassRows.{count_is}
@@ -106,7 +106,7 @@ loop-ring-preserved c =
     let small : p < 16 = (let l = c.requires.roles.1 in omega arith) in
     let k = c.counts-counts.ensures t.0 t.1 in
     let is : c.counts-counts.result.got ≡ length (parcels_got p (history_in v q)) = count_is t.0 t.0.got p c.counts-counts.result.got (length (parcels_got p (history_in v q))) k.2 (t.2.got p small) in
-    let left : List Parcel = left_in v (sender_of n i) (receiver_of n i) in
+    let left : List Parcel = parcels_under_way v (sender_of n i) (receiver_of n i) in
     let told : RingHolds (slots_items c.args.closed.now.slots) cap (ring_of n (sender_of n i) (receiver_of n i) * cap) (length (parcels_got (sender_of n i) (history_in v (receiver_of n i)))) left = c.requires.holds (sender_of n i) (receiver_of n i) pair in
     let got : length (parcels_got (sender_of n i) (history_in v (receiver_of n i))) ≡ c.counts-counts.result.got = sym (is ∙ (λ j. length (parcels_got (e.0 j) (history_in v (e.1 j))))) in
     let base : ring_of n (sender_of n i) (receiver_of n i) * cap ≡ b = ap (λ (z : ℕ). z * cap) pr.1 in

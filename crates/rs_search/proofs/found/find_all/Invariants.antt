@@ -1,7 +1,7 @@
 use Rattle.std.proofs.Common.{◌≡◌, ℕ, ◌<◌, ◌≤◌, ◌-◌, ◌^◌, [], length, map, slice_index_or, take}
 use Rattle.std.specs.List.{list_any}
 use Rattle.rs_search.specs.Buckets.{bucket_of}
-use Rattle.rs_search.specs.Candidates.{begin}
+use Rattle.rs_search.specs.Candidates.{start_spot}
 use Rattle.rs_graph.specs.Discovery.{Growing}
 use Rattle.rs_search.specs.Index.{AreChained}
 use Rattle.rs_search.specs.Turns.{is_any, is_choosing, is_cut, is_keeping}
@@ -9,7 +9,7 @@ use Rattle.rs_search.specs.Turns.{nexts_within}
 use Rattle.rs_search.proofs.found.find_all.Given as goal
 
 abbrev pub invariant-loop-alloc : goal.invariant-loop-alloc
-invariant-loop-alloc l = Growing (nexts_within l.sub l.above l.bound) (begin l.sub l.above) l.points.items l.rows.items × (length l.points.items ≤ l.limit)
+invariant-loop-alloc l = Growing (nexts_within l.sub l.above l.bound) (start_spot l.sub l.above) l.points.items l.rows.items × (length l.points.items ≤ l.limit)
     × ((0 < length l.index.heads.items) × (length l.index.heads.items < 2 ^ 32)) × AreChained (bucket_of (length l.index.heads.items)) l.points.items l.index.heads.items l.index.links.items
     × (l.anys.items ≡ map (is_any l.sub l.above l.bound) (take (length l.rows.items) l.points.items))
     × (l.keeps.items ≡ map (is_keeping l.sub l.above l.bound) (take (length l.rows.items) l.points.items))

@@ -1,5 +1,5 @@
 use Rattle.std.proofs.Common.{Option, subst, sym, IfOk, IfSome, OnErr}
-use Rattle.rs_derive.specs.Rules.{Fits}
+use Rattle.rs_derive.specs.Rules.{RuleFits}
 use Rattle.rs_derive.specs.declared.rules.Rule.{Rule}
 use Rattle.rs_search.specs.Itself.{AreNamed, AreNamedAt, GrowsBy}
 use Rattle.rs_search.specs.Turns.{spots_by}
@@ -12,7 +12,7 @@ returns-in-None-clause-named c = λ p h.
     (rw c.new-none.ensures (named_none c.args.found.now.items))
 
 pub name_by-requires-clause-fits : goal.name_by-requires-clause-fits
-name_by-requires-clause-fits c = λ p e. subst (λ (r : Option Rule). IfSome r (λ z. Fits p.pending c.args.arms.now c.args.theirs.now z)) c.in-Some.is (c.requires.fits p e)
+name_by-requires-clause-fits c = λ p e. subst (λ (r : Option Rule). IfSome r (λ z. RuleFits p.pending c.args.arms.now c.args.theirs.now z)) c.in-Some.is (c.requires.fits p e)
 
 pub returns-in-Some-clause-named : goal.returns-in-Some-clause-named
 returns-in-Some-clause-named c =

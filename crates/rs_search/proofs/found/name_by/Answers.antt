@@ -1,7 +1,7 @@
 use Rattle.std.proofs.Common.{List, subst, sym, map, IfOk, OnErr}
 use Rattle.std.proofs.lemmas.Result.{IfOk-weaker, on_err_weaker}
 use Rattle.rs_derive.specs.Moves.{Spot, owing_receive, owing_send}
-use Rattle.rs_derive.specs.Rules.{Fits, nexts_by}
+use Rattle.rs_derive.specs.Rules.{RuleFits, nexts_by}
 use Rattle.rs_derive.specs.declared.rules.Rule.{Rule}
 use Rattle.rs_derive.specs.declared.rules.Rule.TheVariants.{Guesses, Follows}
 use Rattle.rs_graph.specs.Discovery.{Grown}
@@ -17,7 +17,7 @@ returns-in-Stops-clause-named c = λ p h.
     (rw c.new-none.ensures (named_none c.args.found.now.items))
 
 pub name_paid-requires-clause-owed : goal.name_paid-requires-clause-owed
-name_paid-requires-clause-owed c = λ p e. subst (λ (r : Rule). Fits p.pending c.args.arms.now c.args.theirs.now r) c.in-Pays.is (c.requires.fits p e)
+name_paid-requires-clause-owed c = λ p e. subst (λ (r : Rule). RuleFits p.pending c.args.arms.now c.args.theirs.now r) c.in-Pays.is (c.requires.fits p e)
 
 pub returns-in-Pays-clause-named : goal.returns-in-Pays-clause-named
 returns-in-Pays-clause-named c =

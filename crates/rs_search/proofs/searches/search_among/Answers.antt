@@ -9,7 +9,7 @@ use Rattle.rs_graph.specs.Unranked.{Unranks}
 use Rattle.rs_graph.specs.Walks.{IsLeastOnCycle, IsRank}
 use Rattle.rs_graph.specs.declared.ranks.RankFault.{RankFault}
 use Rattle.rs_graph.specs.declared.ranks.RankFault.TheVariants.{OnCycle}
-use Rattle.rs_search.specs.Canonical.{IsFound, IsForgets}
+use Rattle.rs_search.specs.Canonical.{IsCanonical, IsForgets}
 use Rattle.rs_search.specs.Turns.{is_keeping}
 use Rattle.rs_search.proofs.Assembled.{all_within, forgets, is_found, kept_few, kept_within, length-map, next_few, nexts_few, same_kept, same_nodes, unranked, unranked_are}
 use Rattle.rs_search.proofs.Costing.{whole_cost}
@@ -108,7 +108,7 @@ returns-in-Ok-nodes_of-clause-ok g c =
           c.as_slice-points.ensures.value c.as_slice-items.ensures.value c.as_slice-nexts.ensures.value c.as_slice-3.ensures.value c.in-Ok-nodes_of.ensures;
     }) c.in-Ok-kept_of.kept.items a in
     let r' = subst (λ (rows : List (List ℕ)). (i : ℕ) → IsRank (Edge rows) i (slice_index_or c.in-Ok-rank_rows.ranks.items i 0)) c.as_slice-2.ensures.value r in
-    subst (λ (q : Role). IsFound c.args.sub.now c.args.above.now c.args.bound (record { role = q; bound = c.args.bound; nodes = c.in-Ok-nodes_of.nodes.items })) (sym (ap (λ (m : Machine_data). m.role) c.sub.view_is)) (w r')
+    subst (λ (q : Role). IsCanonical c.args.sub.now c.args.above.now c.args.bound (record { role = q; bound = c.args.bound; nodes = c.in-Ok-nodes_of.nodes.items })) (sym (ap (λ (m : Machine_data). m.role) c.sub.view_is)) (w r')
 
 pub returns-in-Err-OnCycle-clause-cost : goal.returns-in-Err-OnCycle-clause-cost
 returns-in-Err-OnCycle-clause-cost g c =

@@ -1,6 +1,6 @@
 use Rattle.std.proofs.Common.{arith, ◌<◌, List, ℕ, Bool, length, subst, ◌∙◌}
 use Rattle.rs_graph.specs.Built.{IsBuilt}
-use Rattle.rs_search.specs.Candidates.{begin}
+use Rattle.rs_search.specs.Candidates.{start_spot}
 use Rattle.rs_search.specs.Turns.{nexts_within}
 use Rattle.rs_graph.proofs.Growth.{at_short}
 use Rattle.rs_graph.proofs.Removed.{index_at}
@@ -12,7 +12,7 @@ pub graph_of-requires-clause-few : goal.graph_of-requires-clause-few
 graph_of-requires-clause-few g c = λ n. rw c.as_slice-2.ensures.value (few_rows c.args.found.rows.items c.requires.short n)
 
 pub graph_of-requires-clause-within : goal.graph_of-requires-clause-within
-graph_of-requires-clause-within g c = rw c.as_slice-2.ensures.value (rows_within (nexts_within c.args.sub.now c.args.above.now c.args.bound) (begin c.args.sub.now c.args.above.now) c.args.found.points.items c.args.found.rows.items c.requires.found)
+graph_of-requires-clause-within g c = rw c.as_slice-2.ensures.value (rows_within (nexts_within c.args.sub.now c.args.above.now c.args.bound) (start_spot c.args.sub.now c.args.above.now) c.args.found.points.items c.args.found.rows.items c.requires.found)
 
 pub remove-requires-clause-few : goal.remove-requires-clause-few
 remove-requires-clause-few g c = λ n. moves_few c.as_slice.result.now c.as_slice-2.result.now c.in-Ok.graph 4294967296 c.in-Ok.ensures (omega arith)
@@ -22,7 +22,7 @@ pub returns-then-index-moves-clause-err : goal.returns-then-index-moves-clause-e
 returns-then-index-moves-clause-err g c =
     let b1 : IsBuilt c.args.found.anys.items c.as_slice-2.result.now (length c.as_slice-2.result.now) c.in-Ok.graph = subst (λ (z : List Bool). IsBuilt z c.as_slice-2.result.now (length c.as_slice-2.result.now) c.in-Ok.graph) c.as_slice.ensures.value c.in-Ok.ensures in
     let b2 : IsBuilt c.args.found.anys.items c.args.found.rows.items (length c.args.found.rows.items) c.in-Ok.graph = subst (λ (z : List (List ℕ)). IsBuilt c.args.found.anys.items z (length z) c.in-Ok.graph) c.as_slice-2.ensures.value b1 in
-    let f = at_short c.args.found.points.items 0 (begin c.args.sub.now c.args.above.now) c.requires.found.first in
+    let f = at_short c.args.found.points.items 0 (start_spot c.args.sub.now c.args.above.now) c.requires.found.first in
     let some : 0 < length c.in-Ok-remove.left.current.items = (let a = c.in-Ok-remove.ensures.removal.size in let b = b2.size in let d = c.requires.found.all in omega arith) in
     not_found c.args.sub.now c.args.above.now c.args.bound c.args.found.points.items c.args.found.rows.items c.args.found.anys.items c.in-Ok.graph c.in-Ok-remove.left.current.items c.in-Ok-remove.left.order.items c.args.found.cut
     c.requires.found c.requires.few c.requires.anys c.requires.cut b2 c.in-Ok-remove.ensures.removal (index_at c.in-Ok-remove.left.current.items 0 c.index.result.now some c.index.ensures ∙ c.if-index-moves.true ∙ c.moves.ensures)

@@ -9,14 +9,14 @@ use Rattle.rs_answers.specs.Derivations.{AreCanonical}
 use Rattle.rs_answers.proofs.Derivings.{one_each, ready_session}
 use Rattle.rs_answers.proofs.Derivings as derivings
 use Rattle.rs_answers.specs.Sessions.{first_refusal}
-use Rattle.rs_documents.specs.Reading.{IsReady}
+use Rattle.rs_documents.specs.Reading.{DocumentIsReady}
 use Rattle.rs_documents.proofs.SpeltSessions.{IsSpeltSession}
 use Rattle.rs_wellformed.specs.Faults.{first_fault}
 use Rattle.rs_answers.proofs.EachRole.{chosen_small_by}
 use Rattle.uses.proofs.session.session_of.Goals as goal
 
 -- the session of a document that was read
-session_by : (d now : Document_data) (ps : List Projection_data) (ms : List Machine_data) → d ≡ now → IsReady now → length now.names.roles ≡ now.protocol.roles → first_fault d.protocol ≡ None → AreNumberedProjections d.protocol ps
+session_by : (d now : Document_data) (ps : List Projection_data) (ms : List Machine_data) → d ≡ now → DocumentIsReady now → length now.names.roles ≡ now.protocol.roles → first_fault d.protocol ≡ None → AreNumberedProjections d.protocol ps
     → ms ≡ machines_of d.machines ps → first_refusal d.protocol.roles ms ≡ None → IsSession d.protocol ps ms
 session_by d now ps ms is ready roles none h e fine = derivings.session_of d ps ms (subst IsSpeltSession (sym is) (ready_session now ready roles)) none h e fine
 

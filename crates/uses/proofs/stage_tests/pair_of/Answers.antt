@@ -3,7 +3,7 @@ use Rattle.std.proofs.lemmas.Option.{slice_get_within}
 use Rattle.rs_core.specs.Actors.{Choice}
 use Rattle.rs_rings.specs.Passes.{Rings_data}
 use Rattle.rs_session.specs.Acts.{SendsBy}
-use Rattle.rs_session.specs.Stages.{AreFirst, IsOf, shown}
+use Rattle.rs_session.specs.Stages.{AreFirst, IsOf, sight_of_stage}
 use Rattle.rs_session.specs.declared.stages.Stage.{Stage}
 use Rattle.rs_session.proofs.HandedIn.{at_end, in_front}
 use Rattle.rs_exec.specs.Data.{Task_data}
@@ -12,7 +12,7 @@ use Rattle.uses.proofs.stage_tests.pair_of.Goals as goal
 
 record IsNew (session : Rings_data) (stage : Stage) : Type 0 where
   pub of : IsOf session stage
-  pub nothing : (shown stage).part.history ≡ []
+  pub nothing : (sight_of_stage stage).part.history ≡ []
 
 new_at : (session : Rings_data) (stages : List Stage) (place : ℕ) (stage : Stage) → AreFirst session stages → slice_get stages place ≡ Some stage → IsNew session stage
 new_at session stages place stage first is =
@@ -32,7 +32,7 @@ next_new session stages rest front a b first is was =
 task_is : {A : Type 0} (session : Rings_data) (stage : Stage) (task : Task_data A) → IsOf session stage → task.stage ≡ stage → task.kept ≡ None → IsTaskOf session task
 task_is session stage task of is none = record {
   of = subst (IsOf session) (sym is) of;
-  keeps = subst (λ (k : Option Choice). IfSome k (λ choice. SendsBy session (shown task.stage) choice.0 choice.1)) (sym none) tt;
+  keeps = subst (λ (k : Option Choice). IfSome k (λ choice. SendsBy session (sight_of_stage task.stage) choice.0 choice.1)) (sym none) tt;
 }
 
 pub task_of-requires : goal.task_of-requires

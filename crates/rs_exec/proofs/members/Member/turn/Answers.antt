@@ -5,7 +5,7 @@ use Rattle.rs_model.specs.declared.machines.State.TheVariants.{Done, Puts, Takes
 use Rattle.rs_core.specs.Configurations.{state_of}
 use Rattle.rs_core.specs.Turns.{TurnTells}
 use Rattle.rs_rings.specs.Views.{state_in}
-use Rattle.rs_exec.specs.Members.{core_of, player_of, turned_by}
+use Rattle.rs_exec.specs.Members.{core_of, player_of, turn_kind_of}
 use Rattle.rs_exec.specs.declared.members.Went.{Went}
 use Rattle.rs_exec.proofs.MembersTurns.{if_ok, stands_at}
 use Rattle.rs_exec.proofs.Together.{state_is}

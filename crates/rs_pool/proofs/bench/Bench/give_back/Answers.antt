@@ -1,7 +1,7 @@
 use Rattle.std.proofs.Common.{rules, ◌≡◌, [], ◌∷◌, Some, None, sym, ap, ◌∙◌, subst}
 use Rattle.atomic_table.specs.Table.{rest}
 use Rattle.rs_pool.specs.Rule.{amount_in, word_of}
-use Rattle.rs_pool.specs.Jobs.{Fits, Over}
+use Rattle.rs_pool.specs.Jobs.{JobFits, Over}
 use Rattle.rs_pool.proofs.Acts.{gives_back, home_word}
 use Rattle.rs_pool.proofs.bench.Bench.give_back.Goals as goal
 
@@ -9,7 +9,7 @@ pub store-requires : goal.store-requires
 store-requires g c = let e = c.exchange.ensures in let v = c.args.desk.now.me.0 in let same : c.exchange.new.seat.me.0 ≡ v = ap (λ m. m.0) e.3 in (
   search rules,
   search rules,
-  gives_back (Fits g.A.Actor.behaviour g.N.StartName.start) Over c.args.self.now.board.shared.key.roles c.args.self.now.board.shared.key.shares _ _ c.args.role _ c.exchange.new.seat.me c.args.job []
+  gives_back (JobFits g.A.Actor.behaviour g.N.StartName.start) Over c.args.self.now.board.shared.key.roles c.args.self.now.board.shared.key.shares _ _ c.args.role _ c.exchange.new.seat.me c.args.job []
       (ap (λ m. m.1) e.3 ∙ (λ i. (c.args.role, Some c.args.job) ∷ rest (c.requires.holds.1 i)))
       (ap (λ u. u.held) same ∙ c.requires.holds.0)
       c.requires.fits

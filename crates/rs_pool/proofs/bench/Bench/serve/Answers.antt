@@ -1,5 +1,5 @@
 use Rattle.std.proofs.Common.{subst}
-use Rattle.rs_exec.specs.Tasks.{IsTaskOf, TurnTells}
+use Rattle.rs_exec.specs.Tasks.{IsTaskOf, TaskTurnTells}
 use Rattle.rs_rings.specs.Passes.{Rings_data}
 use Rattle.rs_pool.proofs.Turned.{turned}
 use Rattle.rs_pool.proofs.bench.Bench.serve.Goals as goal
@@ -8,4 +8,4 @@ pub settle-requires-clause-fits : goal.settle-requires-clause-fits
 settle-requires-clause-fits g c =
     let b = g.A.Actor.behaviour in let old = c.in-Some.job in let new = c.turn-turn.new.self in let t = c.turn-turn.result in
     turned b g.N.StartName.start c.args.role t old new c.in-Some.ensures.claimed.0 (subst (λ (s : Rings_data). IsTaskOf s new.task) c.requires.session c.turn-turn.ensures.of)
-    (subst (λ (s : Rings_data). TurnTells s b old.task new.task t) c.requires.session c.turn-turn.ensures.tells) c.turn-turn.ensures.progress
+    (subst (λ (s : Rings_data). TaskTurnTells s b old.task new.task t) c.requires.session c.turn-turn.ensures.tells) c.turn-turn.ensures.progress

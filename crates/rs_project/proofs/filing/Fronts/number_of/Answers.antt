@@ -2,7 +2,7 @@ use Rattle.std.proofs.Common.{◌≡◌, ℕ, List, get_or, MatchOption, Some, s
 use Rattle.std.proofs.lemmas.List.{get_or_default}
 use Rattle.rs_project.specs.Data.{Front_data}
 use Rattle.rs_project.specs.Filing.{IsChained, bucket_on}
-use Rattle.rs_project.specs.Working.{IsNew}
+use Rattle.rs_project.specs.Working.{FrontIsNew}
 use Rattle.rs_project.proofs.Buckets.{looked-all}
 use Rattle.rs_project.proofs.filing.Fronts.number_of.Goals as goal
 
@@ -15,7 +15,7 @@ returns c =
     c.index-head.ensures
     ∙ get_or_default c.self.inside.heads.items c.bucket_of.result c.index-head.result.now 0 (omega (arith, size, lt))
     ∙ ap (λ (z : ℕ). get_or c.self.inside.heads.items z 0) b in
-    let P : List Front_data → Type 0 = λ z. MatchOption c.number_along.result (IsNew z c.args.front.now) (λ n. slice_get z n ≡ Some c.args.front.now) in
+    let P : List Front_data → Type 0 = λ z. MatchOption c.number_along.result (FrontIsNew z c.args.front.now) (λ n. slice_get z n ≡ Some c.args.front.now) in
     let Q : List Front_data → Type 0 = λ z. MatchOption c.number_along.result ((n : ℕ) → IsChained c.deref-3.result.now c.index-head.result.now n → slice_get z n ≡ Some c.args.front.now → ⊥) (λ n. slice_get z n ≡ Some c.args.front.now) in
     let R : List ℕ → Type 0 = λ z. MatchOption c.number_along.result ((n : ℕ) → IsChained z c.index-head.result.now n → slice_get c.self.inside.items.items n ≡ Some c.args.front.now → ⊥) (λ n. slice_get c.self.inside.items.items n ≡ Some c.args.front.now) in
     subst P c.self.view_is

@@ -1,11 +1,11 @@
 use Rattle.std.proofs.Common.{◌≡◌, ◌+◌, length, sym, subst, ◌∙◌}
-use Rattle.rs_project.specs.Marks.{Marks_data, Walking, unmarked}
+use Rattle.rs_project.specs.Marks.{Marks_data, Walking, count_of_lowered}
 use Rattle.rs_project.proofs.Walks.{mark-owed, walk-before, walk-now}
 use Rattle.rs_project.proofs.spreading.Marks.mark.Goals as goal
 
 pub returns-in_ok-add-clause-owed : goal.returns-in_ok-add-clause-owed
 returns-in_ok-add-clause-owed c =
-    let P : Marks_data → Type 0 = λ z. unmarked z.flags + length z.numbers ≡ unmarked c.args.self.now.flags + length c.args.self.now.numbers in
+    let P : Marks_data → Type 0 = λ z. count_of_lowered z.flags + length z.numbers ≡ count_of_lowered c.args.self.now.flags + length c.args.self.now.numbers in
     subst P (sym c.in_ok-add.ensures) (mark-owed c.args.self.now c.args.number c.requires (sym c.has.ensures ∙ c.if-not-has.true))
 
 pub returns-in_ok-add-clause-keeps : goal.returns-in_ok-add-clause-keeps

@@ -1,5 +1,5 @@
 use Rattle.std.proofs.Common.{◌≡◌, ◌+◌, ◌-◌, [], length}
-use Rattle.rs_project.specs.Marks.{Walking, unmarked}
+use Rattle.rs_project.specs.Marks.{Walking, count_of_lowered}
 use Rattle.rs_project.proofs.spreading.Marks.spread.Given as goal
 
 abbrev pub invariant-loop-done : goal.invariant-loop-done
@@ -9,4 +9,4 @@ invariant-loop-done l = record {
 }
 
 abbrev pub decreases-loop-done : goal.decreases-loop-done
-decreases-loop-done l = unmarked l.self.flags + length l.self.numbers - l.done
+decreases-loop-done l = count_of_lowered l.self.flags + length l.self.numbers - l.done

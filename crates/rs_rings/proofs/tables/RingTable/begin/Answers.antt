@@ -3,7 +3,7 @@ use Rattle.atomic_table.specs.Table.{opening}
 use Rattle.rs_slots.specs.Places.{ring_count}
 use Rattle.rs_slots.specs.declared.parcels.Parcel.{Parcel}
 use Rattle.rs_rings.specs.declared.views.Key.{Key}
-use Rattle.rs_rings.specs.Rule.{Shows, first_view}
+use Rattle.rs_rings.specs.Rule.{RingsShow, first_view}
 use Rattle.rs_rings.proofs.Seats.{begins}
 use Rattle.rs_rings.proofs.tables.RingTable.begin.Goals as goal
 
@@ -12,5 +12,5 @@ vacant-requires c = let n : ℕ = c.len-roles.result in let key : Key = record {
     let laid = c.new-layout.ensures in
     let e : c.as_slice.result.now ≡ replicate words 0 = c.as_slice.ensures.value ∙ c.in_ok-words.ensures.items_if_clones_equal (λ y p. p) in
     let many : length c.args.machines.items ≡ n = search rules in
-    subst (λ (ws : List ℕ). Shows key (opening ws (replicate {A = Option Parcel} count None) (first_view key))) (sym e)
+    subst (λ (ws : List ℕ). RingsShow key (opening ws (replicate {A = Option Parcel} count None) (first_view key))) (sym e)
     (begins key words count c.requires.capacity.0 many c.requires.safe c.requires.well_formed (c.words.ensures ∙ ap (λ (z : ℕ). 2 * ring_count z) laid.0) (c.slots.ensures ∙ (λ i. ring_count (laid.0 i) * laid.1 i)))

@@ -6,7 +6,7 @@ use Rattle.rs_slots.specs.declared.parcels.Parcel.{Parcel}
 use Rattle.rs_rings.specs.Acts.{parcels_got}
 use Rattle.rs_rings.specs.Places.{place_of}
 use Rattle.rs_rings.specs.Steps.{HasFittingArm}
-use Rattle.rs_rings.specs.Views.{the_part, with_part, looked_tail, taking, KnowsOldest}
+use Rattle.rs_rings.specs.Views.{the_part, with_part, part_with_parcel, taking, KnowsOldest}
 use Rattle.rs_rings.proofs.Parts.{the_role}
 use Rattle.rs_rings.proofs.StepsAsked.{tail_asks, tail_loaded, after, took, took_some}
 use Rattle.rs_rings.proofs.tables.RingTable.look_as.Goals as goal
@@ -33,7 +33,7 @@ returns-then-seen-got-clause-looked g c =
     let role = the_role q v.parts says in (
       c.if-seen-got.true,
       t.0,
-      after q (looked_tail p r a) v c.load-seen.new.seat.me says role (t.3 (sym is ∙ sym c.if-seen-got.true) ∙ (λ i. (with_part q (looked_tail p r a) v, c.requires.idle.1 i))),
+      after q (part_with_parcel p r a) v c.load-seen.new.seat.me says role (t.3 (sym is ∙ sym c.if-seen-got.true) ∙ (λ i. (with_part q (part_with_parcel p r a) v, c.requires.idle.1 i))),
       t.5,
     )
 

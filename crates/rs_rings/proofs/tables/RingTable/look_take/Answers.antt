@@ -3,7 +3,7 @@ use Rattle.rs_rings.specs.declared.views.Part.{Part}
 use Rattle.rs_model.specs.declared.graph.Arm.{Arm}
 use Rattle.rs_model.specs.declared.machines.State.TheVariants.{Takes}
 use Rattle.rs_model.specs.Data.{Machine_data}
-use Rattle.rs_rings.specs.Acts.{parcels_got, MayTake, Happened, numbered, got_act}
+use Rattle.rs_rings.specs.Acts.{parcels_got, MayTake, Happened, role_of_number, got_act}
 use Rattle.rs_rings.specs.Rule.{machines_of}
 use Rattle.rs_rings.specs.Told.{IsAfter}
 use Rattle.rs_rings.specs.Views.{the_part, speaks, taking, getting}
@@ -49,7 +49,7 @@ give-requires-clause-may c =
     let role = the_role q v.parts c.requires.speaks in
     let here : the_part q u.0.parts ≡ y = ap (λ m. the_part q m.0.parts) told.3 ∙ the_put_here q y v.parts role c.requires.speaks in
     let arms : List Arm = c.arms_of-arms.result.now in
-    let st : state_of (slice_get ms q) a.state ≡ Some (Takes (numbered p) arms) = ap (λ (s : ℕ). state_of (slice_get ms q) s) (sym c.requires.state.0) ∙ stands_from (state_of (slice_get ms q) c.args.state) p arms c.requires.state.1 c.arms_of-arms.ensures in
+    let st : state_of (slice_get ms q) a.state ≡ Some (Takes (role_of_number p) arms) = ap (λ (s : ℕ). state_of (slice_get ms q) s) (sym c.requires.state.0) ∙ stands_from (state_of (slice_get ms q) c.args.state) p arms c.requires.state.1 c.arms_of-arms.ensures in
     let may : MayTake ms q p a.state c.in-Found.parcel c.next_of-next.result = may_take ms p q a.state c.in-Found.parcel c.next_of-next.result arms st told.2 c.next_of-next.ensures in
     subst (λ (z : Part). MayTake ms q p z.state c.in-Found.parcel c.next_of-next.result) (sym here) may
 
@@ -79,7 +79,7 @@ returns-in-Found-clause-taken c =
     let role = the_role q v.parts c.requires.speaks in
     let here : the_part q u.0.parts ≡ y = ap (λ m. the_part q m.0.parts) told.3 ∙ the_put_here q y v.parts role c.requires.speaks in
     let arms : List Arm = c.arms_of-arms.result.now in
-    let st : state_of (slice_get ms q) a.state ≡ Some (Takes (numbered p) arms) = ap (λ (s : ℕ). state_of (slice_get ms q) s) (sym c.requires.state.0) ∙ stands_from (state_of (slice_get ms q) c.args.state) p arms c.requires.state.1 c.arms_of-arms.ensures in
+    let st : state_of (slice_get ms q) a.state ≡ Some (Takes (role_of_number p) arms) = ap (λ (s : ℕ). state_of (slice_get ms q) s) (sym c.requires.state.0) ∙ stands_from (state_of (slice_get ms q) c.args.state) p arms c.requires.state.1 c.arms_of-arms.ensures in
     let may : MayTake ms q p a.state c.in-Found.parcel c.next_of-next.result = may_take ms p q a.state c.in-Found.parcel c.next_of-next.result arms st told.2 c.next_of-next.ensures in (
       c.in-Found.seen,
       told.0,

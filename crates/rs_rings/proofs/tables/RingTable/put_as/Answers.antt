@@ -5,7 +5,7 @@ use Rattle.rs_rings.specs.declared.views.Part.{Part}
 use Rattle.rs_rings.specs.Acts.{parcels_sent, MayPut}
 use Rattle.rs_rings.specs.Places.{place_of}
 use Rattle.rs_rings.specs.Rule.{machines_of}
-use Rattle.rs_rings.specs.Views.{the_part, with_part, looked_head, gaining}
+use Rattle.rs_rings.specs.Views.{the_part, with_part, part_with_room, gaining}
 use Rattle.rs_rings.proofs.Parts.{the_role, speaks_put, the_put_here}
 use Rattle.rs_rings.proofs.StepsAsked.{head_asks, store_asks, head_loaded, put_done, after}
 use Rattle.rs_rings.proofs.tables.RingTable.put_as.Goals as goal
@@ -25,7 +25,7 @@ returns-then-sent-taken-clause-done g c = let k = c.args.self.now.keyed in let p
       full,
       refl,
       t.0,
-      after p (looked_head q r a) v c.load-taken.new.seat.me c.requires.speaks (the_role p v.parts c.requires.speaks) (t.3 (sym is ∙ full) ∙ (λ i. (with_part p (looked_head q r a) v, c.requires.idle.1 i))),
+      after p (part_with_room q r a) v c.load-taken.new.seat.me c.requires.speaks (the_role p v.parts c.requires.speaks) (t.3 (sym is ∙ full) ∙ (λ i. (with_part p (part_with_room q r a) v, c.requires.idle.1 i))),
       t.5,
     )
 

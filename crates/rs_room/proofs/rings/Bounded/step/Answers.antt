@@ -1,8 +1,8 @@
 use Rattle.std.proofs.Common.{rules, ◌+◌, ◌≡◌, ◌<◌, ◌^◌, ◌∙◌, List, None, length, ap, subst, sym, ℕ}
 use Rattle.rs_core.specs.Configurations.{role_of}
 use Rattle.rs_core.specs.Core.{configuration_of}
-use Rattle.rs_room.specs.Counts.{counted}
-use Rattle.rs_room.specs.Looks.{full_ring, taking}
+use Rattle.rs_room.specs.Counts.{counts_behind}
+use Rattle.rs_room.specs.Looks.{full_ring, pair_of_receive}
 use Rattle.rs_room.specs.Rings.{Bounded_data, CountsStep, HasSteppedWithin, IsRingSession}
 use Rattle.rs_room.proofs.Stepping.{counts, is-bounded, stays-session}
 use Rattle.rs_room.proofs.rings.Bounded.step.Goals as goal
@@ -10,8 +10,8 @@ use Rattle.rs_room.proofs.rings.Bounded.step.Goals as goal
 pub invariant_of-self : goal.invariant_of-self
 invariant_of-self c =
     let b : Bounded_data = record { core = c.self.inside.core; capacity = c.self.inside.capacity; room = c.self.inside.room; steps = c.self.inside.steps; taken = c.self.inside.taken } in
-    let table : c.count.new.self ≡ counted b.taken (taking b c.args.event) =
-    c.count.ensures ∙ ap (counted b.taken) (c.taking-taking.ensures ∙ ap (λ (z : Bounded_data). taking z c.args.event) (sym c.self.view_is)) in
+    let table : c.count.new.self ≡ counts_behind b.taken (pair_of_receive b c.args.event) =
+    c.count.ensures ∙ ap (counts_behind b.taken) (c.taking-taking.ensures ∙ ap (λ (z : Bounded_data). pair_of_receive z c.args.event) (sym c.self.view_is)) in
     let R : Bounded_data → Type 0 = λ z. role_of c.args.event < length z.core.machines in
     let F : Bounded_data → Type 0 = λ z. z.steps < 2 ^ 63 in
     let N : Bounded_data → Type 0 = λ z. full_ring z c.args.event ≡ None in
@@ -31,8 +31,8 @@ returns-in-Ok-clause-step c =
 pub returns-in-Ok-clause-counts : goal.returns-in-Ok-clause-counts
 returns-in-Ok-clause-counts c =
     let b : Bounded_data = record { core = c.self.inside.core; capacity = c.self.inside.capacity; room = c.self.inside.room; steps = c.self.inside.steps; taken = c.self.inside.taken } in
-    let table : c.count.new.self ≡ counted b.taken (taking b c.args.event) =
-    c.count.ensures ∙ ap (counted b.taken) (c.taking-taking.ensures ∙ ap (λ (z : Bounded_data). taking z c.args.event) (sym c.self.view_is)) in
+    let table : c.count.new.self ≡ counts_behind b.taken (pair_of_receive b c.args.event) =
+    c.count.ensures ∙ ap (counts_behind b.taken) (c.taking-taking.ensures ∙ ap (λ (z : Bounded_data). pair_of_receive z c.args.event) (sym c.self.view_is)) in
     let R : Bounded_data → Type 0 = λ z. role_of c.args.event < length z.core.machines in
     let F : Bounded_data → Type 0 = λ z. z.steps < 2 ^ 63 in
     let P : Bounded_data → Type 0 = λ z. CountsStep z c.args.event record { core = c.step.new.self; capacity = b.capacity; room = b.room; steps = b.steps + 1; taken = c.count.new.self } in

@@ -1,5 +1,5 @@
 use Rattle.std.proofs.Common.{◌≡◌, ◌+◌, ◌-◌, length, ap, ◌∙◌, arith}
-use Rattle.rs_session.specs.Stages.{first_stage, shown}
+use Rattle.rs_session.specs.Stages.{first_stage, sight_of_stage}
 use Rattle.rs_session.proofs.Beginning.{all_begun, all_first, begun_more, rest_first}
 use Rattle.rs_session.proofs.sessions.Session.first_stages.Goals as goal
 
@@ -28,6 +28,6 @@ pub returns : goal.returns
 returns c =
     let i = c.loop-number.invariant in
     let last : c.args.count - 1 ≡ c.loop-number.number = omega (arith, c.loop-number-test.false, c.loop-number.auto.number-end) in
-    let first : shown c.first-2.result ≡ first_stage c.args.self.now c.loop-number.number = c.first-2.ensures.first ∙ ap (first_stage c.args.self.now) last in
+    let first : sight_of_stage c.first-2.result ≡ first_stage c.args.self.now c.loop-number.number = c.first-2.ensures.first ∙ ap (first_stage c.args.self.now) last in
     let more = begun_more c.args.self.now c.loop-number.number c.loop-number.stages.items c.push_stage-2.new.stages.items c.first-2.result record { count = i.count; each = i.each } c.first-2.ensures.of first c.push_stage-2.ensures.items in
     all_begun c.args.self.now (c.loop-number.number + 1) c.push_stage-2.new.stages.items more (omega (arith, last, c.requires.count, c.requires.some))
