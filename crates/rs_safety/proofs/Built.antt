@@ -9,7 +9,7 @@ use Rattle.rs_model.specs.declared.graph.Node.{Node}
 use Rattle.rs_model.specs.declared.graph.Node.TheVariants.{Finished, Talk}
 use Rattle.rs_model.specs.declared.graph.Role.{Role}
 use Rattle.rs_model.specs.declared.machines.State.TheVariants.{Done}
-use Rattle.rs_wellformed.specs.Faults.{Talks}
+use Rattle.rs_model.specs.Talks.{Talks}
 use Rattle.rs_wellformed.specs.WellFormed.{IsWellFormed}
 use Rattle.rs_core.specs.Configurations.{Configuration, StartsAt}
 use Rattle.rs_core.specs.Safety.{IsSafe}

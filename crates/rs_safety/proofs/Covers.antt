@@ -12,7 +12,7 @@ use Rattle.rs_model.specs.declared.graph.Node.TheVariants.{Talk}
 use Rattle.rs_model.specs.declared.graph.Role.{Role}
 use Rattle.rs_model.specs.declared.machines.State.{State}
 use Rattle.rs_model.specs.declared.machines.State.TheVariants.{Done, Puts, Takes}
-use Rattle.rs_wellformed.specs.Faults.{Talks}
+use Rattle.rs_model.specs.Talks.{Talks}
 use Rattle.rs_project.specs.Data.{Projection_data}
 use Rattle.rs_project.specs.Graph.{LeadsTo, Involves, IsIdle, MeetsFirst, MeetsTheEnd}
 use Rattle.rs_project.specs.Projection.{IsSet, LabelChoice, choice_of, choices_of, HaveSameChoices, HaveSameSorts, Agree, BothSend, BothReceive, first_choices, merged_choices, MeetsBehind, EndsBehind, IsStateOf, IsDone, IsPuts, IsTakes, IsProjection}

@@ -9,7 +9,7 @@ use Rattle.rs_model.specs.declared.graph.Role.{Role}
 use Rattle.rs_model.specs.declared.machines.State.{State}
 use Rattle.rs_model.specs.declared.machines.State.TheVariants.{Done, Puts, Takes}
 use Rattle.rs_model.specs.declared.values.Sort.{Sort}
-use Rattle.rs_wellformed.specs.Faults.{Talks}
+use Rattle.rs_model.specs.Talks.{Talks}
 use Rattle.rs_core.proofs.Items.{Item, Give, Get, Entry, sends, recvs, sends-append, recvs-append, Ordered}
 use Rattle.rs_core.proofs.Parts.{StraightTalk, own, own-sender, own-receiver, own-other}
 use Rattle.rs_core.proofs.Stands.{Trace}

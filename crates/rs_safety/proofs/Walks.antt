@@ -3,7 +3,7 @@ use Rattle.std.proofs.Common.{◌≡◌, ◌≢◌, inl, inr, ℕ, List, [], ◌
 use Rattle.rs_model.specs.Data.{Protocol_data}
 use Rattle.rs_model.specs.declared.graph.Arm.{Arm}
 use Rattle.rs_model.specs.declared.graph.Role.{Role}
-use Rattle.rs_wellformed.specs.Faults.{Talks}
+use Rattle.rs_model.specs.Talks.{Talks}
 use Rattle.rs_project.specs.Graph.{PathStep, LeadsTo, IsPath, IsReachedFrom, Involves, IsIdle, PassesBy, AllPassBy}
 pub use Rattle.rs_project.proofs.Spread.{path-snoc, step_of}
 

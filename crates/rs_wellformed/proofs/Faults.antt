@@ -13,7 +13,8 @@ use Rattle.rs_model.specs.declared.graph.Node.TheVariants.{Finished, Talk}
 use Rattle.rs_model.specs.declared.graph.Role.{Role}
 use Rattle.rs_wellformed.proofs.Order.{in_order}
 use Rattle.rs_wellformed.specs.Checks.{self_fault, count_fault, next_fault, talk_fault, node_fault, nodes_fault, root_fault, protocol_fault}
-use Rattle.rs_wellformed.specs.Faults.{Talks, LeadsOut, Blames, first_fault}
+use Rattle.rs_model.specs.Talks.{Talks}
+use Rattle.rs_wellformed.specs.Faults.{LeadsOut, Blames, first_fault}
 use Rattle.rs_wellformed.specs.WellFormed.{TalkFits, IsWellFormed}
 use Rattle.rs_wellformed.specs.declared.checks.WfFault.{WfFault}
 use Rattle.rs_wellformed.specs.declared.checks.WfFault.TheVariants.{SelfTalk, NoArms, TooManyArms, TwiceLabel, BadNext}

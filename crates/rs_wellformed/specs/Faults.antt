@@ -4,6 +4,7 @@ use Rattle.rs_model.specs.declared.limits.TheConstants.{MOST_ARMS}
 use Rattle.rs_model.specs.FirstFailed.{Test, first_failed, label_tests, next_tests}
 use Rattle.rs_model.specs.Data.{Protocol_data}
 use Rattle.rs_model.specs.Faults.{StandsTwice}
+use Rattle.rs_model.specs.Talks.{Talks}
 use Rattle.rs_model.specs.declared.graph.Arm.{Arm}
 use Rattle.rs_model.specs.declared.graph.Node.{Node}
 use Rattle.rs_model.specs.declared.graph.Node.TheVariants.{Finished, Talk}
@@ -44,10 +45,6 @@ tests_of p =
 -- the fault of the first test that the protocol doesn't pass
 unfoldable pub first_fault : Protocol_data → Option WfFault
 first_fault p = first_failed (tests_of p)
-
--- node n is a talk from the sender to the receiver with these arms
-abbrev pub Talks : Protocol_data → ℕ → Role → Role → List Arm → Type 0
-Talks p n sender receiver arms = slice_get p.nodes n ≡ Some (Talk sender receiver arms)
 
 -- an arm leads to none of so many nodes
 pub record LeadsOut (count : ℕ) (arms : List Arm) : Type 0 where
