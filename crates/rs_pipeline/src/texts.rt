@@ -51,28 +51,31 @@ fn push_values(text: &mut Text, count: u32) -> Result<(), NoMemory>
     Ok(())
 }
 
-/// Appends a round, among roles of which this is the last one.
-fn push_round(text: &mut Text, last: u32) -> Result<(), NoMemory>
-    ensures { OnOk result (text.new ≡ text.old ++ spec.round_text last) }
+/// A round, among roles of which this is the last one.
+fn round_text(alloc: Global, last: u32) -> Result<Text, NoMemory>
+    ensures { IfOk result (λ text. text ≡ spec.round_text last) }
 {
-    push_values(text, last)?;
-    push_role(text, last)?;
-    text.push(b"->R0:ack(). ")
+    let mut text = Text::new(alloc);
+    push_values(&mut text, last)?;
+    push_role(&mut text, last)?;
+    text.push(b"->R0:ack(). ")?;
+    Ok(text)
 }
 
-/// Appends so many rounds.
+/// Appends so many rounds, each the same.
 #[tactic(auto, using(crate::proofs::Pieces::one_round_more))]
-fn push_rounds(text: &mut Text, last: u32, count: u32) -> Result<(), NoMemory>
+fn push_rounds(alloc: Global, text: &mut Text, last: u32, count: u32) -> Result<(), NoMemory>
     ensures { OnOk result (text.new ≡ text.old ++ spec.rounds_text last count) }
 {
+    let round = round_text(alloc, last)?;
     for _ in 0..count {
-        push_round(text, last)?;
+        text.push(round.as_slice())?;
     }
     Ok(())
 }
 
 /// Appends the roles line and the protocol.
-fn push_protocol(text: &mut Text, pipeline: Pipeline) -> Result<(), NoMemory>
+fn push_protocol(alloc: Global, text: &mut Text, pipeline: Pipeline) -> Result<(), NoMemory>
     requires { 2 ≤ pipeline.roles }
     ensures { OnOk result (text.new ≡ text.old ++ spec.pipeline_protocol pipeline) }
 {
@@ -80,7 +83,7 @@ fn push_protocol(text: &mut Text, pipeline: Pipeline) -> Result<(), NoMemory>
     text.push(b"roles R0")?;
     push_more_names(text, last)?;
     text.push(b"\nprotocol rec X0. ")?;
-    push_rounds(text, last, pipeline.rounds)?;
+    push_rounds(alloc, text, last, pipeline.rounds)?;
     text.push(b"X0\n")
 }
 
@@ -133,7 +136,7 @@ pub fn pipeline_text(alloc: Global, pipeline: Pipeline) -> Result<Text, NoMemory
     ensures { IfOk result (λ text. text ≡ spec.pipeline_text pipeline) }
 {
     let mut text = Text::new(alloc);
-    push_protocol(&mut text, pipeline)?;
+    push_protocol(alloc, &mut text, pipeline)?;
     if pipeline.ahead > 0 {
         push_machine(&mut text, pipeline)?;
     }
