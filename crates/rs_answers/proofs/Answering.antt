@@ -16,6 +16,7 @@ use Rattle.rs_answers.specs.Derivations.{AreCanonical, IsUnderivable}
 use Rattle.rs_wellformed.specs.Faults.{first_fault}
 use Rattle.rs_wellformed.specs.declared.checks.WfFault.{WfFault}
 use Rattle.rs_answers.specs.declared.verdicts.Verdict.TheVariants as verdict
+use Rattle.rs_answers.proofs.CheckParts.{refused_row}
 use Rattle.rs_answers.specs.Checks as checks
 use Rattle.rs_answers.specs.Checks.{Checks, with_derivations}
 use Rattle.rs_documents.specs.Data.{Document_data}
@@ -51,7 +52,7 @@ pub refused : (bound : ℕ) (asked : Bool) (d : Document_data) (why : Refusal) (
     → IfOk r (λ a. why ≡ refusal.NoMemory → ⊥) → IfOk r (Checks bound asked d)
 refused bound asked d why (Err e) h is never = tt
 refused bound asked d why (Ok m) (inl memory) is never = absurd (never memory)
-refused bound asked d why (Ok m) (inr h) is never = checks.IsRefused why h is
+refused bound asked d why (Ok m) (inr h) is never = refused_row bound asked d m why h is
 
 pub accepted : (bound : ℕ) (d : Document_data) (ps : List Projection_data) (ms : List Machine_data) (ds : List Derivation_data) (r : Result Answer_data NoMemory) → HasMachines d ps ms → AreCanonical bound ms ps ds
     → IfOk r (λ a. a ≡ report d.names.roles ds) → IfOk r (Checks bound false d)

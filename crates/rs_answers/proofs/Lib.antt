@@ -1,5 +1,6 @@
 pub mod EachRole
 pub mod Derivings
+pub mod CheckParts
 pub mod Answering
 pub mod Outcomes
 pub mod Verified

@@ -2,11 +2,6 @@
 use Rattle.std.proofs.Common.{◌≡◌, ℕ, List, [], Bool, true, false, Option, Some, None, sym, ◌∙◌, subst}
 use Rattle.std.specs.Prelude.{IfSome}
 use Rattle.rs_core.specs.Safety.{IsSafe}
-use Rattle.rs_project.specs.declared.projecting.ProjFault.{ProjFault}
-use Rattle.rs_project.specs.declared.projecting.ProjFault.TheVariants as proj
-use Rattle.rs_model.specs.declared.graph.Role.{Role}
-use Rattle.rs_search.specs.declared.faults.SearchFault.{SearchFault}
-use Rattle.rs_search.specs.declared.faults.SearchFault.TheVariants as search
 use Rattle.rs_answers.proofs.Derivings.{canonical_safe, session_of}
 use Rattle.rs_documents.proofs.SpeltSessions.{spelt_session}
 use Rattle.rs_answers.specs.Verifying as verifying
@@ -14,9 +9,6 @@ use Rattle.rs_answers.specs.Verifying.{Verifies}
 use Rattle.rs_answers.proofs.Verified.{verified_safe}
 use Rattle.rs_documents.proofs.Spelt.{one_place_each, spelt_machines}
 use Rattle.rs_text.specs.declared.faults.TextKind.{TextKind}
-use Rattle.rs_text.specs.declared.faults.TextKind.TheVariants as kind
-use Rattle.rs_wellformed.specs.declared.checks.WfFault.{WfFault}
-use Rattle.rs_wellformed.specs.declared.checks.WfFault.TheVariants as wf
 use Rattle.rs_tool.specs.Statuses.{status_of}
 use Rattle.rs_rings.specs.Closed.{Closed_data}
 use Rattle.rs_tool.specs.declared.statuses.Status.{Status}
@@ -24,17 +16,20 @@ use Rattle.rs_tool.specs.declared.statuses.Status.TheVariants as status
 use Rattle.rs_pipeline.specs.Pipelines.{pipeline_text, pipeline_of}
 use Rattle.rs_tool.specs.Answers.{Answers, SpellsNothing, CarriesOut, AnswersText, IsTooLong, IsFaulty, IsDocument, AnswersDocument, AnswersTask, ReadsDocument, RunsDemo, MakesPipeline}
 use Rattle.rs_tool.specs.Calls.{ForInput, Tells, TellsAll, TellsPart, TellsReadFault, TellsNoMemory}
-use Rattle.rs_answers.specs.Checks.{Checks, IsRefused, IsAccepted}
+use Rattle.rs_answers.proofs.RunSessions.{IsRefusing, fault-refuses, refusal-refuses}
+use Rattle.rs_answers.specs.declared.verdicts.Verdict.{Verdict}
+use Rattle.rs_answers.specs.declared.verdicts.Verdict.TheVariants as verdict
+use Rattle.rs_answers.proofs.CheckParts.{Accepted, CheckParts, Refused, check_parts}
+use Rattle.rs_answers.specs.Checks.{Checks}
 use Rattle.rs_documents.specs.Data.{Document_data}
 use Rattle.rs_answers.specs.Data.{Answer_data}
-use Rattle.rs_answers.specs.RefusalTexts.{fault_answer, wf_answer, proj_answer, search_answer}
+use Rattle.rs_answers.specs.RefusalTexts.{fault_answer}
 use Rattle.rs_answers.specs.Derivations.{AreCanonical}
 use Rattle.rs_documents.specs.Documents.{SpellsDocument}
 use Rattle.rs_answers.specs.Refusals.{refusal_answer}
 use Rattle.rs_answers.specs.Sessions.{HasMachines}
 use Rattle.rs_words.specs.declared.limits.TheConstants.{DEFAULT_BOUND}
 use Rattle.rs_answers.specs.declared.refusals.Refusal.{Refusal}
-use Rattle.rs_answers.specs.declared.refusals.Refusal.TheVariants as refusal
 use Rattle.rs_derive.specs.Data.{Derivation_data}
 use Rattle.rs_model.specs.Data.{Machine_data, Names_data}
 use Rattle.rs_project.specs.Data.{Projection_data}
@@ -58,46 +53,22 @@ IsNoRun a = IsOfRun (status_of a.verdict) → ⊥
 pub no-run : (a b : Answer_data) → a ≡ b → IsNoRun b → IsNoRun a
 no-run a b e h = subst IsNoRun (sym e) h
 
+refusing-is-no-run : (v : Verdict) → IsRefusing v → IsOfRun (status_of v) → ⊥
+refusing-is-no-run verdict.Fine h e = h
+refusing-is-no-run verdict.Refused h e = e
+refusing-is-no-run verdict.Usage h e = e
+refusing-is-no-run verdict.Malformed h e = e
+refusing-is-no-run verdict.Unprojectable h e = e
+refusing-is-no-run verdict.TooLarge h e = e
+refusing-is-no-run verdict.Stopped h e = h
+refusing-is-no-run verdict.Full h e = e
+refusing-is-no-run verdict.RoomTooSmall h e = e
+
 pub fault-is-no-run : (bytes : List ℕ) (k : TextKind) (at : ℕ) → IsNoRun (fault_answer bytes k at)
-fault-is-no-run bytes (kind.Expected w) at e = e
-fault-is-no-run bytes kind.UnknownRole at e = e
-fault-is-no-run bytes kind.UnboundName at e = e
-fault-is-no-run bytes kind.NameTwice at e = e
-fault-is-no-run bytes kind.TooDeep at e = e
-fault-is-no-run bytes kind.TooManyRoles at e = e
-fault-is-no-run bytes kind.TooManyNodes at e = e
-fault-is-no-run bytes kind.NoMemory at e = e
-fault-is-no-run bytes kind.Unguarded at e = e
-fault-is-no-run bytes kind.TooManyLabels at e = e
-fault-is-no-run bytes kind.BadByte at e = e
-fault-is-no-run bytes kind.NumberTooLarge at e = e
-fault-is-no-run bytes kind.NameTooLong at e = e
-
-wf-is-no-run : (names : Names_data) (f : WfFault) → IsNoRun (wf_answer names f)
-wf-is-no-run names (wf.SelfTalk n) e = e
-wf-is-no-run names (wf.NoArms n) e = e
-wf-is-no-run names (wf.TooManyArms n) e = e
-wf-is-no-run names (wf.TwiceLabel n l) e = e
-wf-is-no-run names (wf.BadNext n) e = e
-
-proj-is-no-run : (names : Names_data) (f : ProjFault) → IsNoRun (proj_answer names f)
-proj-is-no-run names (proj.Unmergeable r a b) e = e
-proj-is-no-run names (proj.Unreached r n) e = e
-proj-is-no-run names (proj.TooManyStates r) e = e
-proj-is-no-run names proj.NoMemory e = e
-
-search-is-no-run : (names : Names_data) (role : Role) (f : SearchFault) → IsNoRun (search_answer names role f)
-search-is-no-run names role (search.NotFound cut) e = e
-search-is-no-run names role (search.Forgets n) e = e
-search-is-no-run names role search.TooLarge e = e
-search-is-no-run names role search.NoMemory e = e
+fault-is-no-run bytes k at = refusing-is-no-run ((fault_answer bytes k at).verdict) (fault-refuses bytes k at)
 
 pub refusal-is-no-run : (names : Names_data) (r : Refusal) → IsNoRun (refusal_answer names r)
-refusal-is-no-run names (refusal.IllFormed f) e = wf-is-no-run names f e
-refusal-is-no-run names (refusal.Unprojectable f) e = proj-is-no-run names f e
-refusal-is-no-run names (refusal.IllMachine role f) e = e
-refusal-is-no-run names (refusal.Underivable u) e = search-is-no-run names u.role u.fault e
-refusal-is-no-run names refusal.NoMemory e = e
+refusal-is-no-run names r = refusing-is-no-run ((refusal_answer names r).verdict) (refusal-refuses names r)
 
 -- machines that have derivations are safe
 pub derived-is-safe : (bound : ℕ) (bytes : List ℕ) (d : Document_data) (projections : List Projection_data) (machines : List Machine_data) (derivations : List Derivation_data) → SpellsDocument bytes d → HasMachines d projections machines
@@ -117,9 +88,12 @@ derived-is-safe bound bytes d projections machines derivations doc h found =
       safe = subst IsSafe h.machines_are (canonical_safe bound d.protocol projections machines derivations session found);
     }
 
+part-is-safe : (bound : ℕ) (asked : Bool) (bytes : List ℕ) (d : Document_data) (a : Answer_data) → SpellsDocument bytes d → CheckParts bound asked d a → IsOfRun (status_of a.verdict) → SpellsSafeMachines bytes
+part-is-safe bound asked bytes d a doc (Refused r h is) run = absurd (no-run a _ is (refusal-is-no-run d.names r) run)
+part-is-safe bound asked bytes d a doc (Accepted projections machines derivations h found is) run = derived-is-safe bound bytes d projections machines derivations doc h found
+
 checked-is-safe : (bound : ℕ) (asked : Bool) (bytes : List ℕ) (d : Document_data) (a : Answer_data) → SpellsDocument bytes d → Checks bound asked d a → IsOfRun (status_of a.verdict) → SpellsSafeMachines bytes
-checked-is-safe bound asked bytes d a doc (IsRefused r h is) run = absurd (no-run a _ is (refusal-is-no-run d.names r) run)
-checked-is-safe bound asked bytes d a doc (IsAccepted projections machines derivations h found is) run = derived-is-safe bound bytes d projections machines derivations doc h found
+checked-is-safe bound asked bytes d a doc checks = part-is-safe bound asked bytes d a doc (check_parts bound asked d a checks)
 
 run-is-safe : (options : RunOptions) (bytes : List ℕ) (d : Document_data) (a : Answer_data) → SpellsDocument bytes d → Runs options d a → IsOfRun (status_of a.verdict) → SpellsSafeMachines bytes
 run-is-safe options bytes d a doc (runs.IsRefused r h is) run = absurd (no-run a _ is (refusal-is-no-run d.names r) run)

@@ -22,6 +22,7 @@ use Rattle.rs_demos.specs.declared.kinds.Demo.{Demo}
 use Rattle.rs_words.specs.declared.tasks.Task.{Task}
 use Rattle.rs_words.specs.declared.tasks.Task.TheVariants as task
 use Rattle.rs_tool.specs.Answers.{Answers, SpellsNothing, CarriesOut, AnswersText, IsTooLong, IsFaulty, IsDocument, AnswersDocument, AnswersTask, AnswersData, DataIsTooLong, DataIsShort, ReadsDocument, RunsDemo, MakesPipeline}
+use Rattle.rs_answers.proofs.CheckParts.{refused_row}
 use Rattle.rs_answers.specs.Checks as checks
 use Rattle.rs_answers.specs.Checks.{TellsAccepted}
 use Rattle.rs_documents.specs.Data.{Document_data}
@@ -96,7 +97,7 @@ some_telling false bytes d derivations doc = (report d.names.roles derivations, 
 some_telling true bytes d derivations doc = let s = shown_with bytes d (map Some derivations) doc in (s.0, s.1, s.1.fine)
 
 checked : (bound : ℕ) (asked : Bool) (bytes : List ℕ) (d : Document_data) → SpellsDocument bytes d → Prepared bound d → Some_for (task.Check bound asked) d
-checked bound asked bytes d doc (NotSo why h) = record { answer = refusal_answer d.names why; answers = checks.IsRefused why h refl }
+checked bound asked bytes d doc (NotSo why h) = record { answer = refusal_answer d.names why; answers = refused_row bound asked d (refusal_answer d.names why) why h refl }
 checked bound asked bytes d doc (Derived projections machines derivations h found) =
     let t = some_telling asked bytes d derivations doc in
     record { answer = t.0; answers = checks.IsAccepted projections machines derivations h found t.1 }

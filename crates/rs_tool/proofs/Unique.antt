@@ -18,7 +18,8 @@ use Rattle.rs_demos.specs.declared.kinds.Demo.{Demo}
 use Rattle.rs_words.specs.declared.tasks.Task.{Task}
 use Rattle.rs_words.specs.declared.tasks.Task.TheVariants as task
 use Rattle.rs_tool.specs.Answers.{Answers, SpellsNothing, CarriesOut, AnswersText, IsTooLong, IsFaulty, IsDocument, AnswersDocument, AnswersPipeline, AnswersTask, AnswersData, DataIsTooLong, DataIsShort, ReadsDocument, RunsDemo, MakesPipeline}
-use Rattle.rs_answers.specs.Checks.{Checks, IsRefused, IsAccepted, TellsAccepted, with_derivations}
+use Rattle.rs_answers.proofs.CheckParts.{Accepted, CheckParts, Refused, check_parts}
+use Rattle.rs_answers.specs.Checks.{Checks, TellsAccepted, with_derivations}
 use Rattle.rs_documents.specs.Data.{Document_data}
 use Rattle.rs_answers.specs.Data.{Answer_data}
 use Rattle.rs_documents.specs.Documents.{SpellsDocument}
@@ -77,13 +78,16 @@ one_telling : (asked : Bool) (bytes : List ℕ) (d : Document_data) (ds : List D
 one_telling false bytes d ds a b doc x y = x ∙ sym y
 one_telling true bytes d ds a b doc x y = let r = role_names bytes d doc in one_shown (with_derivations d ds) a b r.3 r.2 x y
 
-one_check : (bound : ℕ) (asked : Bool) (bytes : List ℕ) (d : Document_data) (a b : Answer_data) → SpellsDocument bytes d → Checks bound asked d a → Checks bound asked d b → a ≡ b
-one_check bound asked bytes d a b doc (IsRefused r h x) (IsRefused s k y) = x ∙ ap (refusal_answer d.names) (one_refusal bound d r s h k) ∙ sym y
-one_check bound asked bytes d a b doc (IsRefused r h x) (IsAccepted ps ms ds k f y) = absurd (not_refused bound d ps ms ds r k f h)
-one_check bound asked bytes d a b doc (IsAccepted ps ms ds h f x) (IsRefused s k y) = absurd (not_refused bound d ps ms ds s h f k)
-one_check bound asked bytes d a b doc (IsAccepted ps ms ds h f x) (IsAccepted qs ns es k g y) =
+one_part : (bound : ℕ) (asked : Bool) (bytes : List ℕ) (d : Document_data) (a b : Answer_data) → SpellsDocument bytes d → CheckParts bound asked d a → CheckParts bound asked d b → a ≡ b
+one_part bound asked bytes d a b doc (Refused r h x) (Refused s k y) = x ∙ ap (refusal_answer d.names) (one_refusal bound d r s h k) ∙ sym y
+one_part bound asked bytes d a b doc (Refused r h x) (Accepted ps ms ds k f y) = absurd (not_refused bound d ps ms ds r k f h)
+one_part bound asked bytes d a b doc (Accepted ps ms ds h f x) (Refused s k y) = absurd (not_refused bound d ps ms ds s h f k)
+one_part bound asked bytes d a b doc (Accepted ps ms ds h f x) (Accepted qs ns es k g y) =
     let P : List Derivation_data → Type 0 = λ z. TellsAccepted asked d z a in
     one_telling asked bytes d es a b doc (subst P (one_session_derived bound d ps qs ms ns ds es h k f g) x) y
+
+one_check : (bound : ℕ) (asked : Bool) (bytes : List ℕ) (d : Document_data) (a b : Answer_data) → SpellsDocument bytes d → Checks bound asked d a → Checks bound asked d b → a ≡ b
+one_check bound asked bytes d a b doc h k = one_part bound asked bytes d a b doc (check_parts bound asked d a h) (check_parts bound asked d b k)
 
 -- there is one answer ..
 same_blame : (d : Document_data) (ps qs : List Projection_data) (ms ns : List Machine_data) → HasMachines d ps ms → HasMachines d qs ns → first_blame 0 d.derivations ms ps ≡ first_blame 0 d.derivations ns qs
