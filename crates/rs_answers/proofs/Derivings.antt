@@ -30,6 +30,7 @@ use Rattle.rs_documents.specs.Reading.{AreInPlace, DocumentIsReady}
 use Rattle.rs_answers.specs.Sessions.{HasMachines, MachineRefusal, first_refusal, refusal_or}
 use Rattle.rs_answers.specs.Machines.{machine_or, machines_of}
 use Rattle.rs_documents.proofs.SpeltSessions.{IsSpeltSession}
+use Rattle.rs_answers.proofs.EachRole.{last_or_before}
 
 -- where no machine is refused each is well formed
 later_fit : (o : Option MachineFault) (role : Role) (later : Option MachineRefusal) → refusal_or o role later ≡ None → (o ≡ None) × (later ≡ None)
@@ -101,15 +102,6 @@ session_has d ps ms ready roles h = session_of d ps ms (ready_session d ready ro
 -- no role is there yet
 pub none_canonical : (bound : ℕ) (ms : List Machine_data) (ps : List Projection_data) → AreFirstCanonical bound ms ps 0 []
 none_canonical bound ms ps = record { many = refl; each = λ p m j d hm hj hd. absurd (cc (hd)) }
-
-last_or_before : (xs : List Derivation_data) (y : Derivation_data) (q : ℕ) (x : Derivation_data) → slice_get (xs ++ y ∷ []) q ≡ Some x → (slice_get xs q ≡ Some x) ⊎ ((q ≡ length xs) × (y ≡ x))
-last_or_before [] y zero x e = inr (refl, cc)
-last_or_before [] y (suc q) x e = absurd cc
-last_or_before (z ∷ zs) y zero x e = inl e
-last_or_before (z ∷ zs) y (suc q) x e = elim (last_or_before zs y q x e) [
-  | inl before ↦ inl before
-  | inr last ↦ inr (ap suc last.0, last.1)
-]
 
 -- one role more
 pub next_canonical : (bound : ℕ) (ms : List Machine_data) (ps : List Projection_data) (count : ℕ) (ds : List Derivation_data) (m : Machine_data) (j : Projection_data) (d : Derivation_data) → AreFirstCanonical bound ms ps count ds

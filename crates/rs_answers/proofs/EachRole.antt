@@ -12,7 +12,7 @@ use Rattle.rs_documents.specs.Data.{Document_data}
 use Rattle.rs_documents.specs.Reading.{AreShort, DocumentIsReady}
 use Rattle.rs_answers.specs.Sessions.{Refuses, machine_or, machines_of}
 
-last_or_before : (xs : List Projection_data) (y : Projection_data) (q : ℕ) (x : Projection_data) → slice_get (xs ++ y ∷ []) q ≡ Some x → (slice_get xs q ≡ Some x) ⊎ ((q ≡ length xs) × (y ≡ x))
+pub last_or_before : {A : Type 0} (xs : List A) (y : A) (q : ℕ) (x : A) → slice_get (xs ++ y ∷ []) q ≡ Some x → (slice_get xs q ≡ Some x) ⊎ ((q ≡ length xs) × (y ≡ x))
 last_or_before [] y zero x e = inr (refl, cc)
 last_or_before [] y (suc q) x e = absurd cc
 last_or_before (z ∷ zs) y zero x e = inl e

@@ -1,7 +1,8 @@
 -- A document has one session and one list of derivations, or one reason why it has none.
-use Rattle.std.proofs.Common.{◌≡◌, ℕ, zero, suc, ◌≤◌, ◌<◌, Option, None, arith, List, [], ◌∷◌, Some, length, refl, sym, ap, subst, ◌∙◌, inl, inr, slice_get}
+use Rattle.std.proofs.Common.{◌≡◌, ℕ, suc, ◌≤◌, ◌<◌, Option, None, arith, List, [], ◌∷◌, Some, length, refl, sym, ap, subst, ◌∙◌, inl, inr, slice_get}
 use Rattle.std.proofs.lemmas.Bool.Decides.{leb_tells}
 use Rattle.std.proofs.lemmas.Option.{slice_get_within, same_Some}
+use Rattle.rs_model.proofs.Lists.{item_at}
 use Rattle.rs_model.specs.Data.{Protocol_data, Machine_data}
 use Rattle.rs_model.specs.declared.graph.Role.{Role}
 use Rattle.rs_project.specs.Data.{Projection_data}
@@ -35,16 +36,11 @@ pub one_list : (protocol : Protocol_data) (xs ys : List Projection_data) → IsW
 one_list protocol xs ys w h k =
     same_list xs ys (h.many ∙ sym k.many) (λ p x y e f. one-projection protocol (record { 0 = p }) x y w (h.each p x e) (k.each p y f))
 
-get_some : {A : Type 0} (xs : List A) (k : ℕ) → k < length xs → (x : A) × (slice_get xs k ≡ Some x)
-get_some [] k lt = absurd (omega arith)
-get_some (x ∷ xs) zero lt = (x, refl)
-get_some (x ∷ xs) (suc k) lt = get_some xs k (omega arith)
-
 -- a role onto which there is a projection isn't one onto which there is none
 not_earlier : (protocol : Protocol_data) (role : Role) (count : ℕ) (projections : List Projection_data) (fault : ProjFault) → IsWellFormed protocol → AreFirstProjections protocol count projections → role.0 < count → IsUnprojectable protocol role fault → ⊥
 not_earlier protocol role count projections fault w h lt u =
     let m = h.many in
-    let x = get_some projections role.0 (omega arith) in
+    let x = item_at projections role.0 (omega arith) in
     not-both protocol role x.0 fault (h.each role.0 x.0 x.1) u.refused
 
 same_role : (a b : Role) → a.0 ≡ b.0 → a ≡ b
@@ -108,7 +104,7 @@ same_session d ps qs ms ns h k =
 derived_before : (bound : ℕ) (ms : List Machine_data) (ps : List Projection_data) (count : ℕ) (ds : List Derivation_data) (role : Role) (fault : SearchFault) → AreFirstCanonical bound ms ps count ds → role.0 < count → IsUnderivable bound ms ps role fault → ⊥
 derived_before bound ms ps count ds role fault h lt u =
     let many = h.many in
-    let d = get_some ds role.0 (omega (arith, many, lt)) in
+    let d = item_at ds role.0 (omega (arith, many, lt)) in
     let found = h.each role.0 u.machine u.projection d.0 u.runs u.projects d.1 in
     u.cause (not_both_ways u.machine u.projection.machine bound d.0 fault found u.refused)
 
@@ -140,8 +136,8 @@ one_derived bound ms ps ds es few h k =
     same_list ds es (h.many ∙ sym k.many) (λ p d e hd he.
     let within = slice_get_within ds p d hd in
     let many = h.many in
-    let m = get_some ms p (omega (arith, within, many)) in
-    let j = get_some ps p (omega (arith, within, many, few)) in
+    let m = item_at ms p (omega (arith, within, many)) in
+    let j = item_at ps p (omega (arith, within, many, few)) in
     searched.one_answer m.0 j.0.machine bound d e (h.each p m.0 j.0 d m.1 j.1 hd) (k.each p m.0 j.0 e m.1 j.1 he))
 
 few_machines : (own : List (Option Machine_data)) (ps : List Projection_data) → length (machines_of own ps) ≤ length ps

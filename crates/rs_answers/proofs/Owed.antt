@@ -20,7 +20,7 @@ pub data IsActOf (m : Machine_data) : Act → Type 0 where
 abbrev pub AreActsOf : Machine_data → List Act → Type 0
 AreActsOf m acts = (a : Act) → Among acts a → IsActOf m a
 
-in-parts : (xs ys : List Act) (a : Act) → Among (xs ++ ys) a → Among xs a ⊎ Among ys a
+pub in-parts : (xs ys : List Act) (a : Act) → Among (xs ++ ys) a → Among xs a ⊎ Among ys a
 in-parts [] ys a h = inr h
 in-parts (x ∷ xs) ys a (inl e) = inl (inl e)
 in-parts (x ∷ xs) ys a (inr h) = elim (in-parts xs ys a h) [ inl l ↦ inl (inr l) | inr r ↦ inr r ]

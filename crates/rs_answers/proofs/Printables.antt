@@ -1,5 +1,5 @@
 -- The derivations that are found for a session can be printed with the names of its document.
-use Rattle.std.proofs.Common.{◌≡◌, ◌⊎◌, inl, inr, ℕ, zero, suc, ◌<◌, ◌≤◌, List, [], ◌∷◌, ◌++◌, length, map, Bool, true, false, ◌||◌, eqb, cond, Some, get_or, slice_get, refl, sym, ap, ◌∙◌, subst, arith}
+use Rattle.std.proofs.Common.{◌≡◌, ◌⊎◌, inl, inr, ℕ, zero, suc, ◌<◌, ◌≤◌, List, [], ◌∷◌, length, map, Bool, true, false, ◌||◌, eqb, cond, Some, get_or, slice_get, refl, sym, ap, ◌∙◌, subst, arith}
 use Rattle.std.proofs.lemmas.Bool.{eqb-true}
 use Rattle.std.proofs.lemmas.List.Elements.{All-cons, All-nil}
 use Rattle.std.proofs.lemmas.Map.Keys.{IsDistinct-cons}
@@ -41,7 +41,7 @@ use Rattle.rs_answers.specs.Checks.{with_derivations}
 use Rattle.rs_answers.specs.Derivations.{AreCanonical, IsSearchBound}
 use Rattle.rs_answers.specs.Sessions.{HasMachines}
 use Rattle.rs_answers.proofs.Derivings.{found_at, session_has}
-use Rattle.rs_answers.proofs.Owed.{IsActOf, Sends, Receives, owed_acts}
+use Rattle.rs_answers.proofs.Owed.{IsActOf, in-parts, Sends, Receives, owed_acts}
 
 -- the peer and the label of the act have names
 record IsNamed (names : Names_data) (a : Act) : Type 0 where
@@ -100,11 +100,6 @@ act-named names pr role j enough is w _ (Receives s place peer arms arm there at
 all_of : {X : Type 0} (P : X → Type 0) (xs : List X) → ((x : X) → Among xs x → P x) → All P xs
 all_of P [] h = All-nil P
 all_of P (x ∷ xs) h = All-cons P x xs (h x (inl refl)) (all_of P xs (λ y k. h y (inr k)))
-
-in-parts : (xs ys : List Act) (a : Act) → Among (xs ++ ys) a → Among xs a ⊎ Among ys a
-in-parts [] ys a h = inr h
-in-parts (x ∷ xs) ys a (inl e) = inl (inl e)
-in-parts (x ∷ xs) ys a (inr h) = elim (in-parts xs ys a h) [ inl l ↦ inl (inr l) | inr r ↦ inr r ]
 
 -- an act of a derivation is owed at a node
 owed-at : (nodes : List DNode_data) (a : Act) → Among (flat_map (λ (n : DNode_data). n.pending) nodes) a → (n : DNode_data) × Among nodes n × Among n.pending a

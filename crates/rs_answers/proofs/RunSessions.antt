@@ -104,28 +104,28 @@ IsAlone a = HasCome a.verdict → ⊥
 pub alone : (a b : Answer_data) → a ≡ b → IsAlone b → IsAlone a
 alone a b e h = subst IsAlone (sym e) h
 
-pub fault-is-alone : (bytes : List ℕ) (k : TextKind) (at : ℕ) → IsAlone (fault_answer bytes k at)
-fault-is-alone bytes (kind.Expected w) at e = e
-fault-is-alone bytes kind.UnknownRole at e = e
-fault-is-alone bytes kind.UnboundName at e = e
-fault-is-alone bytes kind.NameTwice at e = e
-fault-is-alone bytes kind.TooDeep at e = e
-fault-is-alone bytes kind.TooManyRoles at e = e
-fault-is-alone bytes kind.TooManyNodes at e = e
-fault-is-alone bytes kind.NoMemory at e = e
-fault-is-alone bytes kind.Unguarded at e = e
-fault-is-alone bytes kind.TooManyLabels at e = e
-fault-is-alone bytes kind.BadByte at e = e
-fault-is-alone bytes kind.NumberTooLarge at e = e
-fault-is-alone bytes kind.NameTooLong at e = e
-
--- what says that a document is refused
+-- what says that a text or a document is refused
 abbrev pub IsRefusing : Verdict → Type 0
 IsRefusing verdict.Refused = Unit {0}
 IsRefusing verdict.Malformed = Unit {0}
 IsRefusing verdict.Unprojectable = Unit {0}
 IsRefusing verdict.TooLarge = Unit {0}
 IsRefusing other = ⊥
+
+pub fault-refuses : (bytes : List ℕ) (k : TextKind) (at : ℕ) → IsRefusing ((fault_answer bytes k at).verdict)
+fault-refuses bytes (kind.Expected w) at = tt
+fault-refuses bytes kind.UnknownRole at = tt
+fault-refuses bytes kind.UnboundName at = tt
+fault-refuses bytes kind.NameTwice at = tt
+fault-refuses bytes kind.TooDeep at = tt
+fault-refuses bytes kind.TooManyRoles at = tt
+fault-refuses bytes kind.TooManyNodes at = tt
+fault-refuses bytes kind.NoMemory at = tt
+fault-refuses bytes kind.Unguarded at = tt
+fault-refuses bytes kind.TooManyLabels at = tt
+fault-refuses bytes kind.BadByte at = tt
+fault-refuses bytes kind.NumberTooLarge at = tt
+fault-refuses bytes kind.NameTooLong at = tt
 
 wf-refuses : (names : Names_data) (f : WfFault) → IsRefusing ((wf_answer names f).verdict)
 wf-refuses names (wf.SelfTalk n) = tt
@@ -164,6 +164,9 @@ refusing-is-alone verdict.TooLarge h e = e
 refusing-is-alone verdict.Stopped h e = h
 refusing-is-alone verdict.Full h e = e
 refusing-is-alone verdict.RoomTooSmall h e = e
+
+pub fault-is-alone : (bytes : List ℕ) (k : TextKind) (at : ℕ) → IsAlone (fault_answer bytes k at)
+fault-is-alone bytes k at = refusing-is-alone ((fault_answer bytes k at).verdict) (fault-refuses bytes k at)
 
 pub refusal-is-alone : (names : Names_data) (r : Refusal) → IsAlone (refusal_answer names r)
 refusal-is-alone names r = refusing-is-alone ((refusal_answer names r).verdict) (refusal-refuses names r)

@@ -3,6 +3,7 @@ use Rattle.std.proofs.Common.{Result, ◌≡◌, ◌≢◌, ◌⊎◌, inl, inr,
 use Rattle.std.proofs.lemmas.Bool.Decides.{eqb_tells}
 use Rattle.std.proofs.lemmas.Bool.{cases_lt}
 use Rattle.std.proofs.lemmas.List.{get_or-set_same, get_or-set_other, length-set, get_or-replicate, length-replicate, length-map}
+use Rattle.rs_model.proofs.Lists.{item_at}
 use Rattle.rs_model.specs.Data.{Machine_data}
 use Rattle.rs_model.specs.Sorts.{fits, HasSort}
 use Rattle.rs_model.specs.declared.graph.Arm.{Arm}
@@ -389,20 +390,15 @@ inside-steps : (machines : List Machine_data) (c : Configuration) (es : List Eve
 inside-steps machines c [] d p m wf is s low = let e = ap (λ (z : Configuration). z.at p) s in omega arith
 inside-steps machines c (x ∷ es) d p m wf is s low = inside-steps machines s.0 es d p m wf is s.2 (inside-step machines c x s.0 p m wf is s.1 low)
 
-there : {X : Type 0} (xs : List X) (p : ℕ) → p < length xs → (x : X) × (slice_get xs p ≡ Some x)
-there [] p h = absurd (omega arith)
-there (x ∷ xs) zero h = (x, refl)
-there (x ∷ xs) (suc p) h = there xs p (omega arith)
-
 -- a role of a session has a state
 pub has-state : (c : Core_data) (p : ℕ) → IsReachedSession c → p < length c.machines → state_at c.machines (configuration_of c) p ≡ None → ⊥
 has-state c p s hp none =
-    let m = there c.machines p hp in
+    let m = item_at c.machines p hp in
     let r = s.reachable in
     let start = r.starts.states p m.0 m.1 in
     let wf = s.well_formed.fits p m.0 m.1 in
     let low = inside-steps c.machines r.first r.events (configuration_of c) p m.0 s.well_formed m.1 r.steps (let w = wf.start in omega arith) in
-    let st = there m.0.states (slice_index_or c.states p 0) low in
+    let st = item_at m.0.states (slice_index_or c.states p 0) low in
     let here : state_at c.machines (configuration_of c) p ≡ Some st.0 = rw m.1 st.1 in
     cc (here, none)
 

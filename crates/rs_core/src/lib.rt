@@ -5,6 +5,7 @@ mod actors;
 mod cells;
 pub mod laws;
 mod messages;
+mod places;
 mod players;
 mod playing;
 mod rows;
@@ -18,7 +19,8 @@ mod turns;
 
 pub use actors::Actor;
 pub use messages::{Event, Message, Refused, StepFault, Stepped};
-pub use runs::{Outcome, Run, RunFault, run_bounded, run_plain};
+pub use places::place_by_label;
+pub use runs::{Outcome, Run, RunFault, got_from, run_bounded, run_plain, sent_to};
 pub use seeded::SeededActor;
 pub use steps::Core;
 pub use transcripts::{Entry, Transcript, Transcripts};

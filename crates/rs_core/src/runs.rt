@@ -136,7 +136,7 @@ fn stopped<A: Actor>(alloc: Global, role: Role, players: Vec<Player<A>>) -> Resu
 }
 
 /// How many messages the entries send to the role.
-fn sent_to(entries: &[Entry], to: Role) -> u64
+pub fn sent_to(entries: &[Entry], to: Role) -> u64
     ensures { result ≡ sent_to to.0 entries.now }
 {
     let mut count = 0;
@@ -151,7 +151,7 @@ fn sent_to(entries: &[Entry], to: Role) -> u64
 }
 
 /// How many messages the entries take from the role.
-fn got_from(entries: &[Entry], from: Role) -> u64
+pub fn got_from(entries: &[Entry], from: Role) -> u64
     ensures { result ≡ got_from from.0 entries.now }
 {
     let mut count = 0;

@@ -1,11 +1,12 @@
-ghost use Rattle.std.specs.Prelude.{◌≡◌, ◌↔◌, ◌<◌, ◌∷◌, ◌^◌, List, Option, length, IfErr, OnErr, OnOk, IfOk, IsTrue, MatchOption, None, Some, slice_get, ℕ};
+ghost use Rattle.std.specs.Prelude.{◌≡◌, ◌<◌, ◌∷◌, List, Option, length, IfErr, OnErr, OnOk, IfOk, MatchOption, None, Some, slice_get, ℕ};
 ghost use Rattle.rs_model.specs.declared.graph.Arm.{Arm};
 ghost use Rattle.rs_model.specs.declared.graph.Role.{Role};
 ghost use Rattle.rs_model.specs.declared.machines.State.TheVariants.{Takes};
 ghost use Rattle.rs_core.specs.Configurations.{state_of};
-ghost use Rattle.rs_core.specs.Turns.{KeepsWell, NextTells, TurnTells, is_full, label_of};
+ghost use Rattle.rs_core.specs.Turns.{KeepsWell, NextTells, TurnTells, is_full};
 ghost use Rattle.rs_core.specs.declared.messages.StepFault.TheVariants as step_fault;
 
+use crate::places::place_by_label;
 use crate::players::Player;
 use crate::{Actor, Core, Entry, Event, StepFault, Stepped};
 use rs_model::{Arm, Label, NoMemory, Role, State, Value};
@@ -163,33 +164,9 @@ fn tell_actor<A: Actor>(
 {
     match core.state_numbered(role, number) {
         Some(State::Takes { arms, .. }) => {
-            let place = place_of(arms.as_slice(), label);
+            let place = place_by_label(arms.as_slice(), label);
             actor.take(alloc, arms.as_slice(), place, value)
         }
         _ => unreachable!(),
     }
-}
-
-/// The place of the arm with that label, of arms with no label twice: so there are at most as many as labels.
-fn place_of(arms: &[Arm], label: Label) -> u16
-    requires once { (i j : ℕ) (a b : Arm) → slice_get arms.now i ≡ Some a → slice_get arms.now j ≡ Some b → a.label ≡ b.label → i ≡ j }
-    requires some { (place : ℕ) × (label_of (slice_get arms.now place) ≡ Some label) }
-    ensures { label_of (slice_get arms.now result) ≡ Some label }
-{
-    for (place, arm) in arms.iter().enumerate() {
-        if has_label(arm, label) {
-            match u16::try_from(place) {
-                Ok(place) => return place,
-                Err(_) => unreachable!(),
-            }
-        }
-    }
-    unreachable!()
-}
-
-fn has_label(arm: &Arm, label: Label) -> bool
-    ensures same { IsTrue result ↔ (arm.now.label ≡ label) }
-    ensures small { arm.now.label.0 < 2 ^ 16 }
-{
-    arm.label.0 == label.0
 }

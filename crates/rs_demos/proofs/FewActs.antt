@@ -4,6 +4,7 @@ use Rattle.std.specs.List.{flat_map, range_with_len}
 use Rattle.std.proofs.lemmas.Bool.{and_parts, leb-true}
 use Rattle.std.proofs.lemmas.Bool.Decides.{eqb_tells}
 use Rattle.std.proofs.lemmas.List.{length-map}
+use Rattle.rs_model.proofs.Lists.{item_at}
 use Rattle.rs_model.specs.Data.{Machine_data}
 use Rattle.rs_model.specs.declared.graph.Arm.{Arm}
 use Rattle.rs_model.specs.declared.graph.Label.{Label}
@@ -366,11 +367,6 @@ butterfly-many (s ∷ ss) n i =
 
 -- the machine of a role
 
-found : {X : Type 0} (xs : List X) (p : ℕ) → p < length xs → (x : X) × (slice_get xs p ≡ Some x)
-found [] p lt = absurd (omega arith)
-found (x ∷ xs) zero lt = (x, refl)
-found (x ∷ xs) (suc p) lt = found xs p (omega (arith, lt))
-
 made-by : (f : ℕ → Machine_data) (ns : List ℕ) (p : ℕ) (m : Machine_data) → slice_get (map f ns) p ≡ Some m → (i : ℕ) × (f i ≡ m)
 made-by f [] p m e = absurd (cc (e))
 made-by f (n ∷ ns) zero m e = (n, cc (e))
@@ -380,7 +376,7 @@ made-by f (n ∷ ns) (suc p) m e = made-by f ns p m e
 straight-role : (ms : List Machine_data) (given : ℕ → DemoActor) (end : Moment DemoActor) (pairs : ℕ → List Exchange) (ns : List ℕ) (most p : ℕ) → Went ms given end
     → ms ≡ map (λ (i : ℕ). machine i (states_from 0 (pairs i))) ns → ((i : ℕ) → length (pairs i) ≤ most) → p < length ms → length (end.history p) ≤ 1 + 2 * most
 straight-role ms given end pairs ns most p w e few lt =
-    let m = found ms p lt in
+    let m = item_at ms p lt in
     let i = made-by (λ (i : ℕ). machine i (states_from 0 (pairs i))) ns p m.0 (ap (λ (z : List Machine_data). slice_get z p) (sym e) ∙ m.1) in
     let pl = w.plays p m.0 m.1 in
     let P : Machine_data → Type 0 = λ z. Plays z z.start (given p) (end.history p) (end.at.at p) pl.0 in

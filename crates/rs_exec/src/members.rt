@@ -7,10 +7,10 @@ ghost use Rattle.rs_exec.specs.Members.{HasTurned, MemberIsReady, KeepsHold, cor
 ghost use Rattle.rs_model.specs.declared.machines.State.TheVariants.{Puts, Takes};
 ghost use Rattle.rs_rings.specs.Views.{state_in};
 
-use rs_core::{Actor, Entry};
+use rs_core::{Actor, Entry, place_by_label};
 use rs_model::{Arm, NoMemory, Role, State, Value};
 use rs_rings::{Got, Put};
-use rs_session::{Ensemble, Session, place_by_label};
+use rs_session::{Ensemble, Session};
 use rs_slots::Parcel;
 use std::alloc::Global;
 

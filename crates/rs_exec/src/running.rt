@@ -4,7 +4,7 @@ ghost use Rattle.rs_model.specs.declared.limits.TheConstants.{MOST_ROLES};
 ghost use Rattle.rs_core.specs.Choices.{AreWellFormed};
 ghost use Rattle.rs_core.specs.Kinds.{a_player};
 ghost use Rattle.rs_core.specs.Plain.{Ending, IsPlain};
-ghost use Rattle.rs_core.specs.Runs.{AreReady, IsAmong, IsGiven, EndingShows, got_from, sent_to};
+ghost use Rattle.rs_core.specs.Runs.{AreReady, IsAmong, IsGiven, EndingShows};
 ghost use Rattle.rs_core.specs.Safety.{IsSafe};
 ghost use Rattle.rs_core.specs.declared.runs.Outcome.TheVariants as outcome;
 ghost use Rattle.rs_exec.specs.Inline.{RunFaultTells};
@@ -16,7 +16,7 @@ use crate::inline::ExecFault;
 use crate::members::Member;
 use crate::rounds::{Finish, play};
 use crate::runs::Ran;
-use rs_core::{Actor, Entry, Outcome, Run, Transcript, Transcripts};
+use rs_core::{Actor, Outcome, Run, Transcript, Transcripts, got_from, sent_to};
 use rs_model::{NoMemory, Role};
 use rs_session::{Ensemble, Session};
 use std::alloc::Global;
@@ -151,34 +151,4 @@ fn parts_of<A: Actor>(
         transcripts.push(Transcript::of(member.entries))?;
     }
     Ok((actors, transcripts))
-}
-
-/// How many messages the entries send to the role.
-fn sent_to(entries: &[Entry], to: Role) -> u64
-    ensures { result ≡ sent_to to.0 entries.now }
-{
-    let mut count = 0;
-    for entry in entries {
-        if let Entry::Sent { peer, .. } = entry {
-            if peer.0 == to.0 {
-                count += 1;
-            }
-        }
-    }
-    count
-}
-
-/// How many messages the entries take from the role.
-fn got_from(entries: &[Entry], from: Role) -> u64
-    ensures { result ≡ got_from from.0 entries.now }
-{
-    let mut count = 0;
-    for entry in entries {
-        if let Entry::Got { peer, .. } = entry {
-            if peer.0 == from.0 {
-                count += 1;
-            }
-        }
-    }
-    count
 }

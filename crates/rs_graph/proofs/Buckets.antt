@@ -1,11 +1,11 @@
 -- Numbers in the buckets of their items.
-use Rattle.std.proofs.Common.{◌≡◌, ◌≢◌, ◌⊎◌, inl, inr, ℕ, ◌<◌, List, [], ◌∷◌, ◌++◌, length, refl, sym, ap, ◌∙◌, subst, arith, suc, zero, Some, slice_get, get_or, set, length-append, replicate}
+use Rattle.std.proofs.Common.{◌≡◌, ◌≢◌, inl, inr, ℕ, ◌<◌, List, [], ◌∷◌, ◌++◌, length, refl, sym, ap, ◌∙◌, subst, arith, suc, zero, Some, slice_get, get_or, set, length-append, replicate}
 use Rattle.std.proofs.lemmas.List.{get_or-set_same, get_or-set_other, get_or_default, get_or-replicate, get_or_past, length-replicate}
 use Rattle.std.proofs.lemmas.Bool.Decides.{eqb_tells}
 use Rattle.std.proofs.lemmas.Bool.{cases_lt}
 use Rattle.rs_graph.specs.Lists.{Among}
 use Rattle.rs_graph.specs.Discovery.{Filed}
-use Rattle.rs_graph.proofs.Growth.{at_in, push_is}
+use Rattle.rs_graph.proofs.Growth.{at_in, push_is, has-last, has-left, has-push}
 
 has-place : (xs : List ℕ) (n : ℕ) → Among xs n → (k : ℕ) × (k < length xs) × (get_or xs k 0 ≡ n)
 has-place [] n h = elim h [ ]
@@ -32,21 +32,6 @@ not-filed bucket found buckets y f differ h =
     let p = at_in found y h in
     let q = has-place (get_or buckets (bucket y) []) p.0 (f.filed p.0 y p.1) in
     differ q.0 q.1 (subst (λ (z : ℕ). slice_get found z ≡ Some y) (sym q.2) p.1)
-
-has-left : {X : Type 0} (xs ys : List X) (x : X) → Among xs x → Among (xs ++ ys) x
-has-left [] ys x h = elim h [ ]
-has-left (z ∷ xs) ys x (inl e) = inl e
-has-left (z ∷ xs) ys x (inr h) = inr (has-left xs ys x h)
-
-has-push : {X : Type 0} (xs : List X) (y x : X) → Among (xs ++ (y ∷ [])) x → Among xs x ⊎ (y ≡ x)
-has-push [] y x (inl e) = inr e
-has-push [] y x (inr h) = elim h [ ]
-has-push (z ∷ xs) y x (inl e) = inl (inl e)
-has-push (z ∷ xs) y x (inr h) = elim (has-push xs y x h) [ inl k ↦ inl (inr k) | inr e ↦ inr e ]
-
-has-last : {X : Type 0} (xs : List X) (x : X) → Among (xs ++ (x ∷ [])) x
-has-last [] x = inl refl
-has-last (z ∷ xs) x = inr (has-last xs x)
 
 pub filed_on : {X : Type 0} (bucket : X → ℕ) (found : List X) (buckets new : List (List ℕ)) (y : X) (b : ℕ) → b ≡ bucket y → b < length buckets → new ≡ set buckets b (get_or buckets b [] ++ (length found ∷ [])) → Filed bucket found buckets → Filed bucket (found ++ (y ∷ [])) new
 filed_on bucket found buckets new y b eb inb e f =

@@ -12,24 +12,9 @@ use Rattle.std.proofs.lemmas.List.Sums.{sum_by-set, sum_by_push}
 use Rattle.rs_graph.specs.Removal.{IsInto, Leads, edges_in}
 use Rattle.rs_graph.specs.Graphs.{moves_of}
 use Rattle.rs_graph.specs.declared.graph.Move.{Move}
-use Rattle.rs_graph.proofs.Growth.{take_on, at_short, at_within}
+use Rattle.rs_graph.proofs.Growth.{take_on, at_short, at_within, has-last, has-left, has-push}
 use Rattle.rs_graph.proofs.Buckets.{got}
 use Rattle.rs_graph.proofs.Kept.{Pictures}
-
-has-left : {X : Type 0} (xs ys : List X) (x : X) → Among xs x → Among (xs ++ ys) x
-has-left [] ys x h = elim h [ ]
-has-left (z ∷ xs) ys x (inl e) = inl e
-has-left (z ∷ xs) ys x (inr h) = inr (has-left xs ys x h)
-
-has-push : {X : Type 0} (xs : List X) (y x : X) → Among (xs ++ (y ∷ [])) x → Among xs x ⊎ (y ≡ x)
-has-push [] y x (inl e) = inr e
-has-push [] y x (inr h) = elim h [ ]
-has-push (z ∷ xs) y x (inl e) = inl (inl e)
-has-push (z ∷ xs) y x (inr h) = elim (has-push xs y x h) [ inl k ↦ inl (inr k) | inr e ↦ inr e ]
-
-has-last : {X : Type 0} (xs : List X) (x : X) → Among (xs ++ (x ∷ [])) x
-has-last [] x = inl refl
-has-last (z ∷ xs) x = inr (has-last xs x)
 
 -- an empty move more changes no result
 push-empty : (row : List (List ℕ)) (b : ℕ) → get_or (row ++ ([] ∷ [])) b [] ≡ get_or row b []

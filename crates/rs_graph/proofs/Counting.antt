@@ -34,11 +34,11 @@ sum-more : (f g : ℕ → ℕ) (xs : List ℕ) → ((n : ℕ) → g n ≡ f n + 
 sum-more f g [] h = omega arith
 sum-more f g (x ∷ xs) h = let a = sum_by-cons f x xs in let b = sum_by-cons g x xs in let c = h x in let d = sum-more f g xs h in omega arith
 
--- one of the moves has no more results than all
-one-most : (moves : List (List ℕ)) (place : ℕ) → length (get_or moves place []) ≤ sum_by (λ (results : List ℕ). length results) moves
-one-most [] place = let l : length (get_or {A = List ℕ} [] place []) ≡ 0 = ap (λ (z : List ℕ). length z) (get_or_past [] place [] (omega arith)) in omega arith
-one-most (m ∷ moves) zero = let a = sum_by-cons (λ (results : List ℕ). length results) m moves in omega arith
-one-most (m ∷ moves) (suc place) = let a = sum_by-cons (λ (results : List ℕ). length results) m moves in let b = one-most moves place in omega arith
+-- one of the rows is no longer than all together
+pub row-most : (rows : List (List ℕ)) (n : ℕ) → length (get_or rows n []) ≤ sum_by (λ (row : List ℕ). length row) rows
+row-most [] n = let l : length (get_or {A = List ℕ} [] n []) ≡ 0 = ap (λ (z : List ℕ). length z) (get_or_past [] n [] (omega arith)) in omega arith
+row-most (r ∷ rows) zero = let a = sum_by-cons (λ (row : List ℕ). length row) r rows in omega arith
+row-most (r ∷ rows) (suc n) = let a = sum_by-cons (λ (row : List ℕ). length row) r rows in let b = row-most rows n in omega arith
 
 among-upto : (outs : List (List (List ℕ))) (n : ℕ) → n < length outs → Among (upto 0 outs) n
 among-upto outs n h = upto_has 0 outs n (omega arith) (omega arith)
@@ -53,7 +53,7 @@ ends-most outs intos xs into once within =
 -- all edges of the moves at which nodes of a list stand
 nexts-most : (outs : List (List (List ℕ))) (current xs : List ℕ) → Once xs → ((n : ℕ) → Among xs n → n < length outs) → sum_by (λ (n : ℕ). length (next_of outs current n)) xs ≤ edges_in outs
 nexts-most outs current xs once within =
-    let a = sum-most (λ (n : ℕ). length (next_of outs current n)) (λ (n : ℕ). sum_by (λ (results : List ℕ). length results) (get_or outs n [])) xs (λ n. one-most (get_or outs n []) (at current n)) in
+    let a = sum-most (λ (n : ℕ). length (next_of outs current n)) (λ (n : ℕ). sum_by (λ (results : List ℕ). length results) (get_or outs n [])) xs (λ n. row-most (get_or outs n []) (at current n)) in
     let b = sum-less (λ (n : ℕ). sum_by (λ (results : List ℕ). length results) (get_or outs n [])) xs (upto 0 outs) once (λ n m. among-upto outs n (within n m)) in
     let c = sum-places (λ (moves : List (List ℕ)). sum_by (λ (results : List ℕ). length results) moves) [] outs outs outs 0 refl (λ k. let y : 0 + k ≡ k = omega arith in rw y refl) in
     omega arith

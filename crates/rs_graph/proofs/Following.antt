@@ -2,8 +2,7 @@
 use Rattle.std.proofs.Common.{◌≡◌, ◌≢◌, ◌⊎◌, inl, inr, ℕ, ◌<◌, ◌≤◌, Bool, true, false, List, [], ◌∷◌, ◌++◌, length, get_or, set, refl, sym, ap, ◌∙◌, subst, arith, ◌+◌, ◌*◌, suc, zero, Some, slice_get, length-append, append_assoc, append-nil, replicate, take, take_all, Result, Ok, Err}
 use Rattle.std.specs.Prelude.{OnOk}
 use Rattle.std.specs.List.{sum_by}
-use Rattle.std.proofs.lemmas.List.{get_or_past, length-replicate}
-use Rattle.std.proofs.lemmas.List.Sums.{sum_by-cons}
+use Rattle.std.proofs.lemmas.List.{length-replicate}
 use Rattle.std.proofs.Math.Nat.{suc-mul}
 use Rattle.std.proofs.lemmas.Bool.Decides.{eqb_tells}
 use Rattle.std.proofs.lemmas.Bool.{cases_lt}
@@ -15,6 +14,7 @@ use Rattle.rs_graph.specs.Walks.{Walk, Here, Further, IsOnCycle}
 use Rattle.rs_graph.specs.declared.cycles.Mark.{Mark}
 use Rattle.rs_graph.specs.declared.cycles.Mark.TheVariants.{Ahead, On, Known}
 use Rattle.rs_graph.specs.declared.cycles.Part.{Part}
+use Rattle.rs_graph.proofs.Counting.{row-most}
 use Rattle.rs_graph.proofs.Growth.{at_in, at_short, in_at, no_more, push_at, push_is, push_new, push_once, reads_at, take_on}
 use Rattle.rs_graph.proofs.Ranking.{cycle_within, no_cycle}
 use Rattle.rs_graph.proofs.Removed.{upto, upto_has, upto_length}
@@ -285,11 +285,6 @@ ahead-known (Known b ∷ marks) zero m round e ne = refl
 ahead-known (Ahead ∷ marks) (suc x) m round e ne = ap suc (ahead-known marks x m round e ne)
 ahead-known (On p ∷ marks) (suc x) m round e ne = ahead-known marks x m round e ne
 ahead-known (Known b ∷ marks) (suc x) m round e ne = ahead-known marks x m round e ne
-
-row-most : (rows : List (List ℕ)) (n : ℕ) → length (get_or rows n []) ≤ sum_by (λ (row : List ℕ). length row) rows
-row-most [] n = let l : length (get_or {A = List ℕ} [] n []) ≡ 0 = ap (λ (z : List ℕ). length z) (get_or_past [] n [] (omega arith)) in omega arith
-row-most (r ∷ rows) zero = let a = sum_by-cons (λ (row : List ℕ). length row) r rows in omega arith
-row-most (r ∷ rows) (suc n) = let a = sum_by-cons (λ (row : List ℕ). length row) r rows in let b = row-most rows n in omega arith
 
 one-less : (a a' b : ℕ) → suc a' ≡ a → a * b ≡ b + a' * b
 one-less a a' b e = ap (λ (z : ℕ). z * b) (sym e) ∙ suc-mul a' b ∙ (let q : a' * b + b ≡ b + a' * b = omega arith in q)

@@ -99,12 +99,18 @@ names_kept old new kept [] (y ∷ ys) h = elim h [ ]
 names_kept old new kept (n ∷ ns) [] h = elim h [ ]
 names_kept old new kept (n ∷ ns) (y ∷ ys) h = (kept n y h.0, names_kept old new kept ns ys h.1)
 
-has-left : {X : Type 0} (xs ys : List X) (x : X) → Among xs x → Among (xs ++ ys) x
+pub has-left : {X : Type 0} (xs ys : List X) (x : X) → Among xs x → Among (xs ++ ys) x
 has-left [] ys x h = elim h [ ]
 has-left (z ∷ xs) ys x (inl e) = inl e
 has-left (z ∷ xs) ys x (inr h) = inr (has-left xs ys x h)
 
-has-last : {X : Type 0} (xs : List X) (x : X) → Among (xs ++ (x ∷ [])) x
+pub has-push : {X : Type 0} (xs : List X) (y x : X) → Among (xs ++ (y ∷ [])) x → Among xs x ⊎ (y ≡ x)
+has-push [] y x (inl e) = inr e
+has-push [] y x (inr h) = elim h [ ]
+has-push (z ∷ xs) y x (inl e) = inl (inl e)
+has-push (z ∷ xs) y x (inr h) = elim (has-push xs y x h) [ inl k ↦ inl (inr k) | inr e ↦ inr e ]
+
+pub has-last : {X : Type 0} (xs : List X) (x : X) → Among (xs ++ (x ∷ [])) x
 has-last [] x = inl refl
 has-last (z ∷ xs) x = inr (has-last xs x)
 

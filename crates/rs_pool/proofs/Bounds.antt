@@ -7,16 +7,13 @@ use mathlib.Core.Logic.{dite}
 use lib.ListN.{get_elem?, length-map, length-replicate}
 use Rattle.atomic_table.specs.Table.{State, Seen, Final, opening}
 use Rattle.atomic_table.proofs.Lists.{at_map}
+use Rattle.rs_rings.proofs.Seats.{zeros}
 use Rattle.rs_pool.specs.declared.views.View.{View}
 use Rattle.rs_pool.specs.Rule.{PoolShows, first_view, total, amount_in}
 use Rattle.rs_pool.specs.Calls.{AreSettled, AreCollected, AreSeated}
-use Rattle.rs_pool.proofs.Sums.{at_below, two_le, all_or_some}
+use Rattle.rs_pool.proofs.Sums.{two_le, all_or_some}
+use Rattle.rs_rings.proofs.OneRing.{at_below}
 use Rattle.rs_pool.proofs.Known.{some_none}
-
-zeros : (k i : ℕ) → slice_index (replicate {A = ℕ} k 0) i ≡ 0
-zeros zero i = refl
-zeros (suc k) zero = refl
-zeros (suc k) (suc i) = zeros k i
 
 one_view : (v d : View) (j : ℕ) → get_elem? (v ∷ []) j ≡ some d → v ≡ d
 one_view v d zero e = some-injective v d e

@@ -11,7 +11,8 @@ use Rattle.atomic_table.proofs.Lists.{at_set, set_here, set_else, at_longer}
 use Rattle.rs_pool.specs.declared.views.Count.{Count}
 use Rattle.rs_pool.specs.declared.views.View.{View}
 use Rattle.rs_pool.specs.Rule.{Held, RolesAreCounted, EndsWord, amount_in, count_of_view, holding, view_without_job, counting, sum_of_views, spent_view}
-use Rattle.rs_pool.proofs.Sums.{at_below, at_snoc_where, at_put, put_case, sum_set, total_put}
+use Rattle.rs_pool.proofs.Sums.{at_put, put_case, sum_set, total_put}
+use Rattle.rs_rings.proofs.OneRing.{at_below, at_snoc_where}
 
 pub some_same : {A : Type 0} (x y : A) → Some x ≡ Some y → x ≡ y
 some_same x y e = cc

@@ -1,5 +1,5 @@
 -- Lists of views by number, sums over them, and sums over roles.
-use Rattle.std.proofs.Common.{◌≡◌, ◌≢◌, ◌⊎◌, ℕ, zero, suc, ◌+◌, ◌*◌, ◌<◌, ◌≤◌, if◌then◌else◌, ◌==◌, List, [], ◌∷◌, ◌++◌, length, sum_by, set, refl, sym, ap, ◌∙◌, inl, inr, ⊎_elim, arith}
+use Rattle.std.proofs.Common.{◌≡◌, ◌≢◌, ◌⊎◌, ℕ, zero, suc, ◌+◌, ◌*◌, ◌<◌, ◌≤◌, if◌then◌else◌, ◌==◌, List, [], ◌∷◌, sum_by, set, refl, sym, ap, ◌∙◌, inl, inr, ⊎_elim, arith}
 use Rattle.std.proofs.lemmas.Bool.Decides.{eqb_tells}
 use Rattle.std.proofs.lemmas.List.Sums.{sum_by-cons}
 use mathlib.Core.Option.{some, some-injective, some-ne-none}
@@ -7,17 +7,6 @@ use native.Mathlib.Decide.{ℕ_discrete}
 use mathlib.Core.Logic.{dite}
 use lib.ListN.{get_elem?}
 use Rattle.rs_pool.specs.Rule.{total, IsAmount}
-
-pub at_below : {A : Type 0} (l : List A) (k : ℕ) (x : A) → get_elem? l k ≡ some x → k < length l
-at_below [] k x e = absurd (some-ne-none x (sym e))
-at_below (y ∷ ys) zero x e = omega arith
-at_below (y ∷ ys) (suc k) x e = let r = at_below ys k x e in omega arith
-
-pub at_snoc_where : {A : Type 0} (l : List A) (a b : A) (j : ℕ) → get_elem? (l ++ a ∷ []) j ≡ some b → (get_elem? l j ≡ some b) ⊎ ((j ≡ length l) × (a ≡ b))
-at_snoc_where [] a b zero e = inr (refl, some-injective a b e)
-at_snoc_where [] a b (suc j) e = absurd (some-ne-none b (sym e))
-at_snoc_where (x ∷ xs) a b zero e = inl e
-at_snoc_where (x ∷ xs) a b (suc j) e = ⊎_elim (λ t. inl t) (λ t. inr (ap suc t.0, t.1)) (at_snoc_where xs a b j e)
 
 abbrev pub at_put : {A : Type 0} → (ℕ → A) → ℕ → A → ℕ → A
 at_put f p v k = if k == p then v else f k

@@ -6,6 +6,7 @@ use native.Mathlib.Decide.{ℕ_discrete, dec_le}
 use mathlib.Core.Logic.{dite}
 use Rattle.std.specs.Global.{Box}
 use Rattle.atomic_table.specs.Table.{Me}
+use Rattle.rs_model.proofs.Lists.{item_at}
 use Rattle.rs_model.specs.Data.{Machine_data}
 use Rattle.rs_model.specs.declared.graph.Arm.{Arm}
 use Rattle.rs_model.specs.declared.graph.Role.{Role}
@@ -176,17 +177,12 @@ zeros_at zero q l = absurd (omega arith)
 zeros_at (suc k) zero l = refl
 zeros_at (suc k) (suc q) l = zeros_at k q (omega arith)
 
-there : {A : Type 0} (xs : List A) (k : ℕ) → k < length xs → (x : A) × (slice_get xs k ≡ Some x)
-there [] k l = absurd (omega arith)
-there (x ∷ xs) zero l = (x, refl)
-there (x ∷ xs) (suc k) l = there xs k (omega arith)
-
 pub kept_first : (ms : List Machine_data) (items : Items) → length ms ≤ 16 → ((k : ℕ) → k < length ms → row_at items k ≡ row_at_start (slice_get ms k)) → ((k : ℕ) → length ms ≤ k → row_at items k ≡ None) → IsBetweenCalls (starting ms, []) items
 kept_first ms items small some' none' = let n : ℕ = length ms in record {
   empty = refl;
   few = λ r s. let l = first_below ms n r s in omega arith;
   idle = λ r s. ap (λ (z : Part). z.middle) (first_part_is ms n r (first_below ms n r s));
-  rows = λ r s. let l = first_below ms n r s in let t = there ms r l in (
+  rows = λ r s. let l = first_below ms n r s in let t = item_at ms r l in (
     new_row t.0.start,
     some' r l ∙ ap row_at_start t.1,
     subst (RowShows (new_row t.0.start)) (sym (first_part_is ms n r l)) record { state = sym (ap start_of t.1); sent = λ q lq. zeros_at 16 q lq; got = λ q lq. zeros_at 16 q lq },

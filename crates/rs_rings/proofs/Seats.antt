@@ -215,7 +215,7 @@ ends key id v s all t = let sh = t.0 in let n : ℕ = key.roles in let ms : List
     }
 
 -- the start
-zeros : (k i : ℕ) → slice_index (replicate {A = ℕ} k 0) i ≡ 0
+pub zeros : (k i : ℕ) → slice_index (replicate {A = ℕ} k 0) i ≡ 0
 zeros zero i = refl
 zeros (suc k) zero = refl
 zeros (suc k) (suc i) = zeros k i

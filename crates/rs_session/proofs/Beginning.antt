@@ -1,7 +1,8 @@
 -- The passes of first stages.
-use Rattle.std.proofs.Common.{◌≡◌, ◌≢◌, inl, inr, ℕ, zero, suc, ◌+◌, ◌<◌, Bool, true, false, if◌then◌else◌, List, [], ◌∷◌, length, Option, Some, None, IsSome, slice_get, refl, sym, ap, ◌∙◌, ◌++◌, subst, arith, rules, eq-eqb, length-append}
+use Rattle.std.proofs.Common.{◌≡◌, ◌≢◌, inl, inr, ℕ, ◌+◌, ◌<◌, Bool, true, false, if◌then◌else◌, List, [], ◌∷◌, length, Option, Some, None, IsSome, slice_get, refl, sym, ap, ◌∙◌, ◌++◌, subst, arith, rules, eq-eqb, length-append}
 use Rattle.std.proofs.lemmas.Bool.Decides.{eqb_tells}
 use Rattle.std.proofs.lemmas.Option.{slice_get_within}
+use Rattle.rs_model.proofs.Lists.{item_at}
 use Rattle.rs_model.specs.Data.{Machine_data}
 use Rattle.rs_core.specs.Choices.{AreWellFormed}
 use Rattle.rs_core.specs.Configurations.{state_of}
@@ -64,14 +65,9 @@ role_below machines r s is = by (slice_get machines r) refl is
 pub is_some : {A : Type 0} (o : Option A) (x : A) → o ≡ Some x → IsSome o
 is_some o x e = subst IsSome (sym e) (search rules)
 
-get_there : {A : Type 0} (xs : List A) (k : ℕ) → k < length xs → (x : A) × (slice_get xs k ≡ Some x)
-get_there [] k below = absurd (omega arith)
-get_there (x ∷ xs) zero below = (x, refl)
-get_there (x ∷ xs) (suc k) below = get_there xs k (omega arith)
-
 -- a state of that number is there in a machine that has so many
 pub state_there : (machines : List Machine_data) (r s : ℕ) (m : Machine_data) → slice_get machines r ≡ Some m → s < length m.states → IsSome (state_of (slice_get machines r) s)
-state_there machines r s m is below = let at = get_there m.states s below in is_some (state_of (slice_get machines r) s) at.0 (ap (λ (o : Option Machine_data). state_of o s) is ∙ at.1)
+state_there machines r s m is below = let at = item_at m.states s below in is_some (state_of (slice_get machines r) s) at.0 (ap (λ (o : Option Machine_data). state_of o s) is ∙ at.1)
 
 pub first_there : (machines : List Machine_data) (r : ℕ) (m : Machine_data) (view : View) → AreWellFormed machines → slice_get machines r ≡ Some m → IsFirst machines r view → IsSome (state_of (slice_get machines r) (part_of view r).state)
 first_there machines r m view well_formed is first =

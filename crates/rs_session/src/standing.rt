@@ -7,7 +7,7 @@ ghost use Rattle.rs_rings.specs.Acts.{MayPut};
 ghost use Rattle.rs_rings.specs.Views.{SpeaksFor, part_of, state_in, history_in};
 ghost use Rattle.rs_session.specs.Standing.{FoundTells, StagePutTells, sight_of_pass};
 
-use crate::places::place_by_label;
+use rs_core::place_by_label;
 use rs_model::{Arm, Role, Value};
 use rs_rings::{Got, Pass, Put, Rings};
 use rs_slots::Parcel;

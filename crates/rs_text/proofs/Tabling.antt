@@ -3,6 +3,7 @@ use Rattle.std.proofs.Common.{◌≡◌, ◌⊎◌, inl, inr, ℕ, zero, suc, �
 use Rattle.std.proofs.lemmas.List.{get_or-set_same, get_or-set_other, length-set, length-replicate}
 use Rattle.std.proofs.lemmas.Bool.Decides.{eqb_tells}
 use Rattle.std.proofs.lemmas.Option.{none-some, same_Some}
+use Rattle.rs_model.proofs.Lists.{zero_at}
 use Rattle.rs_text.specs.Names.{place_of}
 use Rattle.rs_text.specs.declared.tables.TheConstants.{BUCKETS}
 use Rattle.rs_text.specs.Tables.{AreFiled, IsChained, First, Later, bucket_of}
@@ -43,17 +44,11 @@ unchained : (links : List ℕ) (k n : ℕ) → k ≡ 0 → IsChained links k n �
 unchained links _ n q (First _) = let bad : ⊥ = omega arith in bad
 unchained links _ n q (Later m next _ e c) = let bad : ⊥ = omega arith in bad
 
-zero-at : (k n : ℕ) → get_or (replicate {A = ℕ} k 0) n 0 ≡ 0
-zero-at zero zero = refl
-zero-at zero (suc n) = refl
-zero-at (suc k) zero = refl
-zero-at (suc k) (suc n) = zero-at k n
-
 pub none-filed : (names : List (List ℕ)) (heads links : List ℕ) → names ≡ [] → heads ≡ replicate BUCKETS 0 → links ≡ [] → AreFiled names heads links
 none-filed names heads links en eh el = rw (en, eh, el) record {
   buckets = length-replicate {A = ℕ} BUCKETS 0;
   size = refl;
-  within = λ b. (let z = zero-at BUCKETS b in omega arith);
+  within = λ b. (let z = zero_at BUCKETS b in omega arith);
   falls = λ m next e. absurd (none-some next e);
   filed = λ n f e. absurd (none-some f e);
 }

@@ -1,9 +1,0 @@
-use Rattle.std.proofs.Common.{◌≡◌, ◌≢◌, ◌<◌, ◌^◌, ℕ, Some, slice_get}
-use Rattle.rs_model.specs.declared.graph.Arm.{Arm}
-use Rattle.rs_session.proofs.places.place_by_label.Given as goal
-
-abbrev pub invariant-loop-place : goal.invariant-loop-place
-invariant-loop-place l = record {
-  others : (k : ℕ) (a : Arm) → k < l.place → slice_get l.arms k ≡ Some a → a.label ≢ l.label;
-  small : (k : ℕ) (a : Arm) → k < l.place → slice_get l.arms k ≡ Some a → a.label.0 < 2 ^ 16;
-}
