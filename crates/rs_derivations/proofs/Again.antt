@@ -1,7 +1,7 @@
 -- The canonical text of a derivation spells it.
-use Rattle.std.proofs.Common.{◌≡◌, ℕ, suc, ◌+◌, ◌<◌, ◌≤◌, List, [], ◌∷◌, ◌++◌, length, map, drop, get_or, slice_get, Bool, true, false, ◌&&◌, if◌then◌else◌, Option, Some, refl, sym, ap, ◌∙◌, subst, append-nil, length-append, length-drop, arith}
+use Rattle.std.proofs.Common.{◌≡◌, ℕ, suc, ◌+◌, ◌<◌, ◌≤◌, List, [], ◌∷◌, ◌++◌, length, map, drop, get_or, Bool, true, false, ◌&&◌, if◌then◌else◌, Some, refl, sym, ap, ◌∙◌, subst, append-nil, length-append, length-drop, arith}
 use Rattle.std.proofs.lemmas.List.{length-map}
-use Rattle.std.proofs.lemmas.List.Elements.{All-head, All-tail, All-cons}
+use Rattle.std.proofs.lemmas.List.Elements.{All-head, All-tail}
 use Rattle.std.proofs.lemmas.List.Folds.{list_all-append}
 use Rattle.std.proofs.lemmas.Option.{slice_get-get_or, get_or_from_slice_get}
 use Rattle.std.specs.List.{All, AllPairs, flat_map, list_all}
@@ -14,7 +14,6 @@ use Rattle.rs_model.specs.declared.machines.Act.{Act}
 use Rattle.rs_model.specs.declared.machines.Act.TheVariants.{Puts, Takes}
 use Rattle.rs_model.specs.declared.values.Sort.{Sort}
 use Rattle.rs_model.specs.declared.values.Sort.TheVariants as sort
-use Rattle.rs_prefix.specs.declared.earliest.Kind.{Kind}
 use Rattle.rs_derive.specs.Data.{DNode_data, Derivation_data}
 use Rattle.rs_text.specs.Arms.{sort_or_unit}
 use Rattle.rs_text.specs.Lexemes.{Lexeme}
@@ -25,17 +24,16 @@ use Rattle.rs_text.specs.Shown.{shown_sort}
 use Rattle.rs_text.specs.Sound.{IsSound}
 use Rattle.rs_text.specs.Words.{is_word, is_role_word}
 use Rattle.rs_text.proofs.Naming.{place_law, among}
-use Rattle.rs_text.proofs.Nexts.{exists, are_lexed, end_again, lexed_are}
+use Rattle.rs_text.proofs.Nexts.{exists, are_lexed, lexed_are}
 use Rattle.rs_text.proofs.Written.{written_cut}
 use Rattle.rs_derivations.specs.Canonical.{tree_of_act, tree_of_node, tree_of, canonical_text}
 use Rattle.rs_derivations.specs.Derivations.{labels_of_acts, labels_of_node, labels_of_nodes, peers_of_acts, peers_of_node, peers_of_nodes, names_of, role_named, label_named, act_of, node_of, derivation_of}
 use Rattle.rs_derivations.specs.Numbers.{HasSmallNumbers, AreSmall}
-use Rattle.rs_derivations.specs.Printable.{peer_of, label_of, acts_of, IsPrintable}
-use Rattle.rs_derivations.specs.Spells.{AreKnown, Fits, SpellsDerivation}
-use Rattle.rs_derivations.specs.Texts.{derivation_text}
-use Rattle.rs_derivations.specs.Trees.{ActTree, NodeTree, DerivationTree, derivation_signs}
+use Rattle.rs_derivations.specs.Printable.{peer_of, label_of, IsPrintable}
+use Rattle.rs_derivations.specs.Spells.{Fits, SpellsDerivation}
+use Rattle.rs_derivations.specs.Trees.{derivation_signs}
 use Rattle.rs_derivations.proofs.Spelt.{one_spelling}
-use Rattle.rs_derivations.proofs.Printed.{AreActsWritable, AreNumbersWritable, IsNodeWritable, AreNodesWritable, IsTreeWritable, written}
+use Rattle.rs_derivations.proofs.Printed.{AreActsWritable, AreNumbersWritable, AreNodesWritable, IsTreeWritable, written}
 
 -- ---- names by place
 

@@ -1,6 +1,6 @@
 -- Names and limits before a place: a token keeps them exactly where it breaks no rule.
-use Rattle.std.proofs.Common.{◌≡◌, ◌⊎◌, inl, inr, ℕ, suc, ◌+◌, ◌<◌, ◌≤◌, List, [], ◌∷◌, ◌++◌, length, Bool, true, false, ◌&&◌, nat_le, if◌then◌else◌, Option, Some, None, refl, sym, ap, ◌∙◌, subst, append-nil, length-append, arith}
-use Rattle.std.proofs.lemmas.Bool.{leb-true, leb-false, lt-leb}
+use Rattle.std.proofs.Common.{◌≡◌, inl, inr, ℕ, ◌<◌, ◌≤◌, List, [], ◌∷◌, ◌++◌, length, Bool, true, false, ◌&&◌, nat_le, if◌then◌else◌, Option, Some, None, refl, sym, ap, ◌∙◌, subst, append-nil, length-append, arith}
+use Rattle.std.proofs.lemmas.Bool.{leb-false, lt-leb}
 use Rattle.std.specs.List.{list_all}
 use Rattle.std.proofs.lemmas.List.Folds.{list_all-append}
 use Rattle.rs_model.specs.Data.{Names_data}
@@ -9,12 +9,11 @@ use Rattle.rs_text.specs.declared.faults.TextKind.{TextKind}
 use Rattle.rs_text.specs.declared.faults.TextKind.TheVariants as kind
 use Rattle.rs_text.specs.Names.{names_with, is_among}
 use Rattle.rs_text.specs.Signs.{Sign}
-use Rattle.rs_text.proofs.Gaps.{true_or_false}
 use Rattle.rs_text.proofs.Naming.{grown_append}
 use Rattle.rs_derivations.specs.Cuts.{Cut, at_begin}
-use Rattle.rs_derivations.specs.Faults.{fault_of_role, fault_of_label, fault_of}
+use Rattle.rs_derivations.specs.Faults.{fault_of_role, fault_of}
 use Rattle.rs_derivations.specs.Spells.{AreKnown}
-use Rattle.rs_derivations.proofs.Changes.{labels_in, roles_in, count_in, Adds, AddsNothing, AddsRole, AddsLabel, AddsNode, Change}
+use Rattle.rs_derivations.proofs.Changes.{labels_in, roles_in, count_in, Adds, Change}
 
 -- what stands before the place keeps the rules
 pub record FitsSo (old : Names_data) (c : Cut) : Type 0 where

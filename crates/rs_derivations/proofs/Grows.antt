@@ -1,5 +1,5 @@
 -- How a place goes on by a token, by the grammar alone, and the tokens before the new place.
-use Rattle.std.proofs.Common.{◌≡◌, ℕ, suc, ◌+◌, ◌≤◌, List, [], ◌∷◌, ◌++◌, codes, length, Bool, true, false, ◌&&◌, ◌==◌, nat_le, if◌then◌else◌, Option, Some, None, IfSome, refl, sym, ap, ◌∙◌, subst, append_assoc, append-nil, arith}
+use Rattle.std.proofs.Common.{◌≡◌, ℕ, suc, ◌+◌, ◌≤◌, List, [], ◌∷◌, ◌++◌, codes, length, Bool, true, false, ◌&&◌, ◌==◌, nat_le, if◌then◌else◌, Option, Some, None, IfSome, refl, sym, ap, ◌∙◌, append_assoc, append-nil, arith}
 use Rattle.std.proofs.lemmas.Bool.{eqb-true, leb-true}
 use Rattle.std.proofs.lemmas.Slice.Eq.{bytes_eq-Decides}
 use Rattle.std.specs.Option.{option_map}
@@ -14,10 +14,10 @@ use Rattle.rs_text.specs.Signs.{Sign, rec_word, end_word, plain, number, word_si
 use Rattle.rs_text.proofs.Judging.{IsProper}
 use Rattle.rs_derivations.specs.Cuts.{ActCut, behind_peer, behind_mark, behind_label, behind_paren, behind_sort, NodeCut, at_number, at_colon, at_state, at_acts, at_act, in_act, behind_act, at_above, at_rank_word, at_rank, at_next_word, at_nexts, at_next, behind_next, Cut, at_begin, at_role, at_bound_word, at_bound, at_brace, in_nodes, at_end, act_cut_signs, elements_with_commas, node_behind_acts, node_before_nexts, node_cut_signs, cut_signs, IsPlace}
 use Rattle.rs_derivations.specs.Faults.{number_value}
-use Rattle.rs_derivations.specs.Feeding.{is_colon, is_comma, is_open_brace, is_close_brace, is_open_paren, is_close_paren, is_open_bracket, is_close_bracket, is_keyword, mark_kind, is_none_of, is_some_of, is_bound}
+use Rattle.rs_derivations.specs.Feeding.{is_colon, is_comma, is_open_brace, is_close_brace, is_open_bracket, is_close_bracket, is_keyword, mark_kind, is_none_of, is_some_of, is_bound}
 use Rattle.rs_derivations.specs.Lists.{list_with_separators, with_separators}
-use Rattle.rs_derivations.specs.Spells.{IsBound, IsFormed}
-use Rattle.rs_derivations.specs.Trees.{ActTree, NodeTree, DerivationTree, mark_sign, act_signs, acts_signs, number_signs, numbers_signs, rest_signs, node_signs, nodes_signs, head_signs, derivation_signs}
+use Rattle.rs_derivations.specs.Spells.{IsBound}
+use Rattle.rs_derivations.specs.Trees.{ActTree, NodeTree, DerivationTree, mark_sign, act_signs, acts_signs, number_signs, numbers_signs, node_signs, nodes_signs, head_signs}
 
 -- ---- growth
 
@@ -63,6 +63,14 @@ mark_step s acts p (Some k) = Some (stays (in_act s acts (behind_mark p k)))
 abbrev pub label_step : ℕ → List ActTree → List ℕ → Kind → Option (List ℕ) → Option Grown
 label_step s acts p k None = None
 label_step s acts p k (Some l) = Some (stays (in_act s acts (behind_label p k l)))
+
+abbrev pub is_open_paren : Sign → Bool
+is_open_paren open_paren = true
+is_open_paren _ = false
+
+abbrev pub is_close_paren : Sign → Bool
+is_close_paren close_paren = true
+is_close_paren _ = false
 
 abbrev pub sorted_step : ℕ → List ActTree → List ℕ → Kind → List ℕ → Option Sort → Option Grown
 sorted_step s acts p k l None = None

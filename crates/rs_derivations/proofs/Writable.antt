@@ -1,18 +1,16 @@
 -- What is spelt can be printed.
 use Rattle.std.proofs.Common.{◌≡◌, ◌⊎◌, inl, inr, ℕ, ◌<◌, ◌≤◌, List, [], ◌∷◌, ◌++◌, length, map, Bool, true, false, ◌&&◌, ◌||◌, eqb, cond, Option, Some, None, refl, sym, ap, ◌∙◌, subst, arith}
-use Rattle.std.proofs.lemmas.Bool.{eqb-true, eq-eqb}
-use Rattle.std.proofs.lemmas.List.{map-append, length-map}
+use Rattle.std.proofs.lemmas.Bool.{eqb-true}
+use Rattle.std.proofs.lemmas.List.{length-map}
 use Rattle.std.proofs.lemmas.List.Elements.{All-append, All-cons, All-head, All-tail}
 use Rattle.std.proofs.lemmas.List.Folds.{list_all-append}
 use Rattle.std.specs.List.{All, flat_map, list_all, list_any}
 use Rattle.std.specs.Set.{distinct_count}
 use Rattle.rs_model.specs.Data.{Names_data}
-use Rattle.rs_model.specs.declared.limits.TheConstants.{MOST_LABELS, MOST_CANDIDATES}
 use Rattle.rs_model.specs.declared.machines.Act.{Act}
 use Rattle.rs_prefix.specs.declared.earliest.Kind.TheVariants as act
-use Rattle.rs_derive.specs.Data.{Derivation_data}
 use Rattle.rs_text.specs.Names.{names_with, is_among, place_of, number_or}
-use Rattle.rs_text.proofs.Naming.{among, not_among}
+use Rattle.rs_text.proofs.Naming.{not_among}
 use Rattle.rs_text.proofs.Numbers.{place_below}
 use Rattle.rs_derivations.proofs.Standings.{grown_known as known_grown}
 use Rattle.std.proofs.lemmas.Map.Keys.{IsDistinct-cons}
@@ -26,8 +24,8 @@ use Rattle.rs_prefix.specs.declared.earliest.Kind.{Kind}
 use Rattle.rs_text.specs.Arms.{sort_or_unit}
 use Rattle.rs_derive.specs.Data.{DNode_data}
 use Rattle.rs_derivations.specs.Derivations.{act_of_kind, role_named, label_named, labels_of_acts, labels_of_node, labels_of_nodes, peers_of_acts, peers_of_node, peers_of_nodes, act_of, node_of, derivation_of, names_of}
-use Rattle.rs_derivations.specs.Printable.{peer_of, label_of, acts_of, RolesHaveNames, LabelsHaveNames, HasFewLabels, IsPrintable}
-use Rattle.rs_derivations.specs.Spells.{Fits, AreKnown, IsBound}
+use Rattle.rs_derivations.specs.Printable.{peer_of, label_of, IsPrintable}
+use Rattle.rs_derivations.specs.Spells.{Fits}
 use Rattle.rs_derivations.specs.Trees.{ActTree, NodeTree, DerivationTree}
 
 -- ---- places
