@@ -35,11 +35,11 @@ use Rattle.rs_bodies.specs.Trees.{body_signs, branch_signs, ends_a_name}
 use Rattle.rs_bodies.specs.Cuts.{Cut, at_body, behind_end, behind_name, behind_rec, behind_rec_name, in_binds, in_arm, in_acts, in_offers, behind_brace, BranchCut, in_head, in_branch, later, in_turn, PartCut, in_opening, in_body, cut_signs, branch_cut_signs, part_cut_signs, wanted_at, wanted_in}
 use Rattle.rs_bodies.specs.Scenes.{Scene, with_label, in_act, behind}
 use Rattle.rs_bodies.specs.Misplaced.{scene_at, scene_in, fault_of_depth, fault_of_label, fault_by, fault_of, fault_of_new_role, fault_of_role}
-use Rattle.rs_text.proofs.Leading.{Lands, Leads, lands_if, NotExpected}
+use Rattle.rs_text.proofs.Leading.{Lands, Leads, lands_if, NotExpected, faulty_calm}
 use Rattle.rs_text.proofs.MessageLaws.{sort_seen}
 use Rattle.rs_text.specs.Messages.{sorted_by}
 use Rattle.rs_text.specs.declared.messages.MessagePlace.TheVariants as place
-use Rattle.rs_bodies.proofs.FaultRuns.{met_lands, received_lands, head_lands, lone_leads, sort_leads, Follower, a_turn, a_broken, a_name, follower, by_name, faulty_calm, named_lands, placed_length, label_lands, arm_passes, frame_at, restored_bound, passes, branches_pass}
+use Rattle.rs_bodies.proofs.FaultRuns.{met_lands, received_lands, head_lands, lone_leads, sort_leads, Follower, a_turn, a_broken, a_name, follower, by_name, named_lands, placed_length, label_lands, arm_passes, frame_at, restored_bound, passes, branches_pass}
 
 -- what a mode wants; a machine's first word is wanted as `DerivationOrEnd` here, so that it differs from what is wanted behind a part
 abbrev pub wanted_behind : List Frame → Wanted

@@ -1,12 +1,11 @@
 -- Where the tokens of a body lead the reader, if at all: no token of it is unexpected.
-use Rattle.std.proofs.Common.{◌≡◌, ℕ, suc, ◌+◌, ◌-◌, List, [], ◌∷◌, ◌++◌, length, drop, codes, Bool, true, false, if◌then◌else◌, nat_le, nat_lt, Option, Some, None, Result, Ok, Err, refl, sym, ap, ◌∙◌, subst, arith, append_assoc, length-append, slice_get}
+use Rattle.std.proofs.Common.{◌≡◌, ℕ, suc, ◌+◌, ◌-◌, List, [], ◌∷◌, ◌++◌, length, drop, Bool, true, false, if◌then◌else◌, nat_le, nat_lt, Option, Some, None, Result, Ok, Err, refl, sym, ap, ◌∙◌, subst, arith, append_assoc, length-append, slice_get}
 use Rattle.std.proofs.lemmas.List.{length-set}
 use Rattle.std.proofs.Math.Seq.{drop-append_seam}
 use Rattle.rs_model.specs.declared.graph.Role.{Role}
 use Rattle.rs_model.specs.declared.graph.Label.{Label}
 use Rattle.rs_model.specs.declared.values.Sort.{Sort}
 use Rattle.rs_text.specs.declared.tokens.FaultKind.{FaultKind}
-use Rattle.rs_text.specs.declared.tokens.FaultKind.TheVariants as faulty
 use Rattle.rs_text.specs.declared.faults.TextKind.{TextKind}
 use Rattle.rs_text.specs.declared.faults.TextKind.TheVariants as kind
 use Rattle.rs_bodies.specs.declared.dialects.Dialect.{Dialect}
@@ -19,10 +18,9 @@ use Rattle.rs_bodies.specs.declared.reading.Link.{Link}
 use Rattle.rs_bodies.specs.declared.reading.Link.TheVariants as link
 use Rattle.rs_bodies.specs.declared.reading.Mode.TheVariants as mode
 use Rattle.rs_bodies.specs.declared.drafts.DraftArm.{DraftArm}
-use Rattle.rs_text.specs.Faults.{kind_of}
 use Rattle.rs_text.specs.Lexemes.{Lexeme}
 use Rattle.rs_text.specs.Names.{place_of, names_with, Bound, nearest_binding}
-use Rattle.rs_text.specs.Signs.{Sign, rec_word, end_word, plain, arrow, bang, question, dot, comma, open_brace, close_brace, open_paren, close_paren, broken, word_sign}
+use Rattle.rs_text.specs.Signs.{Sign, plain, arrow, bang, question, dot, comma, open_brace, close_brace, open_paren, close_paren, broken, word_sign}
 use Rattle.rs_text.proofs.Naming.{grown_append}
 use Rattle.rs_text.specs.Arms.{sort_signs, arm_signs, sort_or_unit}
 use Rattle.rs_bodies.specs.Dialects.{Turn, sends_to, with_mark, turn_signs, lone_signs, turns, most}
@@ -32,7 +30,7 @@ use Rattle.rs_bodies.specs.Trees.{Body, ends, again, binds, acts, offers, Branch
 use Rattle.rs_bodies.specs.Graph.{labels_of, labels_of_arms, acts_in, acts_in_arms}
 use Rattle.rs_bodies.specs.Feeding.{Fed, in_mode, reader_behind_link, start_behind_link, drafts_behind_link, feed_bound_name, feed_word, reader_at_head, feed_head_role, feed_receiver_role, reader_in_braces, in_message, feed_arms, feeding}
 use Rattle.rs_text.specs.Readings.{fault, feed_sign}
-use Rattle.rs_text.proofs.Leading.{Leads, LeadsOr, NotExpected, sign_behind, lexeme, Lands, LandsOr, lands_if}
+use Rattle.rs_text.proofs.Leading.{Leads, LeadsOr, NotExpected, sign_behind, lexeme, Lands, LandsOr, lands_if, faulty_calm}
 use Rattle.rs_text.proofs.MessageLaws.{label_seen, word_fed, sort_seen, has_room, labelled_lands}
 use Rattle.rs_text.specs.declared.faults.TextFault.{TextFault}
 use Rattle.rs_text.specs.declared.faults.Wanted.TheVariants as wanted
@@ -82,11 +80,6 @@ unless false x y h = refl
 pub by_name : (dia : Dialect) (v : Sign) (from : Link) (word : List ℕ) (at next : ℕ) (r : Reader_data) → ends_a_name dia v ≡ true → feed_word dia from word v at next r ≡ feed_bound_name (nearest_binding word r.bound) from at r
 by_name dia (broken k) from word at next r h = cc
 by_name dia v from word at next r h = unless (turns dia v) (feed_head_role dia (place_of word r.roles) from at r) (feed_bound_name (nearest_binding word r.bound) from at r) h
-
-pub faulty_calm : (k : FaultKind) → NotExpected (kind_of k)
-faulty_calm faulty.BadByte = tt
-faulty_calm faulty.NumberTooLarge = tt
-faulty_calm faulty.NameTooLong = tt
 
 -- what stands behind a word
 pub data Follower (dia : Dialect) : Sign → Type 0 where

@@ -1,5 +1,5 @@
 -- The labels that the reader has are those of the tokens that it took.
-use Rattle.std.proofs.Common.{◌≡◌, ℕ, List, [], ◌∷◌, ◌++◌, length, codes, Bool, true, false, if◌then◌else◌, nat_le, nat_lt, Option, Some, None, Result, Ok, Err, IfOk, refl, sym, ap, ◌∙◌, subst, append-nil, append_assoc, cond}
+use Rattle.std.proofs.Common.{◌≡◌, ℕ, List, [], ◌∷◌, ◌++◌, length, codes, Bool, true, false, nat_le, nat_lt, Option, Some, None, Result, Ok, Err, IfOk, refl, sym, ap, ◌∙◌, append-nil, append_assoc, cond}
 use Rattle.rs_model.specs.Data.{Names_data}
 use Rattle.rs_model.specs.declared.graph.Label.{Label}
 use Rattle.rs_model.specs.declared.values.Sort.{Sort}
@@ -26,6 +26,7 @@ use Rattle.rs_bodies.specs.Data.{Reader_data}
 use Rattle.rs_bodies.specs.Faults.{opens_arm, label_there, labels_among}
 use Rattle.rs_bodies.specs.Feeding.{Fed, start_of_part, in_mode, reader_behind_link, feed_at, feed_machine, role_by, feed_head_role, feed_word, feed_body, feed_bound_name, feed_next, in_message, feeding, feed_arms}
 use Rattle.rs_bodies.proofs.FaultPlaces.{wanted_by}
+use Rattle.rs_text.proofs.Keeping.{if_ok}
 use Rattle.rs_text.specs.Readings.{feed_sign}
 
 -- the reader is at a label
@@ -185,13 +186,9 @@ more_labels : (old : Names_data) (xs : List Sign) (r : Reader_data) (t : Sign) �
 more_labels old xs r t k = ap (λ z. names_with z (label_there (at_arm r.mode) t)) k.labels ∙ ap (λ z. names_with (names_with old.labels (labels_among false xs)) (label_there z t)) k.mode
     ∙ sym (grown_append (labels_among false xs) (label_there (opened_by false xs) t) old.labels) ∙ ap (λ z. names_with old.labels z) (sym (labels_on xs false t))
 
-on_ok : (x : Fed) (d : Reader_data) (t : Sign) (r : Reader_data) → x ≡ Ok d → IfOk x (Takes t r) → Takes t r d
-on_ok (Ok e) d t r same h = let k : e ≡ d = cc in subst (λ (z : Reader_data). Takes t r z) k h
-on_ok (Err e) d t r same h = absurd (cc same)
-
 pub follows_on : (old : Names_data) (xs : List Sign) (t : Sign) (at : ℕ) (n : Lexeme) (r d : Reader_data) → Follows old xs r → feed_sign (feeding Acts) t at n r ≡ Ok d → Follows old (xs ++ t ∷ []) d
 follows_on old xs t at n r d k e =
-    let h = on_ok (feed_sign (feeding Acts) t at n r) d t r e (take_sign t at n r k.line) in
+    let h = if_ok (feed_sign (feeding Acts) t at n r) d (Takes t r) e (take_sign t at n r k.line) in
     record { labels = h.0 ∙ more_labels old xs r t k; mode = h.1 ∙ sym (opened_on xs false t); line = h.2; roles = h.3 ∙ k.roles }
 
 no_arm : (m : Mode) (fs : List Frame) → wanted_by Acts m fs ≡ wanted.Body → at_arm m ≡ false

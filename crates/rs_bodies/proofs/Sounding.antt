@@ -4,7 +4,6 @@ use Rattle.std.specs.Prelude.{codes}
 use Rattle.rs_model.specs.declared.graph.Role.{Role}
 use Rattle.rs_text.specs.declared.faults.TextFault.{TextFault}
 use Rattle.rs_text.specs.declared.faults.TextKind.TheVariants as kind
-use Rattle.rs_text.specs.declared.faults.Wanted.{Wanted}
 use Rattle.rs_text.specs.declared.faults.Wanted.TheVariants as wanted
 use Rattle.rs_text.specs.Lexemes.{Lexeme}
 use Rattle.rs_text.specs.Names.{place_of, nearest_binding, is_among, differ}
@@ -43,7 +42,7 @@ use Rattle.rs_bodies.proofs.Labels.{Takes, take_sign, is_of_talks}
 use Rattle.rs_bodies.specs.Feeding.{feed_of, start_of_part, first_roles, PartAnswer, answer_of_reading, ReadsAs}
 use Rattle.std.proofs.Common.{Result}
 use Rattle.rs_text.specs.Readings.{Reading, read_all}
-use Rattle.rs_text.proofs.Keeping.{tokens, kept, KeptIn}
+use Rattle.rs_text.proofs.Keeping.{tokens, kept, KeptIn, if_ok}
 use Rattle.rs_bodies.proofs.FaultRuns.{linked_length, placed_length}
 
 -- names that are still sound, with further labels behind the old ones
@@ -208,19 +207,13 @@ abbrev pub Own : (dia : Dialect) → Names_data → Reader_data → Type 0
 Own Talks old d = Unit {0}
 Own Acts old d = (d.roles ≡ old.roles) × (is_of_talks d.mode ≡ false)
 
-own_takes : (x : Fed) (d : Reader_data) (t : Sign) (old : Names_data) (r : Reader_data) → x ≡ Ok d → IfOk x (Takes t r) → Own Acts old r → Own Acts old d
-own_takes (Ok e) d t old r same h own = let k : e ≡ d = cc in subst (λ (z : Reader_data). Own Acts old z) k (h.3 ∙ own.0, h.2)
-own_takes (Err e) d t old r same h own = absurd (cc same)
-
 own_on : (dia : Dialect) (old : Names_data) (t : Sign) (at : ℕ) (next : Lexeme) (r d : Reader_data) → IsWhole t → feed_of dia t at next r ≡ Ok d → Own dia old r → Own dia old d
 own_on Talks old t at next r d w e own = tt
-own_on Acts old t at next r d w e own = own_takes (feed_sign (feeding Acts) t at next r) d t old r (whole_fed Acts t at next r w ∙ e) (take_sign t at next r own.1) own
+own_on Acts old t at next r d w e own =
+    let h = if_ok (feed_sign (feeding Acts) t at next r) d (Takes t r) (whole_fed Acts t at next r w ∙ e) (take_sign t at next r own.1) in
+    (h.3 ∙ own.0, h.2)
 
 -- ---- as the loop needs it
-
-if_ok : (x : Fed) (d : Reader_data) (Q : Reader_data → Type 0) → x ≡ Ok d → IfOk x Q → Q d
-if_ok (Ok e) d Q same h = let k : e ≡ d = cc in subst Q k h
-if_ok (Err e) d Q same h = absurd (cc same)
 
 abbrev pub Kept : (dia : Dialect) → Names_data → Reader_data → Type 0
 Kept dia old d = Good dia old d × Own dia old d

@@ -29,9 +29,9 @@ use Rattle.rs_bodies.specs.Fits.{is_guarded, has_room_for, body_fits, arms_fit, 
 use Rattle.rs_bodies.specs.Feeding.{Fed, in_mode, reader_behind_link, start_behind_link, drafts_behind_link, feed_head_role, feed_new_head, feed_receiver_role, feed_bound_name, reader_at_head, reader_in_braces, feeding}
 use Rattle.rs_text.specs.Readings.{fault}
 use Rattle.rs_text.proofs.Leading.{sign_behind, Tells, Exact, Hangs, hangs_both, tells_if, full, roomy, fits_in}
-use Rattle.rs_bodies.proofs.FaultRuns.{by_name, acts_shape, offers_shape, placed_length, frame_at, restored_bound, lone_leads}
+use Rattle.rs_bodies.proofs.FaultRuns.{by_name, acts_shape, offers_shape, placed_length, frame_at, restored_bound, lone_leads, linked_length}
 use Rattle.rs_bodies.proofs.FaultPlaces.{scene_of}
-use Rattle.rs_bodies.proofs.SpeltSteps.{target, arm_to, arms_to, draft, drafts_of, drafts_in, with_all, mid_arm, linked_length, Stays, stays_before, numbered, arm_exact}
+use Rattle.rs_bodies.proofs.SpeltSteps.{target, arm_to, arms_to, draft, drafts_of, drafts_in, with_all, mid_arm, Stays, stays_before, numbered, arm_exact}
 use Rattle.rs_text.proofs.Basics.{or_assoc, or_true, or_false}
 
 -- as many acts as the tree has

@@ -1,29 +1,25 @@
 -- What the tokens of a body lead the reader to: where the body fits to this state and no other, else to a fault.
-use Rattle.std.proofs.Common.{◌≡◌, ℕ, suc, ◌+◌, List, [], ◌∷◌, ◌++◌, length, true, ◌||◌, nat_le, nat_lt, Option, Some, None, Ok, refl, sym, ap, ◌∙◌, subst, arith, length-append, slice_get}
-use Rattle.std.proofs.lemmas.List.{length-set}
+use Rattle.std.proofs.Common.{◌≡◌, ℕ, suc, ◌+◌, List, [], ◌∷◌, ◌++◌, length, Option, Some, None, refl, sym, ap, ◌∙◌, subst, arith, length-append, slice_get}
 use Rattle.std.proofs.lemmas.Option.{slice_get_read}
 use Rattle.std.proofs.Math.Seq.{get_or-append_seam, set-append_seam}
 use Rattle.rs_model.specs.declared.graph.Label.{Label}
 use Rattle.rs_model.specs.declared.values.Sort.{Sort}
 use Rattle.rs_bodies.specs.declared.dialects.Dialect.{Dialect}
-use Rattle.rs_bodies.specs.declared.dialects.Dialect.TheVariants.{Talks, Acts}
 use Rattle.rs_bodies.specs.declared.dialects.Head.{Head}
-use Rattle.rs_bodies.specs.declared.reading.Link.{Link}
 use Rattle.rs_bodies.specs.declared.reading.Link.TheVariants as link
 use Rattle.rs_bodies.specs.declared.reading.Mode.TheVariants as mode
 use Rattle.rs_bodies.specs.declared.drafts.DraftArm.{DraftArm}
 use Rattle.rs_text.specs.Names.{place_of, names_with, Bound, nearest_binding, number_or}
-use Rattle.rs_text.specs.Signs.{Sign, word_sign, dot, open_paren, close_paren}
+use Rattle.rs_text.specs.Signs.{Sign, dot, open_paren, close_paren}
 use Rattle.rs_text.proofs.Naming.{grown_stays}
 use Rattle.rs_text.specs.Arms.{sort_signs, arm_signs, sort_or_unit}
-use Rattle.rs_bodies.specs.Dialects.{lone_signs}
 use Rattle.rs_bodies.specs.Data.{Reader_data, Draft_data}
 use Rattle.rs_bodies.specs.Drafts.{with_arm}
 use Rattle.rs_bodies.specs.Trees.{Body, ends, again, binds, acts, offers, Branches, one, more}
 use Rattle.rs_bodies.specs.Graph.{acts_in, Numbering, label_of}
 use Rattle.rs_bodies.specs.Points.{head_of}
 use Rattle.rs_bodies.specs.Fits.{has_room_for}
-use Rattle.rs_bodies.specs.Feeding.{drafts_behind_link, feeding}
+use Rattle.rs_bodies.specs.Feeding.{feeding}
 use Rattle.rs_text.proofs.Leading.{Hangs, Exact}
 use Rattle.rs_text.specs.Messages.{label_of_number}
 use Rattle.rs_text.specs.declared.messages.MessagePlace.TheVariants as place
@@ -72,14 +68,6 @@ mid_seam xs d ys arm = ap (λ z. with_arm arm z (xs ++ d ∷ ys) (length xs)) (g
 
 pub mid_arm : (xs : List Draft_data) (d : Draft_data) (ys : List Draft_data) (arm : DraftArm) (k : ℕ) → length xs ≡ k → with_arm arm (slice_get (xs ++ d ∷ ys) k) (xs ++ d ∷ ys) k ≡ xs ++ with_all d (arm ∷ []) ∷ ys
 mid_arm xs d ys arm k e = subst (λ (z : ℕ). with_arm arm (slice_get (xs ++ d ∷ ys) z) (xs ++ d ∷ ys) z ≡ xs ++ with_all d (arm ∷ []) ∷ ys) e (mid_seam xs d ys arm)
-
-with_arm_length : (arm : DraftArm) (found : Option Draft_data) (drafts : List Draft_data) (k : ℕ) → length (with_arm arm found drafts k) ≡ length drafts
-with_arm_length arm None drafts k = refl
-with_arm_length arm (Some d) drafts k = length-set drafts k _
-
-pub linked_length : (from : Link) (to : Option ℕ) (drafts : List Draft_data) → length (drafts_behind_link from to drafts) ≡ length drafts
-linked_length link.Start to drafts = refl
-linked_length (link.OfArm act label sort) to drafts = with_arm_length _ (slice_get drafts act) drafts act
 
 -- ---- arms
 

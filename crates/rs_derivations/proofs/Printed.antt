@@ -2,7 +2,6 @@
 use Rattle.std.proofs.Common.{◌≡◌, ℕ, suc, ◌≤◌, List, [], ◌∷◌, ◌++◌, codes, true, false, Option, Some, None, refl, sym, ap, ◌∙◌, subst, append_assoc}
 use Rattle.std.specs.Fmt.{decimal}
 use Rattle.rs_model.specs.declared.values.Sort.{Sort}
-use Rattle.rs_model.specs.declared.values.Sort.TheVariants as sort
 use Rattle.rs_prefix.specs.declared.earliest.Kind.{Kind}
 use Rattle.rs_prefix.specs.declared.earliest.Kind.TheVariants as act
 use Rattle.rs_text.specs.Arms.{sort_text, sort_signs}
@@ -11,6 +10,7 @@ use Rattle.rs_text.specs.Shown.{shown_text}
 use Rattle.rs_text.specs.Signs.{Sign, plain, number, word_sign, bang, question, colon, comma, open_brace, close_brace, open_paren, close_paren, open_bracket, close_bracket}
 use Rattle.rs_text.specs.Words.{is_word, is_role_word}
 use Rattle.rs_text.specs.Writing.{IsWritten}
+use Rattle.rs_text.proofs.Arms.{sort_is_word}
 use Rattle.rs_text.proofs.Written.{nothing_written, joined, before_blank, before_mark, before_word, before_role, before_number}
 use Rattle.rs_derivations.specs.Lists.{with_separators}
 use Rattle.rs_derivations.specs.Texts.{mark_text, act_text, acts_text, numbers_text, rest_text, node_text, nodes_text, derivation_text}
@@ -41,14 +41,6 @@ AreNodesWritable n [] = Unit {0}
 AreNodesWritable n (t ∷ ts) = (n ≤ 4294967295) × IsNodeWritable t × AreNodesWritable (suc n) ts
 
 -- ---- acts
-
-sort_is_word : (s : Sort) → is_role_word (sort_text s) ≡ true
-sort_is_word sort.Unit = refl
-sort_is_word sort.Flag = refl
-sort_is_word sort.Natural = refl
-sort_is_word sort.Whole = refl
-sort_is_word sort.Octets = refl
-sort_is_word sort.Numbers = refl
 
 closing : (behind : List ℕ) → IsWritten (close_paren ∷ []) (codes ")") behind
 closing behind = before_mark close_paren [] (codes ")") [] behind refl refl (nothing_written behind)

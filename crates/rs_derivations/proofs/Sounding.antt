@@ -20,6 +20,7 @@ use Rattle.rs_text.proofs.Basics.{both}
 use Rattle.rs_text.proofs.MessageLaws.{GoodLabels, GoodBehind, labels_first, message_good}
 use Rattle.rs_text.proofs.Naming.{decides_sound}
 use Rattle.rs_text.specs.Messages.{Message, goes_on, ends, feed_message}
+use Rattle.rs_text.proofs.Keeping.{if_ok}
 use Rattle.rs_text.specs.declared.faults.TextFault.{TextFault}
 use Rattle.rs_derivations.specs.declared.reading.Mode.{Mode}
 use Rattle.rs_derivations.specs.declared.reading.Mode.TheVariants as mode
@@ -131,10 +132,6 @@ fed old mode.AtAct t at r n h = act old (plain_text t) (is_close_bracket t) at r
 fed old (mode.AtMark p) t at r n h = mark old p (mark_kind t) at r h
 fed old (mode.InMessage p m x) t at r n h = message old p m (feed_message x t at r.labels) r (message_good old.labels r.labels x t at n h.labels_good) h
 fed old m t at r n h = rest old m t at r h
-
-if_ok : (x : Fed) (d : Reader_data) (Q : Reader_data → Type 0) → x ≡ Ok d → IfOk x Q → Q d
-if_ok (Ok e) d Q same h = let k : e ≡ d = cc in subst Q k h
-if_ok (Err e) d Q same h = absurd (cc same)
 
 good_on : (old : Names_data) (t : Sign) (at : ℕ) (next : Lexeme) (r d : Reader_data) → IsNamed t → feed_sign feeding t at next r ≡ Ok d → Good old r → Good old d
 good_on old (broken k) at next r d name f h = absurd (cc f)

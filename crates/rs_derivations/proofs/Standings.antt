@@ -1,5 +1,5 @@
 -- The reader at each place: what it has read, and what it makes of a token there.
-use Rattle.std.proofs.Common.{◌≡◌, ℕ, List, [], ◌∷◌, ◌++◌, codes, length, map, Bool, true, false, ◌&&◌, ◌||◌, ◌==◌, nat_le, if◌then◌else◌, Option, Some, None, Ok, refl, sym, ap, ◌∙◌, subst, append_assoc, append-nil}
+use Rattle.std.proofs.Common.{◌≡◌, ℕ, List, [], ◌∷◌, ◌++◌, codes, length, map, Bool, true, false, ◌&&◌, ◌==◌, nat_le, if◌then◌else◌, Option, Some, None, Ok, refl, sym, ap, ◌∙◌, subst, append_assoc, append-nil}
 use Rattle.std.proofs.lemmas.Grind.{flat_map-append}
 use Rattle.std.proofs.lemmas.List.{map-append, length-map}
 use Rattle.std.specs.List.{list_all}
@@ -25,7 +25,8 @@ use Rattle.rs_text.specs.Signs.{Sign, plain, open_paren, close_paren}
 use Rattle.rs_text.specs.declared.messages.MessagePlace.{MessagePlace}
 use Rattle.rs_text.specs.declared.messages.MessagePlace.TheVariants as place
 use Rattle.rs_text.specs.Messages.{goes_on, label_of_number, labelled_by, feed_label, feed_paren, sorted_by, feed_sort, feed_close}
-use Rattle.rs_text.proofs.Naming.{among, not_among, place_of_new, place_stays, grown_append, grown_among}
+use Rattle.rs_text.proofs.Naming.{among, not_among, place_of_new, place_stays, grown_append, grown_among, absent_by}
+use Rattle.rs_text.proofs.Basics.{both, or_first}
 use Rattle.rs_derivations.specs.declared.reading.Mode.{Mode}
 use Rattle.rs_derivations.specs.declared.reading.Mode.TheVariants as mode
 use Rattle.rs_derivations.specs.Cuts.{ActCut, behind_peer, behind_mark, behind_label, behind_paren, behind_sort, NodeCut, at_number, at_colon, at_state, at_acts, at_act, in_act, behind_act, at_above, at_rank_word, at_rank, at_next_word, at_nexts, at_next, behind_next, Cut, at_begin, at_role, at_bound_word, at_bound, at_brace, in_nodes, at_end, wanted_of, node_wanted, act_wanted, next_wanted}
@@ -166,27 +167,12 @@ closed_stands old x b ns = ap (λ z. standing (with_labels old z) x b ns no_node
 
 -- ---- a new label changes none that was there
 
-abbrev Known : List (List ℕ) → List (List ℕ) → Type 0
+abbrev pub Known : List (List ℕ) → List (List ℕ) → Type 0
 Known names xs = list_all (λ x. is_among x names) xs ≡ true
-
-and_both : (a b : Bool) → (a && b) ≡ true → (a ≡ true) × (b ≡ true)
-and_both true b h = (refl, h)
-and_both false b h = absurd (cc h)
-
-none_from : (names : List (List ℕ)) (x : List ℕ) (o : Option ℕ) → place_of x names ≡ o → is_among x names ≡ false → place_of x names ≡ None
-none_from names x None e h = e
-none_from names x (Some n) e h = absurd (cc (sym h ∙ among names x 0 n e))
-
-none_there : (names : List (List ℕ)) (x : List ℕ) → is_among x names ≡ false → place_of x names ≡ None
-none_there names x h = none_from names x (place_of x names) refl h
 
 here : (names : List (List ℕ)) (x : List ℕ) (b : Bool) → is_among x names ≡ b → is_among x (if b then names else names ++ x ∷ []) ≡ true
 here names x true e = e
-here names x false e = among (names ++ x ∷ []) x 0 (length names) (place_of_new names x (none_there names x e))
-
-or_first : (a b : Bool) → a ≡ true → (a || b) ≡ true
-or_first true b h = refl
-or_first false b h = absurd (cc h)
+here names x false e = among (names ++ x ∷ []) x 0 (length names) (place_of_new names x (absent_by (place_of x names) x names refl e))
 
 stays_among : (names xs : List (List ℕ)) (x : List ℕ) → is_among x names ≡ true → is_among x (names_with names xs) ≡ true
 stays_among names xs x h = grown_among xs names x ∙ or_first (is_among x names) (is_among x xs) h
@@ -198,8 +184,8 @@ grown_known (x ∷ xs) names =
     let a : is_among x (names_with first xs) ≡ true = stays_among first xs x (here names x (is_among x names) refl) in
     ap (λ z. z && list_all (λ y. is_among y (names_with first xs)) xs) a ∙ grown_known xs first
 
-known_parts : (names xs ys : List (List ℕ)) → Known names (xs ++ ys) → Known names xs × Known names ys
-known_parts names xs ys h = and_both (list_all (λ x. is_among x names) xs) (list_all (λ x. is_among x names) ys) (sym (list_all-append (λ x. is_among x names) xs ys) ∙ h)
+pub known_parts : (names xs ys : List (List ℕ)) → Known names (xs ++ ys) → Known names xs × Known names ys
+known_parts names xs ys h = both (list_all (λ x. is_among x names) xs) (list_all (λ x. is_among x names) ys) (sym (list_all-append (λ x. is_among x names) xs ys) ∙ h)
 
 -- names with these labels
 abbrev having : Names_data → List (List ℕ) → Names_data
@@ -215,7 +201,7 @@ label_kept old labels w x h = let f : ℕ → Label = λ n. record { 0 = n } in 
 acts_kept : (old : Names_data) (labels : List (List ℕ)) (w : List ℕ) (acts : List ActTree) → Known labels (labels_of_acts acts) → map (act_of (having old (labels ++ w ∷ []))) acts ≡ map (act_of (having old labels)) acts
 acts_kept old labels w [] h = refl
 acts_kept old labels w (a ∷ acts) h =
-    let k = and_both (is_among a.label labels) (list_all (λ x. is_among x labels) (labels_of_acts acts)) h in
+    let k = both (is_among a.label labels) (list_all (λ x. is_among x labels) (labels_of_acts acts)) h in
     ap (λ z. act_of_kind a.kind (role_named old a.peer) z (sort_or_unit a.sort) ∷ map (act_of (having old (labels ++ w ∷ []))) acts) (label_kept old labels w a.label k.0) ∙ ap (λ z. act_of (having old labels) a ∷ z) (acts_kept old labels w acts k.1)
 
 nodes_kept : (old : Names_data) (labels : List (List ℕ)) (w : List ℕ) (ns : List NodeTree) → Known labels (labels_of_nodes ns) → map (node_of (having old (labels ++ w ∷ []))) ns ≡ map (node_of (having old labels)) ns
@@ -288,9 +274,6 @@ role_there old w at d v (Some n) f e h r g k =
     let role : ℕ → Role = λ n. record { 0 = n } in
     g n refl ∙ ap (λ z. good (f (role (number_or z)))) (sym h) ∙ ap good e ∙ ap (λ z. told old (Some d) (if z then None else Some kind.UnknownRole) v at) (sym (among old.roles w 0 n h))
 role_there old w at d v None f e h r g k = k refl ∙ ap (λ z. told old (Some d) (if z then None else Some kind.UnknownRole) v at) (sym (not_among old.roles w 0 h))
-
-some_number : (n k : ℕ) → Some n ≡ Some k → n ≡ k
-some_number n k h = cc
 
 own_told : (old : Names_data) (at : ℕ) (o : Option (List ℕ)) → feed_role o at (stand old at_role) ≡ told old (role_step o) (fault_of_role old o) wanted.Role at
 own_told old at None = refl

@@ -1,5 +1,5 @@
 -- What a token makes of a message: where its fault stands, what its label is, and which labels are there behind it.
-use Rattle.std.proofs.Common.{◌≡◌, ◌∙◌, ℕ, ◌≤◌, List, [], ◌∷◌, ◌++◌, append-nil, append_assoc, codes, length, Bool, true, false, ◌&&◌, ◌||◌, if◌then◌else◌, nat_le, nat_lt, Option, Some, None, Ok, Err, IfOk, IfErr, refl, sym, ap, subst}
+use Rattle.std.proofs.Common.{◌≡◌, ◌∙◌, ℕ, ◌≤◌, List, [], ◌∷◌, ◌++◌, append-nil, append_assoc, codes, length, Bool, true, false, ◌&&◌, ◌||◌, if◌then◌else◌, nat_le, nat_lt, Option, Some, None, Ok, IfOk, IfErr, refl, sym, ap, subst}
 use Rattle.std.proofs.lemmas.Slice.Eq.{bytes_eq-Decides}
 use Rattle.std.specs.List.{list_all}
 use Rattle.std.specs.Str.{bytes_eq}
@@ -16,7 +16,7 @@ use Rattle.rs_text.specs.declared.messages.MessagePlace.{MessagePlace}
 use Rattle.rs_text.specs.declared.messages.MessagePlace.TheVariants as place
 use Rattle.rs_text.specs.Arms.{sort_text}
 use Rattle.rs_text.specs.Lexemes.{Lexeme}
-use Rattle.rs_text.specs.Messages.{Message, goes_on, ends, Fed, label_of_number, labelled_by, feed_label, feed_paren, sorted_by, feed_sort, feed_close, feed_message}
+use Rattle.rs_text.specs.Messages.{Message, goes_on, ends, Fed, label_of_number, labelled_by, feed_label, sorted_by, feed_message}
 use Rattle.rs_text.specs.Names.{place_of, names_with, is_among, differ}
 use Rattle.rs_text.specs.Readings.{Automaton, feed_sign, fault}
 use Rattle.rs_text.specs.Seen.{word_text, sort_named}
