@@ -3,7 +3,6 @@ use Rattle.std.proofs.Common.{◌≡◌, ℕ, suc, ◌+◌, List, [], ◌∷◌,
 use Rattle.rs_model.specs.declared.graph.Role.{Role}
 use Rattle.rs_model.specs.declared.graph.Label.{Label}
 use Rattle.rs_model.specs.declared.values.Sort.{Sort}
-use Rattle.rs_model.specs.declared.values.Sort.TheVariants as sort
 use Rattle.rs_text.specs.declared.faults.TextKind.{TextKind}
 use Rattle.rs_text.specs.declared.faults.TextKind.TheVariants as kind
 use Rattle.std.specs.List.{flat_map}
@@ -30,14 +29,17 @@ use Rattle.rs_bodies.specs.Cuts.{TurnCut, behind_arrow, behind_receiver, wanted_
 use Rattle.rs_bodies.specs.Openings.{Opening, of_roles, of_role, further_signs, line_signs, opening_signs, roles_in}
 use Rattle.rs_bodies.specs.Cuts.{OpeningCut, at_roles, at_first, behind_first, at_further, behind_further, at_machine, at_role, behind_role, opening_cut_signs}
 use Rattle.rs_bodies.specs.Spells.{Tree, tree_signs}
-use Rattle.rs_bodies.specs.Feeding.{Fed, start_of_part, feed_word, reader_at_head, reader_in_braces, feed_head_role, feed_bound_name, new_role, role_by, feed_sort_word, feeding}
+use Rattle.rs_bodies.specs.Feeding.{Fed, start_of_part, feed_word, reader_at_head, reader_in_braces, feed_head_role, feed_bound_name, new_role, role_by, in_message, feeding}
 use Rattle.rs_text.specs.Readings.{fault}
 use Rattle.rs_bodies.specs.Trees.{body_signs, branch_signs, ends_a_name}
 use Rattle.rs_bodies.specs.Cuts.{Cut, at_body, behind_end, behind_name, behind_rec, behind_rec_name, in_binds, in_arm, in_acts, in_offers, behind_brace, BranchCut, in_head, in_branch, later, in_turn, PartCut, in_opening, in_body, cut_signs, branch_cut_signs, part_cut_signs, wanted_at, wanted_in}
 use Rattle.rs_bodies.specs.Scenes.{Scene, with_label, in_act, behind}
 use Rattle.rs_bodies.specs.Misplaced.{scene_at, scene_in, fault_of_depth, fault_of_label, fault_by, fault_of, fault_of_new_role, fault_of_role}
-use Rattle.rs_text.proofs.Leading.{Lands, Leads, lands_if}
-use Rattle.rs_bodies.proofs.FaultRuns.{met_lands, received_lands, head_lands, lone_lands, Follower, a_turn, a_broken, a_name, follower, by_name, faulty_calm, named_lands, placed_length, label_lands, arm_passes, frame_at, restored_bound, passes, branches_pass}
+use Rattle.rs_text.proofs.Leading.{Lands, Leads, lands_if, NotExpected, faulty_calm}
+use Rattle.rs_text.proofs.MessageLaws.{sort_seen}
+use Rattle.rs_text.specs.Messages.{sorted_by}
+use Rattle.rs_text.specs.declared.messages.MessagePlace.TheVariants as place
+use Rattle.rs_bodies.proofs.FaultRuns.{met_lands, received_lands, head_lands, lone_leads, sort_leads, Follower, a_turn, a_broken, a_name, follower, by_name, named_lands, placed_length, label_lands, arm_passes, frame_at, restored_bound, passes, branches_pass}
 
 -- what a mode wants; a machine's first word is wanted as `DerivationOrEnd` here, so that it differs from what is wanted behind a part
 abbrev pub wanted_behind : List Frame → Wanted
@@ -63,10 +65,10 @@ wanted_by dia (mode.RecDot from) fs = wanted.Dot
 wanted_by dia (mode.AtTurn from p) fs = wanted_behind fs
 wanted_by dia (mode.Receiver from p) fs = wanted.Role
 wanted_by dia (mode.AtArms act) fs = wanted_behind_head dia
-wanted_by dia (mode.AtLabel act) fs = wanted.Label
-wanted_by dia (mode.Paren act label) fs = wanted.OpenParen
-wanted_by dia (mode.AtSort act label) fs = wanted.SortOrCloseParen
-wanted_by dia (mode.CloseParen act label s) fs = wanted.CloseParen
+wanted_by dia (mode.InMessage act place.Label) fs = wanted.Label
+wanted_by dia (mode.InMessage act (place.Paren label)) fs = wanted.OpenParen
+wanted_by dia (mode.InMessage act (place.Sort label)) fs = wanted.SortOrCloseParen
+wanted_by dia (mode.InMessage act (place.Close label s)) fs = wanted.CloseParen
 wanted_by dia (mode.ArmDot act label s) fs = wanted.Dot
 wanted_by dia mode.Next fs = wanted_behind fs
 
@@ -85,7 +87,7 @@ fault_seen dia mode.AtRole t n r = fault_by dia wanted.Role t n (scene_of r)
 fault_seen dia (mode.Body from) t n r = fault_by dia wanted.Body t n (scene_of r)
 fault_seen dia (mode.Receiver from p) t n r = fault_by dia wanted.Role t n (scene_of r)
 fault_seen dia (mode.AtArms act) t n r = fault_by dia (wanted_behind_head dia) t n (scene_of r)
-fault_seen dia (mode.AtLabel act) t n r = fault_by dia wanted.Label t n (scene_of r)
+fault_seen dia (mode.InMessage act place.Label) t n r = fault_by dia wanted.Label t n (scene_of r)
 fault_seen dia _ t n r = None
 
 -- the place is behind a word that began a body
@@ -176,27 +178,17 @@ brace_same end_word n s o e f = word_same (codes "end") s o e
 brace_same (plain l) n s o e f = word_same l s o e
 brace_same _ n s o e f = refl
 
-sorted_lands : (s : Sort) (act : ℕ) (label : Label) (at : ℕ) (r : Reader_data) (Q : Reader_data → Type 0) → Q (record r { mode = mode.CloseParen act label s }) → Lands (feed_sort_word (sort_named (sort_text s)) act label at r) Q
-sorted_lands sort.Unit act label at r Q h = h
-sorted_lands sort.Flag act label at r Q h = h
-sorted_lands sort.Natural act label at r Q h = h
-sorted_lands sort.Whole act label at r Q h = h
-sorted_lands sort.Octets act label at r Q h = h
-sorted_lands sort.Numbers act label at r Q h = h
+sorted_lands : (s : Sort) (act : ℕ) (label : Label) (at : ℕ) (r : Reader_data) (Q : Reader_data → Type 0) → Q (record r { mode = mode.InMessage act (place.Close label s) }) → Lands (in_message act (sorted_by (sort_named (sort_text s)) label at r.labels) r) Q
+sorted_lands s act label at r Q h = subst (λ (o : Option Sort). Lands (in_message act (sorted_by o label at r.labels) r) Q) (sym (sort_seen s)) h
 
-head_passes : (dia : Dialect) (x : Option Sort) (l : List ℕ) (act : ℕ) (label : Label) (r : Reader_data) (o : Scene) (u : Sign) → Leads (feeding dia) (open_paren ∷ (sort_signs x ++ close_paren ∷ [])) u (ArmAgrees dia (behind_head l x) o u) (record r { mode = mode.Paren act label })
-head_passes dia None l act label r o u = λ a f n. λ a f n. record { wanted = refl; faults = λ t n. refl; named = tt }
-head_passes dia (Some s) l act label r o u = λ a f n. λ a f n. sorted_lands s act label a (record r { mode = mode.AtSort act label }) (λ d. Leads (feeding dia) (close_paren ∷ []) u (ArmAgrees dia (behind_head l (Some s)) o u) d)
-    (λ a f n. record { wanted = refl; faults = λ t n. refl; named = tt })
-
-arm_cut_passes : (dia : Dialect) (arm : ArmCut) (act : ℕ) (r : Reader_data) (s : Scene) (u : Sign) → s.labels ≡ r.labels → Leads (feeding dia) (arm_cut_signs arm) u (ArmAgrees dia arm s u) (record r { mode = mode.AtLabel act })
+arm_cut_passes : (dia : Dialect) (arm : ArmCut) (act : ℕ) (r : Reader_data) (s : Scene) (u : Sign) → s.labels ≡ r.labels → Leads (feeding dia) (arm_cut_signs arm) u (ArmAgrees dia arm s u) (record r { mode = mode.InMessage act place.Label })
 arm_cut_passes dia at_label act r s u e = record { wanted = refl; faults = λ t n. label_same dia t n s (scene_of r) e; named = tt }
 arm_cut_passes dia (behind_label l) act r s u e = λ a f n. label_lands dia l act a _ r (λ d. ArmAgrees dia (behind_label l) s u d) (λ k. record { wanted = refl; faults = λ t n. refl; named = tt })
 arm_cut_passes dia (behind_paren l) act r s u e = λ a f n. label_lands dia l act a _ r (λ d. Leads (feeding dia) (open_paren ∷ []) u (ArmAgrees dia (behind_paren l) s u) d) (λ k. λ a f n. record { wanted = refl; faults = λ t n. refl; named = tt })
 arm_cut_passes dia (behind_sort l x) act r s u e = λ a f n. label_lands dia l act a _ r (λ d. Leads (feeding dia) (open_paren ∷ plain (sort_text x) ∷ []) u (ArmAgrees dia (behind_sort l x) s u) d)
-    (λ k. λ a f n. λ a f n. sorted_lands x act k a (record r { labels = names_with r.labels (l ∷ []); mode = mode.AtSort act k }) (ArmAgrees dia (behind_sort l x) s u) (record { wanted = refl; faults = λ t n. refl; named = tt }))
+    (λ k. λ a f n. λ a f n. sorted_lands x act k a (record r { labels = names_with r.labels (l ∷ []); mode = mode.InMessage act (place.Sort k) }) (ArmAgrees dia (behind_sort l x) s u) (record { wanted = refl; faults = λ t n. refl; named = tt }))
 arm_cut_passes dia (behind_head l x) act r s u e = λ a f n. label_lands dia l act a _ r (λ d. Leads (feeding dia) (open_paren ∷ (sort_signs x ++ close_paren ∷ [])) u (ArmAgrees dia (behind_head l x) s u) d)
-    (λ k. head_passes dia x l act k (record r { labels = names_with r.labels (l ∷ []) }) s u)
+    (λ k. sort_leads dia NotExpected x act k (record r { labels = names_with r.labels (l ∷ []) }) [] u (ArmAgrees dia (behind_head l x) s u) (record { wanted = refl; faults = λ t n. refl; named = tt }))
 
 first_label : (dia : Dialect) (act : ℕ) (r : Reader_data) (s : Scene) (u : Sign) → s.labels ≡ r.labels → s.depth ≡ r.depth → Leads (feeding dia) (lone_signs dia ++ []) u (LoneAgrees dia at_label s u) (record r { mode = mode.AtArms act })
 first_label Talks act r s u e f = λ a g n. arm_cut_passes Talks at_label act r s u e
@@ -204,10 +196,10 @@ first_label Acts act r s u e f = record { wanted = refl; faults = λ t n. brace_
 
 lone_cut_passes : (dia : Dialect) (arm : ArmCut) (act : ℕ) (r : Reader_data) (s : Scene) (u : Sign) → s.labels ≡ r.labels → s.depth ≡ r.depth → Leads (feeding dia) (lone_signs dia ++ arm_cut_signs arm) u (LoneAgrees dia arm s u) (record r { mode = mode.AtArms act })
 lone_cut_passes dia at_label act r s u e f = first_label dia act r s u e f
-lone_cut_passes dia (behind_label l) act r s u e f = lone_lands dia act l [] r u (LoneAgrees dia (behind_label l) s u) (arm_cut_passes dia (behind_label l) act r s u e)
-lone_cut_passes dia (behind_paren l) act r s u e f = lone_lands dia act l (open_paren ∷ []) r u (LoneAgrees dia (behind_paren l) s u) (arm_cut_passes dia (behind_paren l) act r s u e)
-lone_cut_passes dia (behind_sort l x) act r s u e f = lone_lands dia act l (open_paren ∷ plain (sort_text x) ∷ []) r u (LoneAgrees dia (behind_sort l x) s u) (arm_cut_passes dia (behind_sort l x) act r s u e)
-lone_cut_passes dia (behind_head l x) act r s u e f = lone_lands dia act l (open_paren ∷ (sort_signs x ++ close_paren ∷ [])) r u (LoneAgrees dia (behind_head l x) s u) (arm_cut_passes dia (behind_head l x) act r s u e)
+lone_cut_passes dia (behind_label l) act r s u e f = lone_leads dia NotExpected act l [] r u (LoneAgrees dia (behind_label l) s u) (arm_cut_passes dia (behind_label l) act r s u e)
+lone_cut_passes dia (behind_paren l) act r s u e f = lone_leads dia NotExpected act l (open_paren ∷ []) r u (LoneAgrees dia (behind_paren l) s u) (arm_cut_passes dia (behind_paren l) act r s u e)
+lone_cut_passes dia (behind_sort l x) act r s u e f = lone_leads dia NotExpected act l (open_paren ∷ plain (sort_text x) ∷ []) r u (LoneAgrees dia (behind_sort l x) s u) (arm_cut_passes dia (behind_sort l x) act r s u e)
+lone_cut_passes dia (behind_head l x) act r s u e f = lone_leads dia NotExpected act l (open_paren ∷ (sort_signs x ++ close_paren ∷ [])) r u (LoneAgrees dia (behind_head l x) s u) (arm_cut_passes dia (behind_head l x) act r s u e)
 
 -- within a head
 turn_cut_passes : (dia : Dialect) (t : TurnCut dia) (x : List ℕ) (from : Link) (r : Reader_data) (w : Wanted) (u : Sign) → Leads (feeding dia) (cut_signs dia (in_turn x t)) u (CutAgrees dia (in_turn x t) w (scene_of r) u) (record r { mode = mode.Body from })
@@ -244,7 +236,7 @@ mutual
       (λ q. lone_cut_passes dia arm (length r.drafts) (reader_at_head from q r) (in_act (scene_of r)) u refl refl)
   cut_passes dia (in_acts x y l s b) from r u = head_lands dia y x from r (lone_signs dia ++ (arm_signs l s ++ cut_signs dia b)) u (CutAgrees dia (in_acts x y l s b) (wanted_behind r.frames) (scene_of r) u)
       (λ q. let p : Reader_data = reader_at_head from q r in
-      lone_lands dia (length r.drafts) l (open_paren ∷ ((sort_signs s ++ close_paren ∷ dot ∷ []) ++ cut_signs dia b)) p u (CutAgrees dia (in_acts x y l s b) (wanted_behind r.frames) (scene_of r) u)
+      lone_leads dia NotExpected (length r.drafts) l (open_paren ∷ ((sort_signs s ++ close_paren ∷ dot ∷ []) ++ cut_signs dia b)) p u (CutAgrees dia (in_acts x y l s b) (wanted_behind r.frames) (scene_of r) u)
       (arm_passes dia l s (length r.drafts) p (cut_signs dia b) u (CutAgrees dia (in_acts x y l s b) (wanted_behind r.frames) (scene_of r) u)
       (λ label sort. subst (λ (z : ℕ). Leads (feeding dia) (cut_signs dia b) u (CutAgrees dia b (wanted_behind r.frames) (record { roles = r.roles; bound = r.bound; depth = r.depth; acts = z; labels = names_with r.labels (l ∷ []) }) u) (record p { labels = names_with r.labels (l ∷ []); mode = mode.Body (link.OfArm (length r.drafts) label sort) })) (placed_length from q r)
       (cut_passes dia b (link.OfArm (length r.drafts) label sort) (record p { labels = names_with r.labels (l ∷ []) }) u))))
@@ -261,7 +253,7 @@ mutual
       (branches_pass dia arms (length r.drafts) (record p { depth = suc r.depth }) (length r.drafts) r.frames (close_brace ∷ []) u (CutAgrees dia (behind_brace x y arms) (wanted_behind r.frames) (scene_of r) u) refl
       (λ labels drafts start ended bound inner depth g d b. λ a f n. record { wanted = refl; faults = λ t n. none_behind dia r.frames t n (scene_of r); named = λ h. cc })))
 
-  pub cut_branches : (dia : Dialect) (c : BranchCut dia) (act : ℕ) (r : Reader_data) (m : ℕ) (fs : List Frame) (u : Sign) → Leads (feeding dia) (branch_cut_signs dia c) u (BranchAgrees dia c (scene_of r) u) (record r { frames = frame_at m r.bound r.depth ∷ fs; mode = mode.AtLabel act })
+  pub cut_branches : (dia : Dialect) (c : BranchCut dia) (act : ℕ) (r : Reader_data) (m : ℕ) (fs : List Frame) (u : Sign) → Leads (feeding dia) (branch_cut_signs dia c) u (BranchAgrees dia c (scene_of r) u) (record r { frames = frame_at m r.bound r.depth ∷ fs; mode = mode.InMessage act place.Label })
   cut_branches dia (in_head arm) act r m fs u = arm_cut_passes dia arm act (record r { frames = frame_at m r.bound r.depth ∷ fs }) (scene_of r) u refl
   cut_branches dia (in_branch l s b) act r m fs u =
       let o : Reader_data = record r { frames = frame_at m r.bound r.depth ∷ fs } in
@@ -273,8 +265,8 @@ mutual
       (λ labels drafts start ended bound inner depth g d h. λ a f n.
       let back : Reader_data = record o { labels = labels; drafts = drafts; start = start; ended = ended } in
       let there : scene_of back ≡ behind dia b (with_label l (scene_of r)) = ap (λ z. record { roles = r.roles; bound = r.bound; depth = r.depth; acts = z; labels = labels }) d ∙ ap (λ z. record { roles = r.roles; bound = r.bound; depth = r.depth; acts = length r.drafts + acts_in dia b; labels = z }) g in
-      subst (λ (z : Bound). Leads (feeding dia) (branch_cut_signs dia arms) u (BranchAgrees dia (later l s b arms) (scene_of r) u) (record back { bound = z; mode = mode.AtLabel m })) (sym (restored_bound inner bound r.bound h))
-      (subst (λ (z : Scene). Leads (feeding dia) (branch_cut_signs dia arms) u (BranchAgrees dia arms z u) (record back { mode = mode.AtLabel m })) there (cut_branches dia arms m back m fs u))))
+      subst (λ (z : Bound). Leads (feeding dia) (branch_cut_signs dia arms) u (BranchAgrees dia (later l s b arms) (scene_of r) u) (record back { bound = z; mode = mode.InMessage m place.Label })) (sym (restored_bound inner bound r.bound h))
+      (subst (λ (z : Scene). Leads (feeding dia) (branch_cut_signs dia arms) u (BranchAgrees dia arms z u) (record back { mode = mode.InMessage m place.Label })) there (cut_branches dia arms m back m fs u))))
 
 -- ---- openings
 

@@ -1,15 +1,11 @@
 -- Where the tokens of a body lead the reader, if at all: no token of it is unexpected.
-use Rattle.std.proofs.Common.{◌≡◌, ℕ, suc, ◌+◌, ◌-◌, List, [], ◌∷◌, ◌++◌, length, drop, codes, Bool, true, false, if◌then◌else◌, nat_le, nat_lt, Option, Some, None, Ok, refl, sym, ap, ◌∙◌, subst, arith, append_assoc, length-append, slice_get}
+use Rattle.std.proofs.Common.{◌≡◌, ℕ, suc, ◌+◌, ◌-◌, List, [], ◌∷◌, ◌++◌, length, drop, Bool, true, false, if◌then◌else◌, nat_le, nat_lt, Option, Some, None, Result, Ok, Err, refl, sym, ap, ◌∙◌, subst, arith, append_assoc, length-append, slice_get}
 use Rattle.std.proofs.lemmas.List.{length-set}
 use Rattle.std.proofs.Math.Seq.{drop-append_seam}
-use Rattle.std.proofs.lemmas.Slice.Eq.{bytes_eq-Decides}
-use Rattle.std.specs.Str.{bytes_eq}
 use Rattle.rs_model.specs.declared.graph.Role.{Role}
 use Rattle.rs_model.specs.declared.graph.Label.{Label}
 use Rattle.rs_model.specs.declared.values.Sort.{Sort}
-use Rattle.rs_model.specs.declared.values.Sort.TheVariants as sort
 use Rattle.rs_text.specs.declared.tokens.FaultKind.{FaultKind}
-use Rattle.rs_text.specs.declared.tokens.FaultKind.TheVariants as faulty
 use Rattle.rs_text.specs.declared.faults.TextKind.{TextKind}
 use Rattle.rs_text.specs.declared.faults.TextKind.TheVariants as kind
 use Rattle.rs_bodies.specs.declared.dialects.Dialect.{Dialect}
@@ -22,20 +18,26 @@ use Rattle.rs_bodies.specs.declared.reading.Link.{Link}
 use Rattle.rs_bodies.specs.declared.reading.Link.TheVariants as link
 use Rattle.rs_bodies.specs.declared.reading.Mode.TheVariants as mode
 use Rattle.rs_bodies.specs.declared.drafts.DraftArm.{DraftArm}
-use Rattle.rs_text.specs.Faults.{kind_of}
 use Rattle.rs_text.specs.Lexemes.{Lexeme}
 use Rattle.rs_text.specs.Names.{place_of, names_with, Bound, nearest_binding}
-use Rattle.rs_text.specs.Signs.{Sign, rec_word, end_word, plain, arrow, bang, question, dot, comma, open_brace, close_brace, open_paren, close_paren, broken, word_sign}
-use Rattle.rs_text.proofs.Naming.{among, not_among, grown_append}
-use Rattle.rs_text.specs.Arms.{sort_signs, arm_signs}
+use Rattle.rs_text.specs.Signs.{Sign, plain, arrow, bang, question, dot, comma, open_brace, close_brace, open_paren, close_paren, broken, word_sign}
+use Rattle.rs_text.proofs.Naming.{grown_append}
+use Rattle.rs_text.specs.Arms.{sort_signs, arm_signs, sort_or_unit}
 use Rattle.rs_bodies.specs.Dialects.{Turn, sends_to, with_mark, turn_signs, lone_signs, turns, most}
 use Rattle.rs_bodies.specs.Data.{Reader_data, Draft_data}
 use Rattle.rs_bodies.specs.Drafts.{with_arm}
 use Rattle.rs_bodies.specs.Trees.{Body, ends, again, binds, acts, offers, Branches, one, more, body_signs, branch_signs, ends_a_name}
 use Rattle.rs_bodies.specs.Graph.{labels_of, labels_of_arms, acts_in, acts_in_arms}
-use Rattle.rs_bodies.specs.Feeding.{Fed, in_mode, reader_behind_link, start_behind_link, drafts_behind_link, feed_bound_name, feed_word, reader_at_head, feed_head_role, feed_receiver_role, reader_in_braces, label_of_number, feed_label_number, feeding}
+use Rattle.rs_bodies.specs.Feeding.{Fed, in_mode, reader_behind_link, start_behind_link, drafts_behind_link, feed_bound_name, feed_word, reader_at_head, feed_head_role, feed_receiver_role, reader_in_braces, in_message, feed_arms, feeding}
 use Rattle.rs_text.specs.Readings.{fault, feed_sign}
-use Rattle.rs_text.proofs.Leading.{Leads, NotExpected, sign_behind, lexeme, Lands, lands_if}
+use Rattle.rs_text.proofs.Leading.{Leads, LeadsOr, NotExpected, sign_behind, lexeme, Lands, LandsOr, lands_if, faulty_calm}
+use Rattle.rs_text.proofs.MessageLaws.{label_seen, word_fed, sort_seen, has_room, labelled_lands}
+use Rattle.rs_text.specs.declared.faults.TextFault.{TextFault}
+use Rattle.rs_text.specs.declared.faults.Wanted.TheVariants as wanted
+use Rattle.rs_text.specs.declared.messages.MessagePlace.TheVariants as place
+use Rattle.rs_text.specs.Messages.{Message, goes_on, ends, label_of_number, labelled_by, sorted_by, feed_label}
+use Rattle.rs_text.specs.Seen.{word_text}
+use Rattle.rs_bodies.specs.declared.reading.Mode.{Mode}
 
 -- no turn stands there
 abbrev pub IsAfter : Dialect → Sign → Type 0
@@ -79,11 +81,6 @@ pub by_name : (dia : Dialect) (v : Sign) (from : Link) (word : List ℕ) (at nex
 by_name dia (broken k) from word at next r h = cc
 by_name dia v from word at next r h = unless (turns dia v) (feed_head_role dia (place_of word r.roles) from at r) (feed_bound_name (nearest_binding word r.bound) from at r) h
 
-pub faulty_calm : (k : FaultKind) → NotExpected (kind_of k)
-faulty_calm faulty.BadByte = tt
-faulty_calm faulty.NumberTooLarge = tt
-faulty_calm faulty.NameTooLong = tt
-
 -- what stands behind a word
 pub data Follower (dia : Dialect) : Sign → Type 0 where
   a_turn : (v : Sign) → turns dia v ≡ true → Follower dia v
@@ -120,59 +117,64 @@ placed_length from q r = length-append (drafts_behind_link from (Some (length r.
 
 -- ---- arms
 
-label_if : (dia : Dialect) (a b : Bool) (l : List ℕ) (act : ℕ) (at : ℕ) (n : Lexeme) (r : Reader_data) → (a ≡ true → l ≡ codes "rec") → (b ≡ true → l ≡ codes "end")
-    → feed_sign (feeding dia) (if a then rec_word else if b then end_word else plain l) at n (record r { mode = mode.AtLabel act }) ≡ feed_label_number (place_of l r.labels) act l at (record r { mode = mode.AtLabel act })
-label_if dia true b l act at n r e f = ap (λ z. feed_label_number (place_of z r.labels) act z at (record r { mode = mode.AtLabel act })) (sym (e refl))
-label_if dia false true l act at n r e f = ap (λ z. feed_label_number (place_of z r.labels) act z at (record r { mode = mode.AtLabel act })) (sym (f refl))
-label_if dia false false l act at n r e f = refl
+message_leads : (E : TextKind → Type 0) (act : ℕ) (x : Result Message TextFault) (r : Reader_data) (Q : Reader_data → Type 0) → LandsOr E x (λ m. LandsOr E (in_message act (Ok m) r) Q) → LandsOr E (in_message act x r) Q
+message_leads E act (Ok m) r Q h = h
+message_leads E act (Err e) r Q h = h
 
-pub label_fed : (dia : Dialect) (l : List ℕ) (act : ℕ) (at : ℕ) (n : Lexeme) (r : Reader_data) → feed_sign (feeding dia) (word_sign l) at n (record r { mode = mode.AtLabel act }) ≡ feed_label_number (place_of l r.labels) act l at (record r { mode = mode.AtLabel act })
-label_fed dia l act at n r = label_if dia (bytes_eq l (codes "rec")) (bytes_eq l (codes "end")) l act at n r (λ h. (bytes_eq-Decides l (codes "rec")).0 h) (λ h. (bytes_eq-Decides l (codes "end")).0 h)
+message_same : (act : ℕ) (x : Result Message TextFault) (r : Reader_data) (m : Mode) → in_message act x (record r { mode = m }) ≡ in_message act x r
+message_same act (Err e) r m = refl
+message_same act (Ok (goes_on labels p)) r m = refl
+message_same act (Ok (ends l s)) r m = refl
 
-labelled_lands : (found : Option ℕ) (l : List ℕ) (act : ℕ) (at : ℕ) (r : Reader_data) (Q : Reader_data → Type 0) → place_of l r.labels ≡ found
-    → ((k : Label) (labels : List (List ℕ)) → labels ≡ names_with r.labels (l ∷ []) → Q (record r { labels = labels; mode = mode.Paren act k })) → Lands (feed_label_number found act l at (record r { mode = mode.AtLabel act })) Q
-labelled_lands (Some k) l act at r Q e h = h (label_of_number k) r.labels (sym (ap (λ z. if z then r.labels else r.labels ++ l ∷ []) (among r.labels l 0 k e)))
-labelled_lands None l act at r Q e h =
-    lands_if (nat_le 256 (length r.labels)) kind.TooManyLabels at (Ok (record r { labels = r.labels ++ l ∷ []; mode = mode.Paren act (label_of_number (length r.labels)) })) Q tt
-    (h (label_of_number (length r.labels)) (r.labels ++ l ∷ []) (sym (ap (λ z. if z then r.labels else r.labels ++ l ∷ []) (not_among r.labels l 0 e))))
+label_fed : (dia : Dialect) (l : List ℕ) (act : ℕ) (at : ℕ) (n : Lexeme) (r : Reader_data) → feed_sign (feeding dia) (word_sign l) at n (record r { mode = mode.InMessage act place.Label }) ≡ in_message act (labelled_by (place_of l r.labels) l at r.labels) r
+label_fed dia l act at n r =
+    let here : Mode = mode.InMessage act place.Label in
+    word_fed (feeding dia) (word_sign l) l at n (record r { mode = here }) (label_seen l)
+    ∙ ap (λ z. in_message act (feed_label wanted.Label z at r.labels) (record r { mode = here })) (label_seen l)
+    ∙ message_same act (labelled_by (place_of l r.labels) l at r.labels) r here
 
-pub label_lands : (dia : Dialect) (l : List ℕ) (act : ℕ) (at : ℕ) (n : Lexeme) (r : Reader_data) (Q : Reader_data → Type 0) → ((k : Label) → Q (record r { labels = names_with r.labels (l ∷ []); mode = mode.Paren act k }))
-    → Lands (feed_sign (feeding dia) (word_sign l) at n (record r { mode = mode.AtLabel act })) Q
-label_lands dia l act at n r Q h = subst (λ (x : Fed). Lands x Q) (sym (label_fed dia l act at n r))
-    (labelled_lands (place_of l r.labels) l act at r Q refl (λ k labels e. subst (λ (z : List (List ℕ)). Q (record r { labels = z; mode = mode.Paren act k })) (sym e) (h k)))
+-- the label of an arm is taken where there is room for it
+pub label_leads : (dia : Dialect) (E : TextKind → Type 0) (l : List ℕ) (act : ℕ) (at : ℕ) (n : Lexeme) (r : Reader_data) (Q : Reader_data → Type 0) → (has_room l r.labels ≡ false → E kind.TooManyLabels)
+    → (has_room l r.labels ≡ true → (k : ℕ) → place_of l (names_with r.labels (l ∷ [])) ≡ Some k → Q (record r { labels = names_with r.labels (l ∷ []); mode = mode.InMessage act (place.Paren (label_of_number k)) }))
+    → LandsOr E (feed_sign (feeding dia) (word_sign l) at n (record r { mode = mode.InMessage act place.Label })) Q
+label_leads dia E l act at n r Q f h = subst (λ (x : Fed). LandsOr E x Q) (sym (label_fed dia l act at n r))
+    (message_leads E act (labelled_by (place_of l r.labels) l at r.labels) r Q (labelled_lands E (λ m. LandsOr E (in_message act (Ok m) r) Q) (place_of l r.labels) l at r.labels refl f h))
 
-pub sort_passes : (dia : Dialect) (s : Option Sort) (act : ℕ) (label : Label) (r : Reader_data) (ts : List Sign) (u : Sign) (Q : Reader_data → Type 0) → ((s : Sort) → Leads (feeding dia) ts u Q (record r { mode = mode.Body (link.OfArm act label s) }))
-    → Leads (feeding dia) (open_paren ∷ ((sort_signs s ++ close_paren ∷ dot ∷ []) ++ ts)) u Q (record r { mode = mode.Paren act label })
-sort_passes dia None act label r ts u Q h = λ a f n. λ a f n. λ a f n. h sort.Unit
-sort_passes dia (Some sort.Unit) act label r ts u Q h = λ a f n. λ a f n. λ a f n. λ a f n. h sort.Unit
-sort_passes dia (Some sort.Flag) act label r ts u Q h = λ a f n. λ a f n. λ a f n. λ a f n. h sort.Flag
-sort_passes dia (Some sort.Natural) act label r ts u Q h = λ a f n. λ a f n. λ a f n. λ a f n. h sort.Natural
-sort_passes dia (Some sort.Whole) act label r ts u Q h = λ a f n. λ a f n. λ a f n. λ a f n. h sort.Whole
-sort_passes dia (Some sort.Octets) act label r ts u Q h = λ a f n. λ a f n. λ a f n. λ a f n. h sort.Octets
-sort_passes dia (Some sort.Numbers) act label r ts u Q h = λ a f n. λ a f n. λ a f n. λ a f n. h sort.Numbers
+pub label_lands : (dia : Dialect) (l : List ℕ) (act : ℕ) (at : ℕ) (n : Lexeme) (r : Reader_data) (Q : Reader_data → Type 0) → ((k : Label) → Q (record r { labels = names_with r.labels (l ∷ []); mode = mode.InMessage act (place.Paren k) }))
+    → Lands (feed_sign (feeding dia) (word_sign l) at n (record r { mode = mode.InMessage act place.Label })) Q
+label_lands dia l act at n r Q h = label_leads dia NotExpected l act at n r Q (λ full. tt) (λ room k e. h (label_of_number k))
+
+-- behind the label of an arm
+pub sort_leads : (dia : Dialect) (E : TextKind → Type 0) (s : Option Sort) (act : ℕ) (label : Label) (r : Reader_data) (ts : List Sign) (u : Sign) (Q : Reader_data → Type 0) → LeadsOr (feeding dia) E ts u Q (record r { mode = mode.ArmDot act label (sort_or_unit s) })
+    → LeadsOr (feeding dia) E (open_paren ∷ (sort_signs s ++ close_paren ∷ ts)) u Q (record r { mode = mode.InMessage act (place.Paren label) })
+sort_leads dia E None act label r ts u Q h = λ a f n. λ a f n. h
+sort_leads dia E (Some s) act label r ts u Q h = λ a f n. λ a f n.
+    subst (λ (o : Option Sort). LandsOr E (in_message act (sorted_by o label a r.labels) (record r { mode = mode.InMessage act (place.Sort label) })) (λ d. LeadsOr (feeding dia) E (close_paren ∷ ts) u Q d)) (sym (sort_seen s)) (λ a f n. h)
+
+pub dot_leads : (dia : Dialect) (E : TextKind → Type 0) (s : Option Sort) (act : ℕ) (label : Label) (r : Reader_data) (ts : List Sign) (u : Sign) (Q : Reader_data → Type 0) → LeadsOr (feeding dia) E ts u Q (record r { mode = mode.Body (link.OfArm act label (sort_or_unit s)) })
+    → LeadsOr (feeding dia) E (open_paren ∷ ((sort_signs s ++ close_paren ∷ dot ∷ []) ++ ts)) u Q (record r { mode = mode.InMessage act (place.Paren label) })
+dot_leads dia E s act label r ts u Q h = subst (λ (z : List Sign). LeadsOr (feeding dia) E (open_paren ∷ z) u Q (record r { mode = mode.InMessage act (place.Paren label) })) (sym (append_assoc (sort_signs s) (close_paren ∷ dot ∷ []) ts))
+    (sort_leads dia E s act label r (dot ∷ ts) u Q (λ a f n. h))
 
 pub arm_passes : (dia : Dialect) (l : List ℕ) (s : Option Sort) (act : ℕ) (r : Reader_data) (ts : List Sign) (u : Sign) (Q : Reader_data → Type 0)
-    → ((k : Label) (s : Sort) → Leads (feeding dia) ts u Q (record r { labels = names_with r.labels (l ∷ []); mode = mode.Body (link.OfArm act k s) })) → Leads (feeding dia) (arm_signs l s ++ ts) u Q (record r { mode = mode.AtLabel act })
+    → ((k : Label) (s : Sort) → Leads (feeding dia) ts u Q (record r { labels = names_with r.labels (l ∷ []); mode = mode.Body (link.OfArm act k s) })) → Leads (feeding dia) (arm_signs l s ++ ts) u Q (record r { mode = mode.InMessage act place.Label })
 arm_passes dia l s act r ts u Q h = λ a f n. label_lands dia l act a _ r (λ d. Leads (feeding dia) (open_paren ∷ ((sort_signs s ++ close_paren ∷ dot ∷ []) ++ ts)) u Q d)
-    (λ k. sort_passes dia s act k (record r { labels = names_with r.labels (l ∷ []) }) ts u Q (h k))
+    (λ k. dot_leads dia NotExpected s act k (record r { labels = names_with r.labels (l ∷ []) }) ts u Q (h k (sort_or_unit s)))
 
-labelled_same : (found : Option ℕ) (act : ℕ) (l : List ℕ) (at : ℕ) (r : Reader_data) → feed_label_number found act l at (record r { mode = mode.AtArms act }) ≡ feed_label_number found act l at (record r { mode = mode.AtLabel act })
-labelled_same None act l at r = refl
-labelled_same (Some k) act l at r = refl
-
-moves_if : (a b : Bool) (l : List ℕ) (act : ℕ) (at : ℕ) (n : Lexeme) (r : Reader_data) → (a ≡ true → l ≡ codes "rec") → (b ≡ true → l ≡ codes "end")
-    → feed_sign (feeding Acts) (if a then rec_word else if b then end_word else plain l) at n (record r { mode = mode.AtArms act }) ≡ feed_label_number (place_of l r.labels) act l at (record r { mode = mode.AtArms act })
-moves_if true b l act at n r e f = ap (λ z. feed_label_number (place_of z r.labels) act z at (record r { mode = mode.AtArms act })) (sym (e refl))
-moves_if false true l act at n r e f = ap (λ z. feed_label_number (place_of z r.labels) act z at (record r { mode = mode.AtArms act })) (sym (f refl))
-moves_if false false l act at n r e f = refl
+arms_fed : (act : ℕ) (t : Sign) (l : List ℕ) (at : ℕ) (r : Reader_data) → word_text t ≡ Some l → feed_arms Acts act t at r ≡ in_message act (labelled_by (place_of l r.labels) l at r.labels) r
+arms_fed act open_brace l at r h = absurd (cc h)
+arms_fed act t l at r h = ap (λ z. in_message act (feed_label wanted.LabelOrBrace z at r.labels) r) h
 
 -- a single arm behind a head
-pub label_moves : (l : List ℕ) (act at : ℕ) (n : Lexeme) (r : Reader_data) → feed_sign (feeding Acts) (word_sign l) at n (record r { mode = mode.AtArms act }) ≡ feed_label_number (place_of l r.labels) act l at (record r { mode = mode.AtLabel act })
-label_moves l act at n r = moves_if (bytes_eq l (codes "rec")) (bytes_eq l (codes "end")) l act at n r (λ h. (bytes_eq-Decides l (codes "rec")).0 h) (λ h. (bytes_eq-Decides l (codes "end")).0 h) ∙ labelled_same (place_of l r.labels) act l at r
+label_moves : (l : List ℕ) (act at : ℕ) (n : Lexeme) (r : Reader_data) → feed_sign (feeding Acts) (word_sign l) at n (record r { mode = mode.AtArms act }) ≡ in_message act (labelled_by (place_of l r.labels) l at r.labels) r
+label_moves l act at n r =
+    word_fed (feeding Acts) (word_sign l) l at n (record r { mode = mode.AtArms act }) (label_seen l) ∙ arms_fed act (word_sign l) l at (record r { mode = mode.AtArms act }) (label_seen l)
+    ∙ message_same act (labelled_by (place_of l r.labels) l at r.labels) r (mode.AtArms act)
 
-pub lone_lands : (dia : Dialect) (act : ℕ) (l : List ℕ) (ts : List Sign) (r : Reader_data) (u : Sign) (Q : Reader_data → Type 0) → Leads (feeding dia) (word_sign l ∷ ts) u Q (record r { mode = mode.AtLabel act }) → Leads (feeding dia) (lone_signs dia ++ (word_sign l ∷ ts)) u Q (record r { mode = mode.AtArms act })
-lone_lands Talks act l ts r u Q h = λ a f n. h
-lone_lands Acts act l ts r u Q h = λ a f n. subst (λ (x : Fed). Lands x (λ d. Leads (feeding Acts) ts u Q d)) (label_fed Acts l act a (lexeme (sign_behind ts u) f n) r ∙ sym (label_moves l act a (lexeme (sign_behind ts u) f n) r)) (h a f n)
+pub lone_leads : (dia : Dialect) (E : TextKind → Type 0) (act : ℕ) (l : List ℕ) (ts : List Sign) (r : Reader_data) (u : Sign) (Q : Reader_data → Type 0) → LeadsOr (feeding dia) E (word_sign l ∷ ts) u Q (record r { mode = mode.InMessage act place.Label })
+    → LeadsOr (feeding dia) E (lone_signs dia ++ (word_sign l ∷ ts)) u Q (record r { mode = mode.AtArms act })
+lone_leads Talks E act l ts r u Q h = λ a f n. h
+lone_leads Acts E act l ts r u Q h = λ a f n. subst (λ (x : Fed). LandsOr E x (λ d. LeadsOr (feeding Acts) E ts u Q d)) (label_fed Acts l act a (lexeme (sign_behind ts u) f n) r ∙ sym (label_moves l act a (lexeme (sign_behind ts u) f n) r)) (h a f n)
 
 pub acts_shape : (dia : Dialect) (x : List ℕ) (t : Turn dia) (l : List ℕ) (s : Option Sort) (b : Body dia) (ts : List Sign) → body_signs dia (acts x t l s b) ++ ts ≡ plain x ∷ (turn_signs dia t ++ (lone_signs dia ++ (arm_signs l s ++ (body_signs dia b ++ ts))))
 acts_shape dia x t l s b ts = ap (λ z. plain x ∷ z) (append_assoc (turn_signs dia t) (lone_signs dia ++ (arm_signs l s ++ body_signs dia b)) ts ∙ ap (λ z. turn_signs dia t ++ z) (append_assoc (lone_signs dia) (arm_signs l s ++ body_signs dia b) ts ∙ ap (λ z. lone_signs dia ++ z) (append_assoc (arm_signs l s) (body_signs dia b) ts)))
@@ -208,7 +210,7 @@ mutual
   passes dia (acts x y l s body) from r ts u Q h k = subst (λ (z : List Sign). Leads (feeding dia) z u Q (record r { mode = mode.Body from })) (sym (acts_shape dia x y l s body ts))
       (head_lands dia y x from r (lone_signs dia ++ (arm_signs l s ++ (body_signs dia body ++ ts))) u Q
       (λ q. let p : Reader_data = reader_at_head from q r in
-      lone_lands dia (length r.drafts) l (open_paren ∷ ((sort_signs s ++ close_paren ∷ dot ∷ []) ++ (body_signs dia body ++ ts))) p u Q
+      lone_leads dia NotExpected (length r.drafts) l (open_paren ∷ ((sort_signs s ++ close_paren ∷ dot ∷ []) ++ (body_signs dia body ++ ts))) p u Q
       (arm_passes dia l s (length r.drafts) p (body_signs dia body ++ ts) u Q
       (λ label sort. passes dia body (link.OfArm (length r.drafts) label sort) (record p { labels = names_with r.labels (l ∷ []) }) ts u Q h
       (λ labels drafts start ended bound inner depth g d b. k labels drafts start ended bound inner depth g (let c : length p.drafts ≡ suc (length r.drafts) = placed_length from q r in d ∙ ap (λ z. z + acts_in dia body) c ∙ omega arith) b)))))
@@ -222,10 +224,10 @@ mutual
       k labels drafts start ended (drop (length bound - length r.bound) bound) [] (suc r.depth) g (let c : length p.drafts ≡ suc (length r.drafts) = placed_length from q r in d ∙ ap (λ z. z + acts_in_arms dia arms) c ∙ omega arith) (restored_bound inner bound r.bound b)))))
 
   pub branches_pass : (dia : Dialect) (arms : Branches dia) (act : ℕ) (r : Reader_data) (m : ℕ) (fs : List Frame) (ts : List Sign) (u : Sign) (Q : Reader_data → Type 0) → IsAfter dia (sign_behind ts u)
-      → Goes (labels_of_arms dia arms) (acts_in_arms dia arms) (record r { frames = frame_at m r.bound r.depth ∷ fs }) (λ e. Leads (feeding dia) ts u Q e) → Leads (feeding dia) (branch_signs dia arms ++ ts) u Q (record r { frames = frame_at m r.bound r.depth ∷ fs; mode = mode.AtLabel act })
+      → Goes (labels_of_arms dia arms) (acts_in_arms dia arms) (record r { frames = frame_at m r.bound r.depth ∷ fs }) (λ e. Leads (feeding dia) ts u Q e) → Leads (feeding dia) (branch_signs dia arms ++ ts) u Q (record r { frames = frame_at m r.bound r.depth ∷ fs; mode = mode.InMessage act place.Label })
   branches_pass dia (one l s body) act r m fs ts u Q h k =
       let o : Reader_data = record r { frames = frame_at m r.bound r.depth ∷ fs } in
-      subst (λ (z : List Sign). Leads (feeding dia) z u Q (record o { mode = mode.AtLabel act })) (sym (append_assoc (arm_signs l s) (body_signs dia body) ts))
+      subst (λ (z : List Sign). Leads (feeding dia) z u Q (record o { mode = mode.InMessage act place.Label })) (sym (append_assoc (arm_signs l s) (body_signs dia body) ts))
       (arm_passes dia l s act o (body_signs dia body ++ ts) u Q
       (λ label sort. passes dia body (link.OfArm act label sort) (record o { labels = names_with r.labels (l ∷ []) }) ts u Q h
       (λ labels drafts start ended bound inner depth g d b. k labels drafts start ended bound inner depth g d b)))
@@ -233,12 +235,12 @@ mutual
       let o : Reader_data = record r { frames = frame_at m r.bound r.depth ∷ fs } in
       let shape : (arm_signs l s ++ (body_signs dia body ++ comma ∷ branch_signs dia arms)) ++ ts ≡ arm_signs l s ++ (body_signs dia body ++ comma ∷ (branch_signs dia arms ++ ts)) =
       append_assoc (arm_signs l s) (body_signs dia body ++ comma ∷ branch_signs dia arms) ts ∙ ap (λ z. arm_signs l s ++ z) (append_assoc (body_signs dia body) (comma ∷ branch_signs dia arms) ts) in
-      subst (λ (z : List Sign). Leads (feeding dia) z u Q (record o { mode = mode.AtLabel act })) (sym shape)
+      subst (λ (z : List Sign). Leads (feeding dia) z u Q (record o { mode = mode.InMessage act place.Label })) (sym shape)
       (arm_passes dia l s act o (body_signs dia body ++ comma ∷ (branch_signs dia arms ++ ts)) u Q
       (λ label sort. passes dia body (link.OfArm act label sort) (record o { labels = names_with r.labels (l ∷ []) }) (comma ∷ (branch_signs dia arms ++ ts)) u Q refl
       (λ labels drafts start ended bound inner depth g d b. λ a f n.
       let back : Reader_data = record o { labels = labels; drafts = drafts; start = start; ended = ended } in
-      subst (λ (z : Bound). Leads (feeding dia) (branch_signs dia arms ++ ts) u Q (record back { bound = z; mode = mode.AtLabel m })) (sym (restored_bound inner bound r.bound b))
+      subst (λ (z : Bound). Leads (feeding dia) (branch_signs dia arms ++ ts) u Q (record back { bound = z; mode = mode.InMessage m place.Label })) (sym (restored_bound inner bound r.bound b))
       (branches_pass dia arms m back m fs ts u Q h (λ labels' drafts' start' ended' bound' inner' depth' g' d' b'. k labels' drafts' start' ended' bound' inner' depth'
       (g' ∙ ap (λ z. names_with z (labels_of_arms dia arms)) g ∙ sym (grown_append (labels_of dia body) (labels_of_arms dia arms) (names_with r.labels (l ∷ []))))
       (d' ∙ ap (λ z. z + acts_in_arms dia arms) d ∙ omega arith) b')))))

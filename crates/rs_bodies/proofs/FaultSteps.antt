@@ -24,13 +24,16 @@ use Rattle.rs_text.specs.Names.{place_of, is_among, nearest_binding}
 use Rattle.rs_text.specs.Signs.{Sign, rec_word, end_word, plain, colon, dot, comma, open_brace, close_brace, open_paren, close_paren, broken}
 use Rattle.rs_text.proofs.Naming.{among, not_among}
 use Rattle.rs_text.specs.Seen.{sort_named}
+use Rattle.rs_text.specs.declared.messages.MessagePlace.{MessagePlace}
+use Rattle.rs_text.specs.declared.messages.MessagePlace.TheVariants as place
+use Rattle.rs_text.specs.Messages.{goes_on, label_of_number, labelled_by, sorted_by, feed_sort}
 use Rattle.rs_bodies.specs.Dialects.{turns, most}
 use Rattle.rs_bodies.specs.Data.{Reader_data}
 use Rattle.rs_bodies.specs.Trees.{ends_a_name}
 use Rattle.rs_text.specs.FirstFaults.{IsWhole}
 use Rattle.rs_bodies.specs.Scenes.{Scene}
 use Rattle.rs_bodies.specs.Misplaced.{fault_of_name, fault_of_word, fault_of_first, fault_of_role, fault_of_new_role}
-use Rattle.rs_bodies.specs.Feeding.{Fed, in_mode, reader_behind_link, feed_machine, feed_roles, new_role, feed_line, feed_receiver_role, reader_at_head, role_by, feed_head_role, feed_bound_name, feed_word, feed_body, reader_in_braces, label_of_number, feed_label_number, feed_sort_word, feed_sort, feed_next, feed_at, feeding}
+use Rattle.rs_bodies.specs.Feeding.{Fed, in_mode, reader_behind_link, feed_machine, feed_roles, new_role, feed_line, feed_receiver_role, reader_at_head, role_by, feed_head_role, feed_bound_name, feed_word, feed_body, reader_in_braces, in_message, feed_next, feed_at, feeding}
 use Rattle.rs_text.specs.Readings.{fault, expected, feed_sign}
 use Rattle.rs_text.proofs.Leading.{NotExpected}
 use Rattle.rs_bodies.proofs.FaultRuns.{Follower, a_turn, a_broken, a_name, follower, by_name}
@@ -129,14 +132,18 @@ body_step dia from end_word at n r = (refl, refl)
 body_step dia from (plain word) at n r = word_step dia n.sign (follower dia n.sign) from word at n r refl
 body_step dia from _ at n r = inl (record { at_is = refl; kind_is = refl; stops = refl; unseen = refl })
 
+room_step : (dia : Dialect) (c : Bool) (act : ℕ) (labels : List (List ℕ)) (p : MessagePlace) (w : Wanted) (t : Sign) (at : ℕ) (n : Lexeme) (r : Reader_data) → takes w t ≡ true → Steps dia w (if c then Some kind.TooManyLabels else None) t at n (in_message act (if c then fault kind.TooManyLabels at else Ok (goes_on labels p)) r)
+room_step dia true act labels p w t at n r h = misplaced dia w (Some kind.TooManyLabels) t at n kind.TooManyLabels h tt refl
+room_step dia false act labels p w t at n r h = (h, refl)
+
 labelled_step : (dia : Dialect) (found : Option ℕ) (act : ℕ) (word : List ℕ) (w : Wanted) (t : Sign) (at : ℕ) (n : Lexeme) (r : Reader_data) → takes w t ≡ true → place_of word r.labels ≡ found
-    → Steps dia w (if is_among word r.labels then None else if nat_le 256 (length r.labels) then Some kind.TooManyLabels else None) t at n (feed_label_number found act word at r)
+    → Steps dia w (if is_among word r.labels then None else if nat_le 256 (length r.labels) then Some kind.TooManyLabels else None) t at n (in_message act (labelled_by found word at r.labels) r)
 labelled_step dia (Some k) act word w t at n r h e = (h, ap (λ z. if z then None else if nat_le 256 (length r.labels) then Some kind.TooManyLabels else None) (among r.labels word 0 k e))
 labelled_step dia None act word w t at n r h e =
-    subst (λ (z : Bool). Steps dia w (if z then None else if nat_le 256 (length r.labels) then Some kind.TooManyLabels else None) t at n (feed_label_number None act word at r)) (sym (not_among r.labels word 0 e))
-    (step_guard dia (nat_le 256 (length r.labels)) kind.TooManyLabels w None t at n (Ok (record r { labels = r.labels ++ word ∷ []; mode = mode.Paren act (label_of_number (length r.labels)) })) h tt (h, refl))
+    subst (λ (z : Bool). Steps dia w (if z then None else if nat_le 256 (length r.labels) then Some kind.TooManyLabels else None) t at n (in_message act (labelled_by None word at r.labels) r)) (sym (not_among r.labels word 0 e))
+    (room_step dia (nat_le 256 (length r.labels)) act (r.labels ++ word ∷ []) (place.Paren (label_of_number (length r.labels))) w t at n r h)
 
-label_step : (dia : Dialect) (act : ℕ) (t : Sign) (at : ℕ) (n : Lexeme) (r : Reader_data) → Steps dia wanted.Label (fault_seen dia (mode.AtLabel act) t n.sign r) t at n (feed_at dia (mode.AtLabel act) t at n r)
+label_step : (dia : Dialect) (act : ℕ) (t : Sign) (at : ℕ) (n : Lexeme) (r : Reader_data) → Steps dia wanted.Label (fault_seen dia (mode.InMessage act place.Label) t n.sign r) t at n (feed_at dia (mode.InMessage act place.Label) t at n r)
 label_step dia act rec_word at n r = labelled_step dia (place_of (codes "rec") r.labels) act (codes "rec") wanted.Label rec_word at n r refl refl
 label_step dia act end_word at n r = labelled_step dia (place_of (codes "end") r.labels) act (codes "end") wanted.Label end_word at n r refl refl
 label_step dia act (plain word) at n r = labelled_step dia (place_of word r.labels) act word wanted.Label (plain word) at n r refl refl
@@ -161,11 +168,11 @@ received_step : (dia : Dialect) (found : Option ℕ) (word : List ℕ) (from : L
 received_step dia None word from p at n r e room = misplaced dia wanted.Role (fault_of_role word r.roles) (plain word) at n kind.UnknownRole refl tt (ap (λ z. if z then None else Some kind.UnknownRole) (not_among r.roles word 0 e))
 received_step dia (Some k) word from p at n r e room = headed_if dia (nat_le (most dia) (length r.drafts)) (plain word) (fault_of_role word r.roles) at n (head.Talk p (record { 0 = k })) from r room refl (ap (λ z. if z then None else Some kind.UnknownRole) (among r.roles word 0 k e))
 
-sorted_step : (dia : Dialect) (found : Option Sort) (act : ℕ) (label : Label) (t : Sign) (at : ℕ) (n : Lexeme) (r : Reader_data) → takes wanted.SortOrCloseParen t ≡ is_some found → Steps dia wanted.SortOrCloseParen None t at n (feed_sort_word found act label at r)
+sorted_step : (dia : Dialect) (found : Option Sort) (act : ℕ) (label : Label) (t : Sign) (at : ℕ) (n : Lexeme) (r : Reader_data) → takes wanted.SortOrCloseParen t ≡ is_some found → Steps dia wanted.SortOrCloseParen None t at n (in_message act (sorted_by found label at r.labels) r)
 sorted_step dia None act label t at n r h = unexpected dia wanted.SortOrCloseParen t at n h
 sorted_step dia (Some s) act label t at n r h = (h, refl)
 
-sort_step : (dia : Dialect) (act : ℕ) (label : Label) (t : Sign) (at : ℕ) (n : Lexeme) (r : Reader_data) → Steps dia wanted.SortOrCloseParen None t at n (feed_sort act label t at r)
+sort_step : (dia : Dialect) (act : ℕ) (label : Label) (t : Sign) (at : ℕ) (n : Lexeme) (r : Reader_data) → Steps dia wanted.SortOrCloseParen None t at n (in_message act (feed_sort label t at r.labels) r)
 sort_step dia act label close_paren at n r = (refl, refl)
 sort_step dia act label (plain text) at n r = sorted_step dia (sort_named text) act label (plain text) at n r refl
 sort_step dia act label _ at n r = inl (record { at_is = refl; kind_is = refl; stops = refl; unseen = refl })
@@ -222,12 +229,12 @@ steps dia (mode.AtTurn from p) t at n r u b k h = absurd (h tt)
 steps dia (mode.Receiver from p) (plain word) at n r u b k h = received_step dia (place_of word r.roles) word from p at n r refl k
 steps dia (mode.Receiver from p) _ at n r u b k h = inl (record { at_is = refl; kind_is = refl; stops = refl; unseen = refl })
 steps dia (mode.AtArms act) t at n r u b k h = arms_step dia act t at n r
-steps dia (mode.AtLabel act) t at n r u b k h = label_step dia act t at n r
-steps dia (mode.Paren act label) open_paren at n r u b k h = (refl, refl)
-steps dia (mode.Paren act label) _ at n r u b k h = inl (record { at_is = refl; kind_is = refl; stops = refl; unseen = refl })
-steps dia (mode.AtSort act label) t at n r u b k h = sort_step dia act label t at n r
-steps dia (mode.CloseParen act label s) close_paren at n r u b k h = (refl, refl)
-steps dia (mode.CloseParen act label s) _ at n r u b k h = inl (record { at_is = refl; kind_is = refl; stops = refl; unseen = refl })
+steps dia (mode.InMessage act place.Label) t at n r u b k h = label_step dia act t at n r
+steps dia (mode.InMessage act (place.Paren label)) open_paren at n r u b k h = (refl, refl)
+steps dia (mode.InMessage act (place.Paren label)) _ at n r u b k h = inl (record { at_is = refl; kind_is = refl; stops = refl; unseen = refl })
+steps dia (mode.InMessage act (place.Sort label)) t at n r u b k h = sort_step dia act label t at n r
+steps dia (mode.InMessage act (place.Close label s)) close_paren at n r u b k h = (refl, refl)
+steps dia (mode.InMessage act (place.Close label s)) _ at n r u b k h = inl (record { at_is = refl; kind_is = refl; stops = refl; unseen = refl })
 steps dia (mode.ArmDot act label s) dot at n r u b k h = (refl, refl)
 steps dia (mode.ArmDot act label s) _ at n r u b k h = inl (record { at_is = refl; kind_is = refl; stops = refl; unseen = refl })
 steps dia mode.Next t at n r u b k h = next_step dia r.frames t at n r

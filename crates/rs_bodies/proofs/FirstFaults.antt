@@ -9,6 +9,7 @@ use Rattle.rs_text.specs.declared.faults.Wanted.TheVariants as wanted
 use Rattle.rs_bodies.specs.declared.reading.Frame.{Frame}
 use Rattle.rs_bodies.specs.declared.reading.Mode.{Mode}
 use Rattle.rs_bodies.specs.declared.reading.Mode.TheVariants as mode
+use Rattle.rs_text.specs.declared.messages.MessagePlace.TheVariants as place
 use Rattle.rs_bodies.specs.declared.dialects.Dialect.{Dialect}
 use Rattle.rs_bodies.specs.declared.dialects.Dialect.TheVariants.{Talks, Acts}
 use Rattle.rs_bodies.specs.declared.reading.Link.{Link}
@@ -261,6 +262,7 @@ not_part dia (mode.AtTurn from s) fs a u h = a tt
 not_part dia (mode.AtArms act) fs a u h = arms_no_part dia h
 not_part dia mode.Next [] a u h = cc
 not_part dia mode.Next (f ∷ fs) a u h = cc
+not_part dia (mode.InMessage act place.Label) fs a u h = cc
 not_part dia _ fs a u h = cc
 
 here_unexpected : (dia : Dialect) (old : Names_data) (xs : List Sign) (t : Sign) (at : ℕ) (u : Sign) (r : Reader_data) (e : TextFault) → Reached (feeding dia) (start_of_part dia old) xs t r → (there : There dia xs) → IsWhole t → (wanted_by dia r.mode r.frames ≡ wanted.PartOrEnd → ⊥)
@@ -367,6 +369,7 @@ unseen_arms Acts j u r = refl
 
 broken_unseen : (dia : Dialect) (m : Mode) (j : FaultKind) (u : Sign) (r : Reader_data) → fault_seen dia m (broken j) u r ≡ None
 broken_unseen dia (mode.AtArms act) j u r = unseen_arms dia j u r
+broken_unseen dia (mode.InMessage act place.Label) j u r = refl
 broken_unseen dia _ j u r = refl
 
 no_arrow : (dia : Dialect) (m : Mode) (j : FaultKind) (b : Bool) (r : Reader_data) → NamedBy dia m (broken j) b r → IsMarkMode m → ⊥
@@ -415,6 +418,7 @@ end_stops : (dia : Dialect) (m : Mode) (at : ℕ) (next : Lexeme) (r d : Reader_
 end_stops dia mode.Next at next r d h = end_next r.frames at r d h
 end_stops dia (mode.AtTurn from p) at next r d h = end_turn dia from p at r d h
 end_stops dia (mode.AtArms act) at next r d h = end_arms dia act at next r d h
+end_stops dia (mode.InMessage act place.Label) at next r d h = cc
 end_stops dia _ at next r d h = cc
 
 end_same : (dia : Dialect) (m : Mode) (at : ℕ) (n k : Lexeme) (r : Reader_data) → feed_at dia m finish at n r ≡ feed_at dia m finish at k r

@@ -1,5 +1,5 @@
 -- The labels that the reader has are those of the tokens that it took.
-use Rattle.std.proofs.Common.{◌≡◌, ℕ, List, [], ◌∷◌, ◌++◌, length, codes, Bool, true, false, if◌then◌else◌, nat_le, nat_lt, Option, Some, None, Ok, Err, IfOk, refl, sym, ap, ◌∙◌, subst, append-nil, append_assoc, cond}
+use Rattle.std.proofs.Common.{◌≡◌, ℕ, List, [], ◌∷◌, ◌++◌, length, codes, Bool, true, false, nat_le, nat_lt, Option, Some, None, Result, Ok, Err, IfOk, refl, sym, ap, ◌∙◌, append-nil, append_assoc, cond}
 use Rattle.rs_model.specs.Data.{Names_data}
 use Rattle.rs_model.specs.declared.graph.Label.{Label}
 use Rattle.rs_model.specs.declared.values.Sort.{Sort}
@@ -17,16 +17,21 @@ use Rattle.rs_text.specs.Lexemes.{Lexeme}
 use Rattle.rs_text.specs.Names.{place_of, names_with, nearest_binding}
 use Rattle.rs_text.specs.Seen.{sort_named, word_text}
 use Rattle.rs_text.specs.Signs.{Sign, rec_word, end_word, plain, bang, question, colon, dot, comma, open_brace, close_brace, open_paren, close_paren, broken}
-use Rattle.rs_text.proofs.Naming.{among, not_among, grown_append}
+use Rattle.rs_text.proofs.Leading.{LandsOr}
+use Rattle.rs_text.proofs.MessageLaws.{labelled_lands}
+use Rattle.rs_text.proofs.Naming.{grown_append}
+use Rattle.rs_text.specs.Messages.{Message, labelled_by, sorted_by, feed_label}
+use Rattle.rs_text.specs.declared.messages.MessagePlace.TheVariants as place
 use Rattle.rs_bodies.specs.Data.{Reader_data}
 use Rattle.rs_bodies.specs.Faults.{opens_arm, label_there, labels_among}
-use Rattle.rs_bodies.specs.Feeding.{Fed, start_of_part, in_mode, reader_behind_link, feed_at, feed_machine, role_by, feed_head_role, feed_word, feed_body, feed_bound_name, feed_next, feed_label_number, feed_sort_word, feeding, feed_label, feed_arms}
+use Rattle.rs_bodies.specs.Feeding.{Fed, start_of_part, in_mode, reader_behind_link, feed_at, feed_machine, role_by, feed_head_role, feed_word, feed_body, feed_bound_name, feed_next, in_message, feeding, feed_arms}
 use Rattle.rs_bodies.proofs.FaultPlaces.{wanted_by}
+use Rattle.rs_text.proofs.Keeping.{if_ok}
 use Rattle.rs_text.specs.Readings.{feed_sign}
 
 -- the reader is at a label
 abbrev pub at_arm : Mode → Bool
-at_arm (mode.AtLabel act) = true
+at_arm (mode.InMessage act place.Label) = true
 at_arm (mode.AtArms act) = true
 at_arm _ = false
 
@@ -55,18 +60,19 @@ take_unless : (c : Bool) (m : Mode) (t : Sign) (r : Reader_data) (e : TextFault)
 take_unless true m t r e x h = h
 take_unless false m t r e x h = tt
 
-take_new : (c : Bool) (word : List ℕ) (at : ℕ) (r : Reader_data) (m : Mode) → at_arm m ≡ false → is_of_talks m ≡ false → r.labels ++ word ∷ [] ≡ names_with r.labels (word ∷ []) → IfOk {E = TextFault} (cond c (Err (record { kind = kind.TooManyLabels; at = at })) (Ok (record r { labels = r.labels ++ word ∷ []; mode = m }))) (λ d. (d.labels ≡ names_with r.labels (word ∷ [])) × (at_arm d.mode ≡ false) × (is_of_talks d.mode ≡ false) × (d.roles ≡ r.roles))
-take_new true word at r m n o e = tt
-take_new false word at r m n o e = (e, n, o, refl)
+take_message : (act : ℕ) (x : Result Message TextFault) (r : Reader_data) (Q : Reader_data → Type 0) → LandsOr (λ k. Unit {0}) x (λ m. IfOk (in_message act (Ok m) r) Q) → IfOk (in_message act x r) Q
+take_message act (Ok m) r Q h = h
+take_message act (Err e) r Q h = tt
 
-take_labelled : (found : Option ℕ) (act : ℕ) (word : List ℕ) (at : ℕ) (r : Reader_data) → place_of word r.labels ≡ found → IfOk (feed_label_number found act word at r) (λ d. (d.labels ≡ names_with r.labels (word ∷ [])) × (at_arm d.mode ≡ false) × (is_of_talks d.mode ≡ false) × (d.roles ≡ r.roles))
-take_labelled (Some k) act word at r e = (sym (ap (λ z. if z then r.labels else r.labels ++ word ∷ []) (among r.labels word 0 k e)), refl, refl, refl)
-take_labelled None act word at r e = take_new (nat_le 256 (length r.labels)) word at r _ refl refl (sym (ap (λ z. if z then r.labels else r.labels ++ word ∷ []) (not_among r.labels word 0 e)))
+take_labelled : (act : ℕ) (word : List ℕ) (at : ℕ) (r : Reader_data) → IfOk (in_message act (labelled_by (place_of word r.labels) word at r.labels) r) (λ d. (d.labels ≡ names_with r.labels (word ∷ [])) × (at_arm d.mode ≡ false) × (is_of_talks d.mode ≡ false) × (d.roles ≡ r.roles))
+take_labelled act word at r =
+    let Q : Reader_data → Type 0 = λ d. (d.labels ≡ names_with r.labels (word ∷ [])) × (at_arm d.mode ≡ false) × (is_of_talks d.mode ≡ false) × (d.roles ≡ r.roles) in
+    take_message act (labelled_by (place_of word r.labels) word at r.labels) r Q (labelled_lands (λ k. Unit {0}) (λ m. IfOk (in_message act (Ok m) r) Q) (place_of word r.labels) word at r.labels refl (λ full. tt) (λ room k e. (refl, refl, refl, refl)))
 
-take_label : (act : ℕ) (w : Wanted) (t : Sign) (at : ℕ) (r : Reader_data) → IfOk (feed_label act w (word_text t) at r) (TakesAt (mode.AtLabel act) t r)
-take_label act w rec_word at r = take_labelled (place_of (codes "rec") r.labels) act (codes "rec") at r refl
-take_label act w end_word at r = take_labelled (place_of (codes "end") r.labels) act (codes "end") at r refl
-take_label act w (plain x) at r = take_labelled (place_of x r.labels) act x at r refl
+take_label : (act : ℕ) (w : Wanted) (t : Sign) (at : ℕ) (r : Reader_data) → IfOk (in_message act (feed_label w (word_text t) at r.labels) r) (TakesAt (mode.InMessage act place.Label) t r)
+take_label act w rec_word at r = take_labelled act (codes "rec") at r
+take_label act w end_word at r = take_labelled act (codes "end") at r
+take_label act w (plain x) at r = take_labelled act x at r
 take_label act w _ at r = tt
 
 take_arms : (act : ℕ) (t : Sign) (at : ℕ) (r : Reader_data) → IfOk (feed_arms Acts act t at r) (TakesAt (mode.AtArms act) t r)
@@ -110,7 +116,7 @@ take_next (f ∷ fs) comma at r = (refl, refl, refl, refl)
 take_next (f ∷ fs) close_brace at r = (refl, refl, refl, refl)
 take_next (f ∷ fs) _ at r = tt
 
-take_sorted : (found : Option Sort) (w : List ℕ) (act : ℕ) (l : Label) (at : ℕ) (r : Reader_data) → IfOk (feed_sort_word found act l at r) (TakesAt (mode.AtSort act l) (plain w) r)
+take_sorted : (found : Option Sort) (w : List ℕ) (act : ℕ) (l : Label) (at : ℕ) (r : Reader_data) → IfOk (in_message act (sorted_by found l at r.labels) r) (TakesAt (mode.InMessage act (place.Sort l)) (plain w) r)
 take_sorted None w act l at r = tt
 take_sorted (Some s) w act l at r = (refl, refl, refl, refl)
 
@@ -135,14 +141,14 @@ take_at (mode.AtTurn from p) bang at next r o = take_if (nat_le 256 (length r.dr
 take_at (mode.AtTurn from p) question at next r o = take_if (nat_le 256 (length r.drafts)) (mode.AtTurn from p) question r _ _ (refl, refl, refl, refl)
 take_at (mode.AtTurn from p) _ at next r o = tt
 take_at (mode.AtArms act) t at next r o = take_arms act t at r
-take_at (mode.AtLabel act) t at next r o = take_label act wanted.Label t at r
-take_at (mode.Paren act l) open_paren at next r o = (refl, refl, refl, refl)
-take_at (mode.Paren act l) _ at next r o = tt
-take_at (mode.AtSort act l) close_paren at next r o = (refl, refl, refl, refl)
-take_at (mode.AtSort act l) (plain w) at next r o = take_sorted (sort_named w) w act l at r
-take_at (mode.AtSort act l) _ at next r o = tt
-take_at (mode.CloseParen act l s) close_paren at next r o = (refl, refl, refl, refl)
-take_at (mode.CloseParen act l s) _ at next r o = tt
+take_at (mode.InMessage act place.Label) t at next r o = take_label act wanted.Label t at r
+take_at (mode.InMessage act (place.Paren l)) open_paren at next r o = (refl, refl, refl, refl)
+take_at (mode.InMessage act (place.Paren l)) _ at next r o = tt
+take_at (mode.InMessage act (place.Sort l)) close_paren at next r o = (refl, refl, refl, refl)
+take_at (mode.InMessage act (place.Sort l)) (plain w) at next r o = take_sorted (sort_named w) w act l at r
+take_at (mode.InMessage act (place.Sort l)) _ at next r o = tt
+take_at (mode.InMessage act (place.Close l s)) close_paren at next r o = (refl, refl, refl, refl)
+take_at (mode.InMessage act (place.Close l s)) _ at next r o = tt
 take_at (mode.ArmDot act l s) dot at next r o = (refl, refl, refl, refl)
 take_at (mode.ArmDot act l s) _ at next r o = tt
 take_at mode.Next t at next r o = take_next r.frames t at r
@@ -180,17 +186,13 @@ more_labels : (old : Names_data) (xs : List Sign) (r : Reader_data) (t : Sign) �
 more_labels old xs r t k = ap (λ z. names_with z (label_there (at_arm r.mode) t)) k.labels ∙ ap (λ z. names_with (names_with old.labels (labels_among false xs)) (label_there z t)) k.mode
     ∙ sym (grown_append (labels_among false xs) (label_there (opened_by false xs) t) old.labels) ∙ ap (λ z. names_with old.labels z) (sym (labels_on xs false t))
 
-on_ok : (x : Fed) (d : Reader_data) (t : Sign) (r : Reader_data) → x ≡ Ok d → IfOk x (Takes t r) → Takes t r d
-on_ok (Ok e) d t r same h = let k : e ≡ d = cc in subst (λ (z : Reader_data). Takes t r z) k h
-on_ok (Err e) d t r same h = absurd (cc same)
-
 pub follows_on : (old : Names_data) (xs : List Sign) (t : Sign) (at : ℕ) (n : Lexeme) (r d : Reader_data) → Follows old xs r → feed_sign (feeding Acts) t at n r ≡ Ok d → Follows old (xs ++ t ∷ []) d
 follows_on old xs t at n r d k e =
-    let h = on_ok (feed_sign (feeding Acts) t at n r) d t r e (take_sign t at n r k.line) in
+    let h = if_ok (feed_sign (feeding Acts) t at n r) d (Takes t r) e (take_sign t at n r k.line) in
     record { labels = h.0 ∙ more_labels old xs r t k; mode = h.1 ∙ sym (opened_on xs false t); line = h.2; roles = h.3 ∙ k.roles }
 
 no_arm : (m : Mode) (fs : List Frame) → wanted_by Acts m fs ≡ wanted.Body → at_arm m ≡ false
-no_arm (mode.AtLabel act) fs h = cc
+no_arm (mode.InMessage act place.Label) fs h = cc
 no_arm (mode.AtArms act) fs h = cc
 no_arm _ fs h = refl
 

@@ -1,10 +1,11 @@
 -- What a text spells leads to its own places.
-use Rattle.std.proofs.Common.{◌≡◌, ◌≢◌, ℕ, zero, suc, ◌+◌, ◌<◌, ◌≤◌, List, [], ◌∷◌, ◌++◌, length, Bool, true, false, ◌&&◌, ◌||◌, nat_lt, Option, Some, None, slice_get, refl, sym, ap, ◌∙◌, subst, arith}
+use Rattle.std.proofs.Common.{◌≡◌, ◌≢◌, ℕ, zero, suc, ◌+◌, ◌<◌, ◌≤◌, List, [], ◌∷◌, ◌++◌, length, Bool, true, false, ◌&&◌, nat_lt, Option, Some, None, slice_get, refl, sym, ap, ◌∙◌, subst, arith}
 use Rattle.std.proofs.lemmas.Bool.{ltb-true}
 use Rattle.rs_model.specs.Data.{Names_data}
 use Rattle.rs_model.specs.declared.graph.Arm.{Arm}
 use Rattle.rs_text.specs.Names.{place_of, is_among, Bound, nearest_binding, number_or}
 use Rattle.rs_text.proofs.Naming.{not_among}
+use Rattle.rs_text.proofs.Basics.{both, or_first, or_end}
 use Rattle.rs_text.proofs.Numbers.{place_below}
 use Rattle.rs_bodies.specs.Data.{Point_data, Spelling_data}
 use Rattle.rs_bodies.specs.Dialects.{Turn, sends_to, with_mark, most}
@@ -45,18 +46,6 @@ all_at [] roles places n p h e = absurd (cc e)
 all_at (x ∷ points) roles places zero p h e = let same : x ≡ p = cc in subst (λ (z : Point_data). PointLeads roles places z) same h.0
 all_at (x ∷ points) roles places (suc n) p h e = all_at points roles places n p h.1 e
 
-and_split : (a b : Bool) → (a && b) ≡ true → (a ≡ true) × (b ≡ true)
-and_split true b h = (refl, h)
-and_split false b h = absurd (cc h)
-
-or_left : (a b : Bool) → a ≡ true → (a || b) ≡ true
-or_left true b h = refl
-or_left false b h = absurd (cc h)
-
-or_right : (a b : Bool) → b ≡ true → (a || b) ≡ true
-or_right true b h = refl
-or_right false b h = h
-
 -- a name that is there has a place below the count of names
 pub known_by : (found : Option ℕ) (name : List ℕ) (names : List (List ℕ)) → place_of name names ≡ found → is_among name names ≡ true → number_or found < length names
 known_by None name names e h = absurd (cc (sym h ∙ not_among names name 0 e))
@@ -67,11 +56,11 @@ known_in name names roles r h = known_by (place_of name names) name names refl (
 
 head_known : (d : Dialect) (m : Numbering) (p : List ℕ) (t : Turn d) (s : Scene) → s.roles ≡ m.names.roles → head_fits d p t s ≡ true → KnowsRoles (length m.names.roles) (head_of d m p t)
 head_known Talks m p (sends_to r) s e h =
-    let f = and_split (is_among p s.roles && nat_lt s.acts (most Talks)) (is_among r s.roles) h in
-    let g = and_split (is_among p s.roles) (nat_lt s.acts (most Talks)) f.0 in
+    let f = both (is_among p s.roles && nat_lt s.acts (most Talks)) (is_among r s.roles) h in
+    let g = both (is_among p s.roles) (nat_lt s.acts (most Talks)) f.0 in
     (known_in p m.names.roles s.roles e g.0, known_in r m.names.roles s.roles e f.1)
 head_known Acts m p (with_mark y) s e h =
-    let g = and_split (is_among p s.roles) (nat_lt s.acts (most Acts)) h in
+    let g = both (is_among p s.roles) (nat_lt s.acts (most Acts)) h in
     known_in p m.names.roles s.roles e g.0
 
 -- ---- where a body begins
@@ -83,20 +72,20 @@ guard_below (Some k) count h = ltb-true k count h
 first_leads : (d : Dialect) (b : Body d) (s : Scene) (last places : ℕ) → body_fits d b s ≡ true → (has_end d b ≡ true → last < places) → s.acts + acts_in d b ≤ last → last ≤ places → first_of d b s.bound s.acts last < places
 first_leads d ends s last places fits h n k = h refl
 first_leads d (again name) s last places fits h n k = let g : number_or (nearest_binding name s.bound) < s.acts = guard_below (nearest_binding name s.bound) s.acts fits in omega arith
-first_leads d (binds name body) s last places fits h n k = first_leads d body (in_rec name s) last places (and_split _ (body_fits d body (in_rec name s)) fits).1 h n k
+first_leads d (binds name body) s last places fits h n k = first_leads d body (in_rec name s) last places (both _ (body_fits d body (in_rec name s)) fits).1 h n k
 first_leads d (acts p t l sort body) s last places fits h n k = omega arith
 first_leads d (offers p t arms) s last places fits h n k = omega arith
 
 arms_lead : (d : Dialect) (m : Numbering) (arms : Branches d) (s : Scene) (places : ℕ) → arms_fit d arms s ≡ true → (has_end_arms d arms ≡ true → m.last < places) → s.acts + acts_in_arms d arms ≤ m.last → m.last ≤ places → LeadOn places (arms_of d m arms s.bound s.acts)
 arms_lead d m (one l sort body) s places fits h n k =
     arm_leads places (arm_of m l sort (first_of d body s.bound s.acts m.last)) []
-    (first_leads d body (with_label l s) m.last places (and_split (has_room_for l s) (body_fits d body (with_label l s)) fits).1 h n k) (none_leads places)
+    (first_leads d body (with_label l s) m.last places (both (has_room_for l s) (body_fits d body (with_label l s)) fits).1 h n k) (none_leads places)
 arms_lead d m (more l sort body arms) s places fits h n k =
-    let f = and_split (has_room_for l s && body_fits d body (with_label l s)) (arms_fit d arms (behind d body (with_label l s))) fits in
-    let g = and_split (has_room_for l s) (body_fits d body (with_label l s)) f.0 in
+    let f = both (has_room_for l s && body_fits d body (with_label l s)) (arms_fit d arms (behind d body (with_label l s))) fits in
+    let g = both (has_room_for l s) (body_fits d body (with_label l s)) f.0 in
     arm_leads places (arm_of m l sort (first_of d body s.bound s.acts m.last)) (arms_of d m arms s.bound (s.acts + acts_in d body))
-    (first_leads d body (with_label l s) m.last places g.1 (λ e. h (or_left (has_end d body) (has_end_arms d arms) e)) (omega arith) k)
-    (arms_lead d m arms (behind d body (with_label l s)) places f.1 (λ e. h (or_right (has_end d body) (has_end_arms d arms) e)) (omega arith) k)
+    (first_leads d body (with_label l s) m.last places g.1 (λ e. h (or_first (has_end d body) (has_end_arms d arms) e)) (omega arith) k)
+    (arms_lead d m arms (behind d body (with_label l s)) places f.1 (λ e. h (or_end (has_end d body) (has_end_arms d arms) e)) (omega arith) k)
 
 some_arms : (d : Dialect) (m : Numbering) (arms : Branches d) (bound : Bound) (count : ℕ) → arms_of d m arms bound count ≢ []
 some_arms d m (one l sort body) bound count e = absurd (cc e)
@@ -111,10 +100,10 @@ mutual
   points_lead : (d : Dialect) (b : Body d) (m : Numbering) (s : Scene) (places : ℕ) → s.roles ≡ m.names.roles → body_fits d b s ≡ true → (has_end d b ≡ true → m.last < places) → s.acts + acts_in d b ≤ m.last → m.last ≤ places → AllLead (length m.names.roles) places (points_of d m b s.bound s.acts)
   points_lead d ends m s places r fits h n k = tt
   points_lead d (again name) m s places r fits h n k = tt
-  points_lead d (binds name body) m s places r fits h n k = points_lead d body m (in_rec name s) places r (and_split _ (body_fits d body (in_rec name s)) fits).1 h n k
+  points_lead d (binds name body) m s places r fits h n k = points_lead d body m (in_rec name s) places r (both _ (body_fits d body (in_rec name s)) fits).1 h n k
   points_lead d (acts p t l sort body) m s places r fits h n k =
-      let f = and_split (head_fits d p t s && has_room_for l s) (body_fits d body (with_label l (in_act s))) fits in
-      let g = and_split (head_fits d p t s) (has_room_for l s) f.0 in
+      let f = both (head_fits d p t s && has_room_for l s) (body_fits d body (with_label l (in_act s))) fits in
+      let g = both (head_fits d p t s) (has_room_for l s) f.0 in
       let arm : Arm = arm_of m l sort (first_of d body s.bound (suc s.acts) m.last) in (
         record {
           known = head_known d m p t s r g.0;
@@ -124,8 +113,8 @@ mutual
         points_lead d body m (with_label l (in_act s)) places r f.1 h (omega arith) k,
       )
   points_lead d (offers p t arms) m s places r fits h n k =
-      let f = and_split _ (arms_fit d arms (in_braces s)) fits in
-      let g = and_split (head_fits d p t s) _ f.0 in (
+      let f = both _ (arms_fit d arms (in_braces s)) fits in
+      let g = both (head_fits d p t s) _ f.0 in (
         record {
           known = head_known d m p t s r g.0;
           some = some_arms d m arms s.bound (suc s.acts);
@@ -135,13 +124,13 @@ mutual
       )
 
   arm_points_lead : (d : Dialect) (arms : Branches d) (m : Numbering) (s : Scene) (places : ℕ) → s.roles ≡ m.names.roles → arms_fit d arms s ≡ true → (has_end_arms d arms ≡ true → m.last < places) → s.acts + acts_in_arms d arms ≤ m.last → m.last ≤ places → AllLead (length m.names.roles) places (points_of_arms d m arms s.bound s.acts)
-  arm_points_lead d (one l sort body) m s places r fits h n k = points_lead d body m (with_label l s) places r (and_split (has_room_for l s) (body_fits d body (with_label l s)) fits).1 h n k
+  arm_points_lead d (one l sort body) m s places r fits h n k = points_lead d body m (with_label l s) places r (both (has_room_for l s) (body_fits d body (with_label l s)) fits).1 h n k
   arm_points_lead d (more l sort body arms) m s places r fits h n k =
-      let f = and_split (has_room_for l s && body_fits d body (with_label l s)) (arms_fit d arms (behind d body (with_label l s))) fits in
-      let g = and_split (has_room_for l s) (body_fits d body (with_label l s)) f.0 in
+      let f = both (has_room_for l s && body_fits d body (with_label l s)) (arms_fit d arms (behind d body (with_label l s))) fits in
+      let g = both (has_room_for l s) (body_fits d body (with_label l s)) f.0 in
       all_append (points_of d m body s.bound s.acts) (points_of_arms d m arms s.bound (s.acts + acts_in d body)) (length m.names.roles) places
-      (points_lead d body m (with_label l s) places r g.1 (λ e. h (or_left (has_end d body) (has_end_arms d arms) e)) (omega arith) k)
-      (arm_points_lead d arms m (behind d body (with_label l s)) places r f.1 (λ e. h (or_right (has_end d body) (has_end_arms d arms) e)) (omega arith) k)
+      (points_lead d body m (with_label l s) places r g.1 (λ e. h (or_first (has_end d body) (has_end_arms d arms) e)) (omega arith) k)
+      (arm_points_lead d arms m (behind d body (with_label l s)) places r f.1 (λ e. h (or_end (has_end d body) (has_end_arms d arms) e)) (omega arith) k)
 
 -- ---- whole parts
 

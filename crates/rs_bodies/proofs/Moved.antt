@@ -1,5 +1,5 @@
 -- A canonical body is that of the graph with other numbers for labels too, by names that have the labels at those numbers.
-use Rattle.std.proofs.Common.{◌≡◌, ℕ, ◌+◌, List, [], ◌∷◌, ◌++◌, length, map, Bool, true, false, ◌||◌, get_or, replicate, Option, Some, option_map, refl, sym, ap, ◌∙◌, subst, slice_get}
+use Rattle.std.proofs.Common.{◌≡◌, ℕ, ◌+◌, List, [], ◌∷◌, ◌++◌, length, map, Bool, true, false, get_or, replicate, Option, Some, option_map, refl, sym, ap, ◌∙◌, subst, slice_get}
 use Rattle.std.proofs.lemmas.List.{length-map}
 use Rattle.std.proofs.lemmas.List.Folds.{list_any-append}
 use Rattle.std.proofs.lemmas.Option.{slice_get-map}
@@ -7,7 +7,7 @@ use Rattle.std.specs.Str.{bytes_eq}
 use Rattle.rs_model.specs.Data.{Names_data}
 use Rattle.rs_model.specs.declared.graph.Arm.{Arm}
 use Rattle.rs_model.specs.declared.values.Sort.{Sort}
-use Rattle.rs_text.proofs.Basics.{or_first}
+use Rattle.rs_text.proofs.Basics.{or_first, or_end}
 use Rattle.rs_text.proofs.Naming.{bytes_same}
 use Rattle.rs_text.specs.Names.{is_among}
 use Rattle.rs_bodies.specs.declared.dialects.Dialect.{Dialect}
@@ -26,21 +26,17 @@ use Rattle.rs_bodies.proofs.BackFlags.{goes_back, back_is, is_back}
 
 -- ---- labels among others
 
-or_second : (a b : Bool) → b ≡ true → (a || b) ≡ true
-or_second true b h = refl
-or_second false b h = h
-
 pub head_among : (l : List ℕ) (ls : List (List ℕ)) → is_among l (l ∷ ls) ≡ true
 head_among l ls = or_first (bytes_eq l l) (is_among l ls) (bytes_same l)
 
 pub tail_among : (x l : List ℕ) (ls : List (List ℕ)) → is_among x ls ≡ true → is_among x (l ∷ ls) ≡ true
-tail_among x l ls h = or_second (bytes_eq l x) (is_among x ls) h
+tail_among x l ls h = or_end (bytes_eq l x) (is_among x ls) h
 
 pub front_among : (x : List ℕ) (xs ys : List (List ℕ)) → is_among x xs ≡ true → is_among x (xs ++ ys) ≡ true
 front_among x xs ys h = list_any-append (λ z. bytes_eq z x) xs ys ∙ or_first (is_among x xs) (is_among x ys) h
 
 pub back_among : (x : List ℕ) (xs ys : List (List ℕ)) → is_among x ys ≡ true → is_among x (xs ++ ys) ≡ true
-back_among x xs ys h = list_any-append (λ z. bytes_eq z x) xs ys ∙ or_second (is_among x xs) (is_among x ys) h
+back_among x xs ys h = list_any-append (λ z. bytes_eq z x) xs ys ∙ or_end (is_among x xs) (is_among x ys) h
 
 -- ---- other numbers for labels
 

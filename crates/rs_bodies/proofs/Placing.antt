@@ -1,17 +1,14 @@
 -- A fault stands no further than the token behind the one that it is told at.
-use Rattle.std.proofs.Common.{ℕ, ◌≤◌, List, [], ◌∷◌, ◌++◌, length, Bool, true, false, Option, Some, None, Ok, Err, IfErr, cond, nat_le, nat_lt}
+use Rattle.std.proofs.Common.{ℕ, ◌≤◌, List, [], ◌∷◌, ◌++◌, length, Bool, true, false, Option, Some, None, Result, Ok, Err, IfErr, cond, nat_le, nat_lt}
 use Rattle.std.specs.Prelude.{codes}
 use Rattle.rs_model.specs.declared.graph.Role.{Role}
-use Rattle.rs_model.specs.declared.graph.Label.{Label}
-use Rattle.rs_model.specs.declared.values.Sort.{Sort}
 use Rattle.rs_text.specs.declared.faults.TextFault.{TextFault}
 use Rattle.rs_text.specs.declared.faults.TextKind.TheVariants as kind
-use Rattle.rs_text.specs.declared.faults.Wanted.{Wanted}
 use Rattle.rs_text.specs.declared.faults.Wanted.TheVariants as wanted
 use Rattle.rs_text.specs.Lexemes.{Lexeme}
 use Rattle.rs_text.specs.Names.{place_of, nearest_binding, is_among}
-use Rattle.rs_text.specs.Signs.{Sign, rec_word, end_word, plain, arrow, bang, question, colon, dot, comma, open_brace, close_brace, open_paren, close_paren, broken}
-use Rattle.rs_text.specs.Seen.{sort_named, plain_text, word_text, is_text}
+use Rattle.rs_text.specs.Signs.{Sign, rec_word, end_word, plain, arrow, bang, question, colon, dot, comma, open_brace, close_brace, broken}
+use Rattle.rs_text.specs.Seen.{plain_text, word_text, is_text}
 use Rattle.rs_text.specs.Readings.{feed_sign}
 use Rattle.rs_bodies.specs.declared.dialects.Dialect.{Dialect}
 use Rattle.rs_bodies.specs.declared.dialects.Dialect.TheVariants.{Talks, Acts}
@@ -23,8 +20,10 @@ use Rattle.rs_bodies.specs.declared.reading.Mode.{Mode}
 use Rattle.rs_bodies.specs.declared.reading.Mode.TheVariants as mode
 use Rattle.rs_bodies.specs.Data.{Reader_data}
 use Rattle.rs_bodies.specs.Dialects.{most, turns}
-use Rattle.rs_bodies.specs.Feeding.{Fed, in_mode, reader_behind_link, reader_at_head, reader_in_braces, feed_new_head, feed_head_role, role_by, new_role, feed_role, feed_line, feed_at, feed_turn, feed_word, feed_body, feed_receiver_role, feed_receiver, feed_bound_name, feed_next, feed_arms, feed_single, feed_label, feed_label_number, feed_sort_word, feeding}
+use Rattle.rs_bodies.specs.Feeding.{Fed, in_mode, reader_behind_link, reader_at_head, reader_in_braces, feed_new_head, feed_head_role, role_by, new_role, feed_role, feed_line, feed_at, feed_turn, feed_word, feed_body, feed_receiver_role, feed_receiver, feed_bound_name, feed_next, feed_arms, feed_single, in_message, feeding}
 use Rattle.rs_text.proofs.Keeping.{Below, StaysBelow}
+use Rattle.rs_text.proofs.MessageLaws.{label_below, message_below}
+use Rattle.rs_text.specs.Messages.{Message, goes_on, ends, feed_label, feed_message}
 
 below_if : (n : ℕ) (c : Bool) (e : TextFault) (x : Fed) → e.at ≤ n → IfErr x (Below n) → IfErr (cond c (Err e) x) (Below n)
 below_if n true e x h k = h
@@ -57,18 +56,15 @@ at_own : (n : ℕ) (o : Option (List ℕ)) (at : ℕ) (r : Reader_data) → at �
 at_own n None at r h = h
 at_own n (Some w) at r h = at_role_by n (place_of w r.roles) at r h
 
-at_labelled : (n : ℕ) (o : Option ℕ) (act : ℕ) (w : List ℕ) (at : ℕ) (r : Reader_data) → at ≤ n → IfErr (feed_label_number o act w at r) (Below n)
-at_labelled n (Some k) act w at r h = tt
-at_labelled n None act w at r h = below_if n (nat_le 256 (length r.labels)) (record { kind = kind.TooManyLabels; at = at }) _ h tt
-
-at_label : (n : ℕ) (act : ℕ) (v : Wanted) (o : Option (List ℕ)) (at : ℕ) (r : Reader_data) → at ≤ n → IfErr (feed_label act v o at r) (Below n)
-at_label n act v None at r h = h
-at_label n act v (Some w) at r h = at_labelled n (place_of w r.labels) act w at r h
+at_message : (n : ℕ) (act : ℕ) (x : Result Message TextFault) (r : Reader_data) → IfErr x (Below n) → IfErr (in_message act x r) (Below n)
+at_message n act (Err e) r h = h
+at_message n act (Ok (goes_on labels p)) r h = tt
+at_message n act (Ok (ends l s)) r h = tt
 
 at_single : (dia : Dialect) (n : ℕ) (act : ℕ) (t : Sign) (at : ℕ) (r : Reader_data) → at ≤ n → IfErr (feed_single dia act t at r) (Below n)
 at_single Talks n act colon at r h = tt
 at_single Talks n act _ at r h = h
-at_single Acts n act t at r h = at_label n act wanted.LabelOrBrace (word_text t) at r h
+at_single Acts n act t at r h = at_message n act (feed_label wanted.LabelOrBrace (word_text t) at r.labels) r (label_below n wanted.LabelOrBrace (word_text t) at r.labels h)
 
 at_arms : (dia : Dialect) (n : ℕ) (act : ℕ) (t : Sign) (at : ℕ) (r : Reader_data) → at ≤ n → IfErr (feed_arms dia act t at r) (Below n)
 at_arms dia n act open_brace at r h = below_if n (nat_le 200 r.depth) (record { kind = kind.TooDeep; at = at }) (Ok (reader_in_braces act r)) h tt
@@ -116,10 +112,6 @@ at_next n (f ∷ fs) comma at r h = tt
 at_next n (f ∷ fs) close_brace at r h = tt
 at_next n (f ∷ fs) _ at r h = h
 
-at_sorted : (n : ℕ) (o : Option Sort) (act : ℕ) (l : Label) (at : ℕ) (r : Reader_data) → at ≤ n → IfErr (feed_sort_word o act l at r) (Below n)
-at_sorted n None act l at r h = h
-at_sorted n (Some s) act l at r h = tt
-
 at_mode : (dia : Dialect) (n : ℕ) (m : Mode) (t : Sign) (at : ℕ) (next : Lexeme) (r : Reader_data) → at ≤ n → next.from ≤ n → IfErr (feed_at dia m t at next r) (Below n)
 at_mode dia n mode.Roles t at next r h k = below_unless n (is_text (codes "roles") (plain_text t)) (record { kind = kind.Expected wanted.Roles; at = at }) (in_mode mode.FirstRole r) h tt
 at_mode dia n mode.FirstRole t at next r h k = at_new_role n _ (plain_text t) at r h
@@ -139,14 +131,7 @@ at_mode dia n (mode.RecDot from) _ at next r h k = h
 at_mode dia n (mode.AtTurn from p) t at next r h k = at_turn dia n from p t at r h
 at_mode dia n (mode.Receiver from p) t at next r h k = at_receiver dia n from p (plain_text t) at r h
 at_mode dia n (mode.AtArms act) t at next r h k = at_arms dia n act t at r h
-at_mode dia n (mode.AtLabel act) t at next r h k = at_label n act wanted.Label (word_text t) at r h
-at_mode dia n (mode.Paren act l) open_paren at next r h k = tt
-at_mode dia n (mode.Paren act l) _ at next r h k = h
-at_mode dia n (mode.AtSort act l) close_paren at next r h k = tt
-at_mode dia n (mode.AtSort act l) (plain w) at next r h k = at_sorted n (sort_named w) act l at r h
-at_mode dia n (mode.AtSort act l) _ at next r h k = h
-at_mode dia n (mode.CloseParen act l s) close_paren at next r h k = tt
-at_mode dia n (mode.CloseParen act l s) _ at next r h k = h
+at_mode dia n (mode.InMessage act p) t at next r h k = at_message n act (feed_message p t at r.labels) r (message_below n p t at r.labels h)
 at_mode dia n (mode.ArmDot act l s) dot at next r h k = tt
 at_mode dia n (mode.ArmDot act l s) _ at next r h k = h
 at_mode dia n mode.Next t at next r h k = at_next n r.frames t at r h

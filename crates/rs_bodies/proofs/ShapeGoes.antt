@@ -1,5 +1,5 @@
 -- The walk over the places that a body spells goes to its end.
-use Rattle.std.proofs.Common.{◌≡◌, ℕ, zero, suc, ◌+◌, ◌<◌, ◌≤◌, List, [], ◌∷◌, ◌++◌, length, drop, Bool, true, false, ◌==◌, ◌&&◌, ◌||◌, if◌then◌else◌, nat_lt, Option, Some, None, ◌⊎◌, inl, inr, refl, sym, ap, ◌∙◌, subst, arith, slice_get, append_assoc, length-append}
+use Rattle.std.proofs.Common.{◌≡◌, ℕ, zero, suc, ◌+◌, ◌<◌, ◌≤◌, List, [], ◌∷◌, ◌++◌, length, drop, Bool, true, false, ◌==◌, ◌&&◌, ◌||◌, if◌then◌else◌, nat_lt, Option, Some, None, inl, inr, refl, sym, ap, ◌∙◌, subst, arith, slice_get, append_assoc, length-append}
 use Rattle.std.proofs.lemmas.Bool.{ltb-true, lt-ltb, eq-eqb, le-ltb, le-leb}
 use Rattle.std.proofs.lemmas.Bool.Decides.{leb_tells}
 use Rattle.std.proofs.lemmas.List.Folds.{list_any-append}
@@ -8,7 +8,7 @@ use Rattle.std.proofs.Math.Seq.{drop-append_seam}
 use Rattle.std.specs.List.{list_any}
 use Rattle.rs_model.specs.declared.graph.Arm.{Arm}
 use Rattle.rs_model.specs.declared.limits.TheConstants.{MOST_LABELS, MOST_NESTING}
-use Rattle.rs_text.proofs.Naming.{grown_append, grown_stays, not_among, among, place_of_new, place_stands}
+use Rattle.rs_text.proofs.Naming.{grown_append, grown_stays, not_among, among, place_of_new, place_stands, none_or_some}
 use Rattle.rs_text.specs.Names.{Bound, nearest_binding, number_or, names_with, is_among, place_of}
 use Rattle.rs_text.proofs.Basics.{both, two_true, or_true, or_false, or_assoc, false_or, and_false}
 use Rattle.rs_bodies.specs.declared.dialects.Dialect.{Dialect}
@@ -88,10 +88,6 @@ visit_goes dia p f inner k h arms w u there fit goes free =
 
 one_goes : (visit : ℕ → Walk → Option Walk) (last from : ℕ) (a : Arm) (arms : List Arm) (w v u : Walk) → walk_behind_label a.label.0 w ≡ Some v → walk_behind_next visit last from a.next v ≡ Some u → walk_behind_arms visit last from (a ∷ arms) w ≡ walk_behind_arms visit last from arms u
 one_goes visit last from a arms w v u l h = ap (or_none (λ v. or_none (walk_behind_arms visit last from arms) (walk_behind_next visit last from a.next v))) l ∙ ap (or_none (walk_behind_arms visit last from arms)) h
-
-none_or_some : (o : Option ℕ) → (o ≡ None) ⊎ ((k : ℕ) × (o ≡ Some k))
-none_or_some None = inl refl
-none_or_some (Some k) = inr (k, refl)
 
 old_label : (i n count : ℕ) (ended : Bool) → i < n → walk_behind_label i (walk count n ended) ≡ Some (walk count n ended)
 old_label i n count ended lt = rw (lt-ltb i n lt) refl

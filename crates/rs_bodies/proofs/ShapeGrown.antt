@@ -12,7 +12,7 @@ use Rattle.rs_model.specs.declared.values.Sort.{Sort}
 use Rattle.rs_text.proofs.Gaps.{true_or_false}
 use Rattle.rs_text.proofs.Naming.{grown_append, at_among}
 use Rattle.rs_text.proofs.PlainNames.{plain_name, plain_names, plain_stands, plain_place, plain_grown, plain_role, plain_label, plain_count, numbered_word}
-use Rattle.rs_text.proofs.Basics.{some_is, two_true, both, or_true, or_false, or_assoc, or_first, any_stands, stands_any, drop_get}
+use Rattle.rs_text.proofs.Basics.{some_is, two_true, both, or_true, or_false, or_assoc, or_first, any_stands, stands_any, drop_get, or_end}
 use Rattle.rs_text.proofs.Arms.{sort_same}
 use Rattle.rs_text.specs.Arms.{sort_or_unit}
 use Rattle.rs_text.specs.Shown.{shown_sort}
@@ -202,10 +202,6 @@ record Labelled (i : ℕ) (w v : Walk) : Type 0 where
   room : v.labels ≤ MOST_LABELS
   fits : (bound : Bound) (roles : List (List ℕ)) (depth k : ℕ) → has_room_for (plain_name 108 i) (scene roles bound depth k (plain_names 108 w.labels)) ≡ true
 
-or_second : (a b : Bool) → b ≡ true → (a || b) ≡ true
-or_second true b h = refl
-or_second false b h = h
-
 is_labelled : (i : ℕ) (w v : Walk) → w.labels ≤ MOST_LABELS → walk_behind_label i w ≡ Some v → Labelled i w v
 is_labelled i w v room h = elim (true_or_false (nat_lt i w.labels)) [
   | inl e ↦ (
@@ -237,7 +233,7 @@ is_labelled i w v room h = elim (true_or_false (nat_lt i w.labels)) [
               grows = ap (λ z. names_with (plain_names 108 w.labels) (plain_name 108 z ∷ [])) at ∙ plain_grown 108 w.labels (omega arith);
               up = omega arith;
               room = omega arith;
-              fits = λ bound roles depth k. or_second (is_among (plain_name 108 i) (plain_names 108 w.labels)) (nat_lt (length (plain_names 108 w.labels)) MOST_LABELS) (lt-ltb (length (plain_names 108 w.labels)) MOST_LABELS (omega arith));
+              fits = λ bound roles depth k. or_end (is_among (plain_name 108 i) (plain_names 108 w.labels)) (nat_lt (length (plain_names 108 w.labels)) MOST_LABELS) (lt-ltb (length (plain_names 108 w.labels)) MOST_LABELS (omega arith));
             }))
         | inr f ↦ absurd (not_some v (sym (if_false (i == w.labels && nat_lt i MOST_LABELS) (Some (record w { labels = suc w.labels })) None f) ∙ h2))
       ])

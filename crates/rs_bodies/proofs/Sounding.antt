@@ -1,17 +1,14 @@
 -- The names of the reader stay sound, and there are never too many heads.
-use Rattle.std.proofs.Common.{◌≡◌, ◌∙◌, ℕ, suc, ◌≤◌, List, [], ◌∷◌, ◌++◌, length, Bool, true, false, ◌&&◌, Option, Some, None, Ok, Err, IfOk, cond, nat_le, nat_lt, refl, sym, ap, subst, arith, append-nil, append_assoc}
+use Rattle.std.proofs.Common.{◌≡◌, ◌∙◌, ℕ, suc, ◌≤◌, List, [], ◌∷◌, ◌++◌, length, Bool, true, false, ◌&&◌, Option, Some, None, Ok, Err, IfOk, cond, nat_le, nat_lt, refl, sym, ap, subst, arith}
 use Rattle.std.specs.Prelude.{codes}
 use Rattle.rs_model.specs.declared.graph.Role.{Role}
-use Rattle.rs_model.specs.declared.graph.Label.{Label}
-use Rattle.rs_model.specs.declared.values.Sort.{Sort}
 use Rattle.rs_text.specs.declared.faults.TextFault.{TextFault}
 use Rattle.rs_text.specs.declared.faults.TextKind.TheVariants as kind
-use Rattle.rs_text.specs.declared.faults.Wanted.{Wanted}
 use Rattle.rs_text.specs.declared.faults.Wanted.TheVariants as wanted
 use Rattle.rs_text.specs.Lexemes.{Lexeme}
 use Rattle.rs_text.specs.Names.{place_of, nearest_binding, is_among, differ}
-use Rattle.rs_text.specs.Signs.{Sign, rec_word, end_word, plain, arrow, bang, question, colon, dot, comma, open_brace, close_brace, open_paren, close_paren, broken}
-use Rattle.rs_text.specs.Seen.{sort_named, plain_text, word_text, is_text}
+use Rattle.rs_text.specs.Signs.{Sign, rec_word, end_word, plain, arrow, bang, question, colon, dot, comma, open_brace, close_brace, broken}
+use Rattle.rs_text.specs.Seen.{plain_text, word_text, is_text}
 use Rattle.rs_text.specs.Readings.{feed_sign}
 use Rattle.rs_bodies.specs.declared.dialects.Dialect.{Dialect}
 use Rattle.rs_bodies.specs.declared.dialects.Dialect.TheVariants.{Talks, Acts}
@@ -22,7 +19,7 @@ use Rattle.rs_bodies.specs.declared.reading.Mode.{Mode}
 use Rattle.rs_bodies.specs.declared.reading.Mode.TheVariants as mode
 use Rattle.rs_bodies.specs.Data.{Reader_data, Draft_data}
 use Rattle.rs_bodies.specs.Dialects.{most, turns}
-use Rattle.rs_bodies.specs.Feeding.{Fed, in_mode, reader_behind_link, reader_at_head, feed_new_head, feed_head_role, role_by, new_role, feed_role, feed_line, feed_at, feed_turn, feed_word, feed_body, feed_receiver_role, feed_receiver, feed_bound_name, feed_next, feed_arms, feed_single, feed_label, feed_label_number, feed_sort_word, feeding}
+use Rattle.rs_bodies.specs.Feeding.{Fed, in_mode, reader_behind_link, reader_at_head, feed_new_head, feed_head_role, role_by, new_role, feed_role, feed_line, feed_at, feed_turn, feed_word, feed_body, feed_receiver_role, feed_receiver, feed_bound_name, feed_next, feed_arms, feed_single, in_message, feeding}
 use Rattle.rs_bodies.specs.declared.reading.Link.TheVariants as link
 use Rattle.std.specs.List.{list_all}
 use Rattle.std.proofs.lemmas.Bool.{leb-false}
@@ -30,10 +27,12 @@ use Rattle.rs_model.specs.Data.{Names_data}
 use Rattle.rs_text.specs.Lexing.{next_lexeme}
 use Rattle.rs_text.specs.Sound.{IsSound}
 use Rattle.rs_text.specs.Words.{is_word, is_role_word}
-use Rattle.rs_text.proofs.Basics.{some_is}
+use Rattle.rs_text.proofs.Basics.{some_is, both}
 use Rattle.rs_text.proofs.Judging.{IsNamed}
-use Rattle.rs_text.proofs.Naming.{not_among, decides_sound, new_differ, new_all}
+use Rattle.rs_text.proofs.Naming.{decides_sound, new_differ, new_all}
 use Rattle.rs_text.proofs.Judging as judging
+use Rattle.rs_text.proofs.MessageLaws.{GoodLabels, GoodBehind, labels_first, label_good, message_good}
+use Rattle.rs_text.specs.Messages.{Message, goes_on, ends, feed_label, feed_message}
 use Rattle.rs_bodies.specs.Drafts.{names_read}
 use Rattle.rs_bodies.specs.Faults.{KeepsBy}
 use Rattle.std.proofs.Common.{◌<◌}
@@ -43,17 +42,14 @@ use Rattle.rs_bodies.proofs.Labels.{Takes, take_sign, is_of_talks}
 use Rattle.rs_bodies.specs.Feeding.{feed_of, start_of_part, first_roles, PartAnswer, answer_of_reading, ReadsAs}
 use Rattle.std.proofs.Common.{Result}
 use Rattle.rs_text.specs.Readings.{Reading, read_all}
-use Rattle.rs_text.proofs.Keeping.{tokens, kept, KeptIn}
+use Rattle.rs_text.proofs.Keeping.{tokens, kept, KeptIn, if_ok}
 use Rattle.rs_bodies.proofs.FaultRuns.{linked_length, placed_length}
 
 -- names that are still sound, with further labels behind the old ones
 pub record GoodNames (old : Names_data) (roles labels : List (List ℕ)) : Type 0 where
   pub roles_differ : differ roles ≡ true
   pub roles_are_words : list_all is_role_word roles ≡ true
-  pub later : List (List ℕ)
-  pub labels_are : labels ≡ old.labels ++ later
-  pub labels_differ : differ labels ≡ true
-  pub words : list_all is_word labels ≡ true
+  pub labels_good : GoodLabels old.labels labels
 
 abbrev pub Good : (dia : Dialect) → Names_data → Reader_data → Type 0
 Good dia old d = GoodNames old d.roles d.labels × (length d.drafts ≤ most dia)
@@ -74,16 +70,6 @@ plain_named : (t : Sign) → IsNamed t → (w : List ℕ) → plain_text t ≡ S
 plain_named (plain x) n w h = n w (ap plain (some_is x w h))
 plain_named _ n w h = absurd (cc h)
 
-and_split : (a b : Bool) → (a && b) ≡ true → (a ≡ true) × (b ≡ true)
-and_split true b h = (refl, h)
-and_split false b h = absurd (cc h)
-
-word_named : (t : Sign) → IsNamed t → (w : List ℕ) → word_text t ≡ Some w → is_word w ≡ true
-word_named rec_word n w h = subst (λ (z : List ℕ). is_word z ≡ true) (some_is (codes "rec") w h) refl
-word_named end_word n w h = subst (λ (z : List ℕ). is_word z ≡ true) (some_is (codes "end") w h) refl
-word_named (plain x) n w h = (and_split (is_word w) _ (n w (ap plain (some_is x w h)))).0
-word_named _ n w h = absurd (cc h)
-
 -- ---- roles
 
 role_pushed : (a c : Bool) (dia : Dialect) (old : Names_data) (m : Mode) (w : List ℕ) (at : ℕ) (r : Reader_data) → is_among w r.roles ≡ a → is_role_word w ≡ true → Good dia old r
@@ -94,10 +80,7 @@ role_pushed false false dia old m w at r e k h = (
   record {
     roles_differ = new_differ r.roles w e h.0.roles_differ;
     roles_are_words = new_all is_role_word r.roles w e h.0.roles_are_words k;
-    later = h.0.later;
-    labels_are = h.0.labels_are;
-    labels_differ = h.0.labels_differ;
-    words = h.0.words;
+    labels_good = h.0.labels_good;
   },
   h.1,
 )
@@ -123,33 +106,15 @@ keep_own dia old (Some w) at r h = keep_role dia old (place_of w r.roles) at r h
 
 -- ---- labels
 
-label_pushed : (c : Bool) (dia : Dialect) (old : Names_data) (w : List ℕ) (at : ℕ) (r : Reader_data) (m : Mode) → is_among w r.labels ≡ false → is_word w ≡ true → Good dia old r
-    → IfOk {E = TextFault} (cond c (Err (record { kind = kind.TooManyLabels; at = at })) (Ok (record r { labels = r.labels ++ w ∷ []; mode = m }))) (Good dia old)
-label_pushed true dia old w at r m e k h = tt
-label_pushed false dia old w at r m e k h = (
-  record {
-    roles_differ = h.0.roles_differ;
-    roles_are_words = h.0.roles_are_words;
-    later = h.0.later ++ w ∷ [];
-    labels_are = ap (λ z. z ++ w ∷ []) h.0.labels_are ∙ append_assoc old.labels h.0.later (w ∷ []);
-    labels_differ = new_differ r.labels w e h.0.labels_differ;
-    words = new_all is_word r.labels w e h.0.words k;
-  },
-  h.1,
-)
-
-keep_labelled : (dia : Dialect) (old : Names_data) (o : Option ℕ) (act : ℕ) (w : List ℕ) (at : ℕ) (r : Reader_data) → place_of w r.labels ≡ o → is_word w ≡ true → Good dia old r → IfOk (feed_label_number o act w at r) (Good dia old)
-keep_labelled dia old (Some k) act w at r e f h = h
-keep_labelled dia old None act w at r e f h = label_pushed (nat_le 256 (length r.labels)) dia old w at r _ (not_among r.labels w 0 e) f h
-
-keep_label : (dia : Dialect) (old : Names_data) (act : ℕ) (v : Wanted) (o : Option (List ℕ)) (at : ℕ) (r : Reader_data) → ((w : List ℕ) → o ≡ Some w → is_word w ≡ true) → Good dia old r → IfOk (feed_label act v o at r) (Good dia old)
-keep_label dia old act v None at r k h = tt
-keep_label dia old act v (Some w) at r k h = keep_labelled dia old (place_of w r.labels) act w at r refl (k w refl) h
+keep_message : (dia : Dialect) (old : Names_data) (act : ℕ) (x : Result Message TextFault) (r : Reader_data) → IfOk x (GoodBehind old.labels r.labels) → Good dia old r → IfOk (in_message act x r) (Good dia old)
+keep_message dia old act (Err e) r k h = tt
+keep_message dia old act (Ok (goes_on labels p)) r k h = (record { roles_differ = h.0.roles_differ; roles_are_words = h.0.roles_are_words; labels_good = k }, h.1)
+keep_message dia old act (Ok (ends l s)) r k h = h
 
 keep_single : (dia : Dialect) (old : Names_data) (act : ℕ) (t : Sign) (at : ℕ) (r : Reader_data) → IsNamed t → Good dia old r → IfOk (feed_single dia act t at r) (Good dia old)
 keep_single Talks old act colon at r n h = h
 keep_single Talks old act _ at r n h = tt
-keep_single Acts old act t at r n h = keep_label Acts old act wanted.LabelOrBrace (word_text t) at r (word_named t n) h
+keep_single Acts old act t at r n h = keep_message Acts old act (feed_label wanted.LabelOrBrace (word_text t) at r.labels) r (label_good old.labels r.labels wanted.LabelOrBrace t at n h.0.labels_good) h
 
 keep_arms : (dia : Dialect) (old : Names_data) (act : ℕ) (t : Sign) (at : ℕ) (r : Reader_data) → IsNamed t → Good dia old r → IfOk (feed_arms dia act t at r) (Good dia old)
 keep_arms dia old act open_brace at r n h = keep_if (nat_le 200 r.depth) dia old _ _ h
@@ -212,10 +177,6 @@ keep_next dia old (f ∷ fs) comma at r h = h
 keep_next dia old (f ∷ fs) close_brace at r h = h
 keep_next dia old (f ∷ fs) _ at r h = tt
 
-keep_sorted : (dia : Dialect) (old : Names_data) (o : Option Sort) (act : ℕ) (l : Label) (at : ℕ) (r : Reader_data) → Good dia old r → IfOk (feed_sort_word o act l at r) (Good dia old)
-keep_sorted dia old None act l at r h = tt
-keep_sorted dia old (Some s) act l at r h = h
-
 keep_at : (dia : Dialect) (old : Names_data) (m : Mode) (t : Sign) (at : ℕ) (next : Lexeme) (r : Reader_data) → IsNamed t → Good dia old r → IfOk (feed_at dia m t at next r) (Good dia old)
 keep_at dia old mode.Roles t at next r n h = keep_unless (is_text (codes "roles") (plain_text t)) dia old _ _ h
 keep_at dia old mode.FirstRole t at next r n h = keep_new_role dia old _ (plain_text t) at r (plain_named t n) h
@@ -235,14 +196,7 @@ keep_at dia old (mode.RecDot from) _ at next r n h = tt
 keep_at dia old (mode.AtTurn from p) t at next r n h = keep_turn dia old from p t at r h
 keep_at dia old (mode.Receiver from p) t at next r n h = keep_receiver dia old from p (plain_text t) at r h
 keep_at dia old (mode.AtArms act) t at next r n h = keep_arms dia old act t at r n h
-keep_at dia old (mode.AtLabel act) t at next r n h = keep_label dia old act wanted.Label (word_text t) at r (word_named t n) h
-keep_at dia old (mode.Paren act l) open_paren at next r n h = h
-keep_at dia old (mode.Paren act l) _ at next r n h = tt
-keep_at dia old (mode.AtSort act l) close_paren at next r n h = h
-keep_at dia old (mode.AtSort act l) (plain w) at next r n h = keep_sorted dia old (sort_named w) act l at r h
-keep_at dia old (mode.AtSort act l) _ at next r n h = tt
-keep_at dia old (mode.CloseParen act l s) close_paren at next r n h = h
-keep_at dia old (mode.CloseParen act l s) _ at next r n h = tt
+keep_at dia old (mode.InMessage act p) t at next r n h = keep_message dia old act (feed_message p t at r.labels) r (message_good old.labels r.labels p t at n h.0.labels_good) h
 keep_at dia old (mode.ArmDot act l s) dot at next r n h = h
 keep_at dia old (mode.ArmDot act l s) _ at next r n h = tt
 keep_at dia old mode.Next t at next r n h = keep_next dia old r.frames t at r h
@@ -253,19 +207,13 @@ abbrev pub Own : (dia : Dialect) → Names_data → Reader_data → Type 0
 Own Talks old d = Unit {0}
 Own Acts old d = (d.roles ≡ old.roles) × (is_of_talks d.mode ≡ false)
 
-own_takes : (x : Fed) (d : Reader_data) (t : Sign) (old : Names_data) (r : Reader_data) → x ≡ Ok d → IfOk x (Takes t r) → Own Acts old r → Own Acts old d
-own_takes (Ok e) d t old r same h own = let k : e ≡ d = cc in subst (λ (z : Reader_data). Own Acts old z) k (h.3 ∙ own.0, h.2)
-own_takes (Err e) d t old r same h own = absurd (cc same)
-
 own_on : (dia : Dialect) (old : Names_data) (t : Sign) (at : ℕ) (next : Lexeme) (r d : Reader_data) → IsWhole t → feed_of dia t at next r ≡ Ok d → Own dia old r → Own dia old d
 own_on Talks old t at next r d w e own = tt
-own_on Acts old t at next r d w e own = own_takes (feed_sign (feeding Acts) t at next r) d t old r (whole_fed Acts t at next r w ∙ e) (take_sign t at next r own.1) own
+own_on Acts old t at next r d w e own =
+    let h = if_ok (feed_sign (feeding Acts) t at next r) d (Takes t r) (whole_fed Acts t at next r w ∙ e) (take_sign t at next r own.1) in
+    (h.3 ∙ own.0, h.2)
 
 -- ---- as the loop needs it
-
-if_ok : (x : Fed) (d : Reader_data) (Q : Reader_data → Type 0) → x ≡ Ok d → IfOk x Q → Q d
-if_ok (Ok e) d Q same h = let k : e ≡ d = cc in subst Q k h
-if_ok (Err e) d Q same h = absurd (cc same)
 
 abbrev pub Kept : (dia : Dialect) → Names_data → Reader_data → Type 0
 Kept dia old d = Good dia old d × Own dia old d
@@ -282,20 +230,19 @@ own_first Acts r e = (refl, ap (λ z. is_of_talks z.mode) e)
 -- names that were sound are good at first
 pub kept_first : (dia : Dialect) (r : Reader_data) → r ≡ start_of_part dia (names_read r) → IsSound (names_read r) → Kept dia (names_read r) r
 kept_first dia r begun s =
-    let t = and_split (differ r.roles && list_all is_role_word r.roles) (differ r.labels && list_all is_word r.labels) ((decides_sound (names_read r)).1 s) in
-    let u = and_split (differ r.labels) (list_all is_word r.labels) t.1 in
-    let v = and_split (differ r.roles) (list_all is_role_word r.roles) t.0 in
+    let t = both (differ r.roles && list_all is_role_word r.roles) (differ r.labels && list_all is_word r.labels) ((decides_sound (names_read r)).1 s) in
+    let v = both (differ r.roles) (list_all is_role_word r.roles) t.0 in
     let none : r.drafts ≡ [] = ap (λ z. z.drafts) begun in
     let few : length r.drafts ≤ most dia = subst (λ (z : List Draft_data). length z ≤ most dia) (sym none) (omega arith) in
-    let good : GoodNames (names_read r) r.roles r.labels = record { roles_differ = v.0; roles_are_words = v.1; later = []; labels_are = sym (append-nil r.labels); labels_differ = u.0; words = u.1 } in
+    let good : GoodNames (names_read r) r.roles r.labels = record { roles_differ = v.0; roles_are_words = v.1; labels_good = labels_first (names_read r) s } in
     ((good, few), own_first dia r begun)
 
 pub kept_sound : (dia : Dialect) (old : Names_data) (r : Reader_data) → Kept dia old r → IsSound (names_read r)
-kept_sound dia old r g = (decides_sound (names_read r)).0 (rw (g.0.0.roles_differ, g.0.0.roles_are_words, g.0.0.labels_differ, g.0.0.words) refl)
+kept_sound dia old r g = (decides_sound (names_read r)).0 (rw (g.0.0.roles_differ, g.0.0.roles_are_words, g.0.0.labels_good.labels_differ, g.0.0.labels_good.words) refl)
 
 pub kept_keeps : (dia : Dialect) (old : Names_data) (r : Reader_data) → Kept dia old r → KeepsBy dia old (names_read r)
 kept_keeps Talks old r g = tt
-kept_keeps Acts old r g = record { later = g.0.0.later; roles = g.1.0; labels = g.0.0.labels_are }
+kept_keeps Acts old r g = record { later = g.0.0.labels_good.later; roles = g.1.0; labels = g.0.0.labels_good.labels_are }
 
 pub kept_fed : (dia : Dialect) (old : Names_data) (bytes : List ℕ) (now : ℕ) (t next : Lexeme) (r d : Reader_data) → t ≡ next_lexeme bytes now → feed_sign (feeding dia) t.sign t.from next r ≡ Ok d → Kept dia old r → Kept dia old d
 kept_fed dia old bytes now t next r d e f h = kept_on dia old t.sign t.from next r d (judging.named bytes now t e) f h
@@ -314,17 +261,16 @@ keep_sign dia old t at next r n h = keep_at dia old r.mode t at next r n h
 
 good_begun : (dia : Dialect) (old : Names_data) → old.roles ≡ first_roles dia old → IsSound old → Good dia old (start_of_part dia old)
 good_begun dia old first s =
-    let t = and_split (differ old.roles && list_all is_role_word old.roles) (differ old.labels && list_all is_word old.labels) ((decides_sound old).1 s) in
-    let u = and_split (differ old.labels) (list_all is_word old.labels) t.1 in
-    let v = and_split (differ old.roles) (list_all is_role_word old.roles) t.0 in
-    let good : GoodNames old old.roles old.labels = record { roles_differ = v.0; roles_are_words = v.1; later = []; labels_are = sym (append-nil old.labels); labels_differ = u.0; words = u.1 } in
+    let t = both (differ old.roles && list_all is_role_word old.roles) (differ old.labels && list_all is_word old.labels) ((decides_sound old).1 s) in
+    let v = both (differ old.roles) (list_all is_role_word old.roles) t.0 in
+    let good : GoodNames old old.roles old.labels = record { roles_differ = v.0; roles_are_words = v.1; labels_good = labels_first old s } in
     (subst (λ (z : List (List ℕ)). GoodNames old z old.labels) first good, omega arith)
 
 abbrev SoundAnswer : PartAnswer → Type 0
 SoundAnswer a = IsSound a.names
 
 on_answer : (dia : Dialect) (old : Names_data) (x : Result (Reading Reader_data) TextFault) → IfOk x (KeptIn (Good dia old)) → IfOk (answer_of_reading x) SoundAnswer
-on_answer dia old (Ok x) h = (decides_sound (names_read x.reader)).0 (rw (h.0.roles_differ, h.0.roles_are_words, h.0.labels_differ, h.0.words) refl)
+on_answer dia old (Ok x) h = (decides_sound (names_read x.reader)).0 (rw (h.0.roles_differ, h.0.roles_are_words, h.0.labels_good.labels_differ, h.0.labels_good.words) refl)
 on_answer dia old (Err e) h = tt
 
 -- what is read has names that texts can have

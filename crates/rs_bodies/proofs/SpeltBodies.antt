@@ -12,6 +12,7 @@ use Rattle.rs_bodies.specs.declared.reading.Frame.{Frame}
 use Rattle.rs_bodies.specs.declared.reading.Link.{Link}
 use Rattle.rs_bodies.specs.declared.reading.Link.TheVariants as link
 use Rattle.rs_bodies.specs.declared.reading.Mode.TheVariants as mode
+use Rattle.rs_text.specs.declared.messages.MessagePlace.TheVariants as place
 use Rattle.rs_bodies.specs.declared.drafts.DraftArm.{DraftArm}
 use Rattle.rs_text.specs.Names.{place_of, is_among, names_with, Bound, nearest_binding, number_or}
 use Rattle.rs_text.specs.Signs.{Sign, plain, arrow, bang, question, open_paren, close_paren, dot, comma, open_brace, close_brace}
@@ -28,9 +29,9 @@ use Rattle.rs_bodies.specs.Fits.{is_guarded, has_room_for, body_fits, arms_fit, 
 use Rattle.rs_bodies.specs.Feeding.{Fed, in_mode, reader_behind_link, start_behind_link, drafts_behind_link, feed_head_role, feed_new_head, feed_receiver_role, feed_bound_name, reader_at_head, reader_in_braces, feeding}
 use Rattle.rs_text.specs.Readings.{fault}
 use Rattle.rs_text.proofs.Leading.{sign_behind, Tells, Exact, Hangs, hangs_both, tells_if, full, roomy, fits_in}
-use Rattle.rs_bodies.proofs.FaultRuns.{by_name, acts_shape, offers_shape, placed_length, frame_at, restored_bound}
+use Rattle.rs_bodies.proofs.FaultRuns.{by_name, acts_shape, offers_shape, placed_length, frame_at, restored_bound, lone_leads, linked_length}
 use Rattle.rs_bodies.proofs.FaultPlaces.{scene_of}
-use Rattle.rs_bodies.proofs.SpeltSteps.{target, arm_to, arms_to, draft, drafts_of, drafts_in, with_all, mid_arm, linked_length, Stays, stays_before, numbered, arm_exact, lone_exact}
+use Rattle.rs_bodies.proofs.SpeltSteps.{target, arm_to, arms_to, draft, drafts_of, drafts_in, with_all, mid_arm, Stays, stays_before, numbered, arm_exact}
 use Rattle.rs_text.proofs.Basics.{or_assoc, or_true, or_false}
 
 -- as many acts as the tree has
@@ -149,7 +150,7 @@ mutual
       let pl : length p.drafts ≡ suc c = placed_length from q r in
       let S : ℕ → Scene = λ z. scene r.roles r.bound r.depth z (names_with r.labels (l ∷ [])) in
       let arm : DraftArm = arm_to m l s (target dia body r.bound (suc c)) in
-      lone_exact dia c l (open_paren ∷ ((sort_signs s ++ close_paren ∷ dot ∷ []) ++ (body_signs dia body ++ ts))) p u N Q
+      lone_leads dia (λ k. N) c l (open_paren ∷ ((sort_signs s ++ close_paren ∷ dot ∷ []) ++ (body_signs dia body ++ ts))) p u Q
       (arm_exact dia l s c p r.roles all last (body_signs dia body ++ ts) u N Q (stays_before (names_with r.labels (l ∷ [])) (labels_of dia body) all stays) (
         hd.0,
         λ e. body_exact dia body (link.OfArm c (label_of m l) (sort_or_unit s)) (record p { labels = names_with r.labels (l ∷ []) }) all last ts u N Q settled stays
@@ -186,7 +187,7 @@ mutual
 
   pub branches_exact : (dia : Dialect) (arms : Branches dia) (act : ℕ) (r : Reader_data) (fs : List Frame) (all : List (List ℕ)) (last : ℕ) (ts : List Sign) (u : Sign) (N : Type 0) (Q : Reader_data → Type 0) → ends_a_name dia (sign_behind ts u) ≡ true → Stays (names_with r.labels (labels_of_arms dia arms)) all
       → (xs : List Draft_data) (d : Draft_data) (ys : List Draft_data) → r.drafts ≡ xs ++ d ∷ ys → length xs ≡ act
-      → Hangs (arms_fit dia arms (scene_of r)) N (GoesArms dia arms act r fs all last xs d ys (λ d. Exact (feeding dia) ts u N Q d)) → Exact (feeding dia) (branch_signs dia arms ++ ts) u N Q (record r { frames = frame_at act r.bound r.depth ∷ fs; mode = mode.AtLabel act })
+      → Hangs (arms_fit dia arms (scene_of r)) N (GoesArms dia arms act r fs all last xs d ys (λ d. Exact (feeding dia) ts u N Q d)) → Exact (feeding dia) (branch_signs dia arms ++ ts) u N Q (record r { frames = frame_at act r.bound r.depth ∷ fs; mode = mode.InMessage act place.Label })
   branches_exact dia (one l s body) act r fs all last ts u N Q settled stays xs d ys there here h =
       let m : Numbering = numbered r.roles all last in
       let o : Reader_data = record r { frames = frame_at act r.bound r.depth ∷ fs } in
@@ -195,7 +196,7 @@ mutual
       let both : Hangs (has_room_for l (scene_of r)) N (Hangs (body_fits dia body (with_label l (scene_of r))) N K) = hangs_both (has_room_for l (scene_of r)) (body_fits dia body (with_label l (scene_of r))) N K h in
       let arm : DraftArm = arm_to m l s (target dia body r.bound (length r.drafts)) in
       let new : List Draft_data = drafts_of dia m body r.bound (length r.drafts) in
-      subst (λ (z : List Sign). Exact (feeding dia) z u N Q (record o { mode = mode.AtLabel act })) (sym (append_assoc (arm_signs l s) (body_signs dia body) ts))
+      subst (λ (z : List Sign). Exact (feeding dia) z u N Q (record o { mode = mode.InMessage act place.Label })) (sym (append_assoc (arm_signs l s) (body_signs dia body) ts))
       (arm_exact dia l s act o r.roles all last (body_signs dia body ++ ts) u N Q (stays_before (names_with r.labels (l ∷ [])) (labels_of dia body) all stays) (
         both.0,
         λ e. body_exact dia body (link.OfArm act (label_of m l) (sort_or_unit s)) (record o { labels = names_with r.labels (l ∷ []) }) all last ts u N Q (λ _. settled) stays
@@ -223,7 +224,7 @@ mutual
       let stays_on : Stays (names_with (names_with first (labels_of dia body)) (labels_of_arms dia arms)) all = subst (λ (z : List (List ℕ)). Stays z all) (grown_append (labels_of dia body) (labels_of_arms dia arms) first) stays in
       let shape : (arm_signs l s ++ (body_signs dia body ++ comma ∷ branch_signs dia arms)) ++ ts ≡ arm_signs l s ++ (body_signs dia body ++ rest) =
       append_assoc (arm_signs l s) (body_signs dia body ++ comma ∷ branch_signs dia arms) ts ∙ ap (λ z. arm_signs l s ++ z) (append_assoc (body_signs dia body) (comma ∷ branch_signs dia arms) ts) in
-      subst (λ (z : List Sign). Exact (feeding dia) z u N Q (record o { mode = mode.AtLabel act })) (sym shape)
+      subst (λ (z : List Sign). Exact (feeding dia) z u N Q (record o { mode = mode.InMessage act place.Label })) (sym shape)
       (arm_exact dia l s act o r.roles all last (body_signs dia body ++ rest) u N Q (stays_before first (labels_of dia body ++ labels_of_arms dia arms) all stays) (
         h1.0,
         λ e. body_exact dia body from (record o { labels = first }) all last rest u N Q (λ _. refl) (stays_before (names_with first (labels_of dia body)) (labels_of_arms dia arms) all stays_on)
@@ -233,7 +234,7 @@ mutual
             let mid : drafts ≡ xs ++ with_all d (arm ∷ []) ∷ (ys ++ new) = w ∙ ap (λ q. with_arm arm (slice_get q act) q act ++ new) there ∙ ap (λ q. q ++ new) (mid_arm xs d ys arm act here) ∙ append_assoc xs (with_all d (arm ∷ []) ∷ ys) new in
             let size : length drafts ≡ c + acts_in dia body = ap length w ∙ length-append (drafts_behind_link from (target dia body r.bound c) r.drafts) new ∙ ap (λ q. q + length new) (linked_length from (target dia body r.bound c) r.drafts) ∙ ap (λ q. c + q) (drafts_count dia m body r.bound c) in
             let S : ℕ → List (List ℕ) → Scene = λ q k. scene r.roles r.bound r.depth q k in
-            subst (λ (q : Bound). Exact (feeding dia) (branch_signs dia arms ++ ts) u N Q (record back { bound = q; frames = frame_at act r.bound r.depth ∷ fs; mode = mode.AtLabel act })) (sym (restored_bound inner bound r.bound b))
+            subst (λ (q : Bound). Exact (feeding dia) (branch_signs dia arms ++ ts) u N Q (record back { bound = q; frames = frame_at act r.bound r.depth ∷ fs; mode = mode.InMessage act place.Label })) (sym (restored_bound inner bound r.bound b))
             (branches_exact dia arms act back fs all last ts u N Q settled (subst (λ (q : List (List ℕ)). Stays (names_with q (labels_of_arms dia arms)) all) (sym g) stays_on) xs (with_all d (arm ∷ [])) (ys ++ new) mid here
             (rehang (arms_fit dia arms (S (length drafts) labels)) C N K (GoesArms dia arms act back fs all last xs (with_all d (arm ∷ [])) (ys ++ new) P) (ap (λ q. arms_fit dia arms (S q labels)) size ∙ ap (λ q. arms_fit dia arms (S (c + acts_in dia body) q)) g) hc
             (λ k labels' drafts' start' ended' bound' inner' depth' g' w' v' z' b'. k labels' drafts' start' ended' bound' inner' depth'

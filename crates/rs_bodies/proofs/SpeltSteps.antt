@@ -1,33 +1,29 @@
 -- What the tokens of a body lead the reader to: where the body fits to this state and no other, else to a fault.
-use Rattle.std.proofs.Common.{◌≡◌, ℕ, suc, ◌+◌, List, [], ◌∷◌, ◌++◌, length, true, ◌||◌, nat_le, nat_lt, Option, Some, None, Ok, refl, sym, ap, ◌∙◌, subst, arith, length-append, slice_get}
-use Rattle.std.proofs.lemmas.List.{length-set}
+use Rattle.std.proofs.Common.{◌≡◌, ℕ, suc, ◌+◌, List, [], ◌∷◌, ◌++◌, length, Option, Some, None, refl, sym, ap, ◌∙◌, subst, arith, length-append, slice_get}
 use Rattle.std.proofs.lemmas.Option.{slice_get_read}
 use Rattle.std.proofs.Math.Seq.{get_or-append_seam, set-append_seam}
 use Rattle.rs_model.specs.declared.graph.Label.{Label}
 use Rattle.rs_model.specs.declared.values.Sort.{Sort}
-use Rattle.rs_model.specs.declared.values.Sort.TheVariants as sort
-use Rattle.rs_text.specs.declared.faults.TextKind.TheVariants as kind
 use Rattle.rs_bodies.specs.declared.dialects.Dialect.{Dialect}
-use Rattle.rs_bodies.specs.declared.dialects.Dialect.TheVariants.{Talks, Acts}
 use Rattle.rs_bodies.specs.declared.dialects.Head.{Head}
-use Rattle.rs_bodies.specs.declared.reading.Link.{Link}
 use Rattle.rs_bodies.specs.declared.reading.Link.TheVariants as link
 use Rattle.rs_bodies.specs.declared.reading.Mode.TheVariants as mode
 use Rattle.rs_bodies.specs.declared.drafts.DraftArm.{DraftArm}
 use Rattle.rs_text.specs.Names.{place_of, names_with, Bound, nearest_binding, number_or}
-use Rattle.rs_text.specs.Signs.{Sign, word_sign, dot, open_paren, close_paren}
-use Rattle.rs_text.proofs.Naming.{among, not_among, grown_stays, place_of_new, grown_new, grown_old}
+use Rattle.rs_text.specs.Signs.{Sign, dot, open_paren, close_paren}
+use Rattle.rs_text.proofs.Naming.{grown_stays}
 use Rattle.rs_text.specs.Arms.{sort_signs, arm_signs, sort_or_unit}
-use Rattle.rs_bodies.specs.Dialects.{lone_signs}
 use Rattle.rs_bodies.specs.Data.{Reader_data, Draft_data}
 use Rattle.rs_bodies.specs.Drafts.{with_arm}
 use Rattle.rs_bodies.specs.Trees.{Body, ends, again, binds, acts, offers, Branches, one, more}
 use Rattle.rs_bodies.specs.Graph.{acts_in, Numbering, label_of}
 use Rattle.rs_bodies.specs.Points.{head_of}
 use Rattle.rs_bodies.specs.Fits.{has_room_for}
-use Rattle.rs_bodies.specs.Feeding.{Fed, drafts_behind_link, label_of_number, feed_label_number, feeding}
-use Rattle.rs_text.proofs.Leading.{sign_behind, lexeme, tells_if, Tells, Hangs, fits_in, full, Exact}
-use Rattle.rs_bodies.proofs.FaultRuns.{label_fed, label_moves}
+use Rattle.rs_bodies.specs.Feeding.{feeding}
+use Rattle.rs_text.proofs.Leading.{Hangs, Exact}
+use Rattle.rs_text.specs.Messages.{label_of_number}
+use Rattle.rs_text.specs.declared.messages.MessagePlace.TheVariants as place
+use Rattle.rs_bodies.proofs.FaultRuns.{label_leads, dot_leads}
 use Rattle.rs_bodies.proofs.FaultPlaces.{scene_of}
 
 -- ---- acts that are still read, by the tree
@@ -73,14 +69,6 @@ mid_seam xs d ys arm = ap (λ z. with_arm arm z (xs ++ d ∷ ys) (length xs)) (g
 pub mid_arm : (xs : List Draft_data) (d : Draft_data) (ys : List Draft_data) (arm : DraftArm) (k : ℕ) → length xs ≡ k → with_arm arm (slice_get (xs ++ d ∷ ys) k) (xs ++ d ∷ ys) k ≡ xs ++ with_all d (arm ∷ []) ∷ ys
 mid_arm xs d ys arm k e = subst (λ (z : ℕ). with_arm arm (slice_get (xs ++ d ∷ ys) z) (xs ++ d ∷ ys) z ≡ xs ++ with_all d (arm ∷ []) ∷ ys) e (mid_seam xs d ys arm)
 
-with_arm_length : (arm : DraftArm) (found : Option Draft_data) (drafts : List Draft_data) (k : ℕ) → length (with_arm arm found drafts k) ≡ length drafts
-with_arm_length arm None drafts k = refl
-with_arm_length arm (Some d) drafts k = length-set drafts k _
-
-pub linked_length : (from : Link) (to : Option ℕ) (drafts : List Draft_data) → length (drafts_behind_link from to drafts) ≡ length drafts
-linked_length link.Start to drafts = refl
-linked_length (link.OfArm act label sort) to drafts = with_arm_length _ (slice_get drafts act) drafts act
-
 -- ---- arms
 
 -- names that have a place have the same place among these
@@ -99,43 +87,8 @@ label_is roles all last l k e = ap (λ z. label_of_number (number_or z)) e
 abbrev pub at_arm : Reader_data → List ℕ → Numbering → ℕ → Option Sort → Reader_data
 at_arm r l n act s = record r { labels = names_with r.labels (l ∷ []); mode = mode.Body (link.OfArm act (label_of n l) (sort_or_unit s)) }
 
-sort_exact : (dia : Dialect) (s : Option Sort) (act : ℕ) (label : Label) (r : Reader_data) (ts : List Sign) (u : Sign) (N : Type 0) (Q : Reader_data → Type 0) → Exact (feeding dia) ts u N Q (record r { mode = mode.Body (link.OfArm act label (sort_or_unit s)) })
-    → Exact (feeding dia) (open_paren ∷ ((sort_signs s ++ close_paren ∷ dot ∷ []) ++ ts)) u N Q (record r { mode = mode.Paren act label })
-sort_exact dia None act label r ts u N Q h = λ a f n. λ a f n. λ a f n. h
-sort_exact dia (Some sort.Unit) act label r ts u N Q h = λ a f n. λ a f n. λ a f n. λ a f n. h
-sort_exact dia (Some sort.Flag) act label r ts u N Q h = λ a f n. λ a f n. λ a f n. λ a f n. h
-sort_exact dia (Some sort.Natural) act label r ts u N Q h = λ a f n. λ a f n. λ a f n. λ a f n. h
-sort_exact dia (Some sort.Whole) act label r ts u N Q h = λ a f n. λ a f n. λ a f n. λ a f n. h
-sort_exact dia (Some sort.Octets) act label r ts u N Q h = λ a f n. λ a f n. λ a f n. λ a f n. h
-sort_exact dia (Some sort.Numbers) act label r ts u N Q h = λ a f n. λ a f n. λ a f n. λ a f n. h
-
-labelled_exact : (found : Option ℕ) (l : List ℕ) (act : ℕ) (at : ℕ) (r : Reader_data) (N : Type 0) (Q : Reader_data → Type 0) → place_of l r.labels ≡ found → Hangs (has_room_for l (scene_of r)) N ((k : ℕ) → place_of l (names_with r.labels (l ∷ [])) ≡ Some k → Q (record r { labels = names_with r.labels (l ∷ []); mode = mode.Paren act (label_of_number k) }))
-    → Tells (feed_label_number found act l at (record r { mode = mode.AtLabel act })) N Q
-labelled_exact (Some k) l act at r N Q e h =
-    let same : names_with r.labels (l ∷ []) ≡ r.labels = grown_old r.labels l k e in
-    let room : has_room_for l (scene_of r) ≡ true = ap (λ z. z || nat_lt (length r.labels) 256) (among r.labels l 0 k e) in
-    subst (λ (z : List (List ℕ)). Q (record r { labels = z; mode = mode.Paren act (label_of_number k) })) same (h.1 room k (ap (λ z. place_of l z) same ∙ e))
-labelled_exact None l act at r N Q e h =
-    let same : names_with r.labels (l ∷ []) ≡ r.labels ++ l ∷ [] = grown_new r.labels l e in
-    let room : has_room_for l (scene_of r) ≡ nat_lt (length r.labels) 256 = ap (λ z. z || nat_lt (length r.labels) 256) (not_among r.labels l 0 e) in
-    tells_if (nat_le 256 (length r.labels)) kind.TooManyLabels at (Ok (record r { labels = r.labels ++ l ∷ []; mode = mode.Paren act (label_of_number (length r.labels)) })) N Q
-    (λ f. h.0 (room ∙ full 256 (length r.labels) f))
-    (λ f. subst (λ (z : List (List ℕ)). Q (record r { labels = z; mode = mode.Paren act (label_of_number (length r.labels)) })) same
-    (h.1 (room ∙ fits_in 256 (length r.labels) f) (length r.labels) (ap (λ z. place_of l z) same ∙ place_of_new r.labels l e)))
-
 pub arm_exact : (dia : Dialect) (l : List ℕ) (s : Option Sort) (act : ℕ) (r : Reader_data) (roles all : List (List ℕ)) (last : ℕ) (ts : List Sign) (u : Sign) (N : Type 0) (Q : Reader_data → Type 0) → Stays (names_with r.labels (l ∷ [])) all
-    → Hangs (has_room_for l (scene_of r)) N (Exact (feeding dia) ts u N Q (at_arm r l (numbered roles all last) act s)) → Exact (feeding dia) (arm_signs l s ++ ts) u N Q (record r { mode = mode.AtLabel act })
-arm_exact dia l s act r roles all last ts u N Q stays h = λ a f n.
-    let P : Reader_data → Type 0 = λ d. Exact (feeding dia) (open_paren ∷ ((sort_signs s ++ close_paren ∷ dot ∷ []) ++ ts)) u N Q d in
-    subst (λ (x : Fed). Tells x N P) (sym (label_fed dia l act a _ r))
-    (labelled_exact (place_of l r.labels) l act a r N P refl (
-      h.0,
-      λ room k e.
-          sort_exact dia s act (label_of_number k) (record r { labels = names_with r.labels (l ∷ []) }) ts u N Q
-          (subst (λ (z : Label). Exact (feeding dia) ts u N Q (record r { labels = names_with r.labels (l ∷ []); mode = mode.Body (link.OfArm act z (sort_or_unit s)) })) (label_is roles all last l k (stays l k e)) (h.1 room)),
-    ))
-
--- a single arm behind a head
-pub lone_exact : (dia : Dialect) (act : ℕ) (l : List ℕ) (ts : List Sign) (r : Reader_data) (u : Sign) (N : Type 0) (Q : Reader_data → Type 0) → Exact (feeding dia) (word_sign l ∷ ts) u N Q (record r { mode = mode.AtLabel act }) → Exact (feeding dia) (lone_signs dia ++ (word_sign l ∷ ts)) u N Q (record r { mode = mode.AtArms act })
-lone_exact Talks act l ts r u N Q h = λ a f n. h
-lone_exact Acts act l ts r u N Q h = λ a f n. subst (λ (x : Fed). Tells x N (λ d. Exact (feeding Acts) ts u N Q d)) (label_fed Acts l act a (lexeme (sign_behind ts u) f n) r ∙ sym (label_moves l act a (lexeme (sign_behind ts u) f n) r)) (h a f n)
+    → Hangs (has_room_for l (scene_of r)) N (Exact (feeding dia) ts u N Q (at_arm r l (numbered roles all last) act s)) → Exact (feeding dia) (arm_signs l s ++ ts) u N Q (record r { mode = mode.InMessage act place.Label })
+arm_exact dia l s act r roles all last ts u N Q stays h = λ a f n. label_leads dia (λ k. N) l act a _ r (λ d. Exact (feeding dia) (open_paren ∷ ((sort_signs s ++ close_paren ∷ dot ∷ []) ++ ts)) u N Q d) h.0
+    (λ room k e. dot_leads dia (λ k. N) s act (label_of_number k) (record r { labels = names_with r.labels (l ∷ []) }) ts u Q
+    (subst (λ (z : Label). Exact (feeding dia) ts u N Q (record r { labels = names_with r.labels (l ∷ []); mode = mode.Body (link.OfArm act z (sort_or_unit s)) })) (label_is roles all last l k (stays l k e)) (h.1 room)))

@@ -1,22 +1,22 @@
 -- Steps: the reader, token by token.
 use Rattle.std.specs.Prelude.{◌≡◌, ℕ, suc, ◌-◌, List, [], ◌∷◌, ◌++◌, codes, length, drop, slice_get, Option, Some, None, Result, Ok, Err, Bool, true, false, if◌then◌else◌, nat_lt, nat_le}
-use Rattle.rs_model.specs.declared.limits.TheConstants.{MOST_LABELS, MOST_NESTING, MOST_ROLES}
+use Rattle.rs_model.specs.declared.limits.TheConstants.{MOST_NESTING, MOST_ROLES}
 use Rattle.rs_model.specs.declared.graph.Role.{Role}
 use Rattle.rs_model.specs.declared.graph.Label.{Label}
 use Rattle.rs_model.specs.declared.values.Sort.{Sort}
-use Rattle.rs_model.specs.declared.values.Sort.TheVariants as sort
 use Rattle.rs_text.specs.declared.faults.TextFault.{TextFault}
 use Rattle.rs_text.specs.declared.faults.TextKind.TheVariants as kind
-use Rattle.rs_text.specs.declared.faults.Wanted.{Wanted}
 use Rattle.rs_text.specs.declared.faults.Wanted.TheVariants as wanted
 use Rattle.rs_text.specs.Faults.{kind_of}
+use Rattle.rs_text.specs.declared.messages.MessagePlace.TheVariants as place
+use Rattle.rs_text.specs.Messages.{Message, goes_on, ends, feed_label, feed_message}
 use Rattle.rs_model.specs.Data.{Names_data}
 use Rattle.rs_text.specs.Lexemes.{Lexeme, signs_of}
 use Rattle.rs_text.specs.Lexing.{Lexed}
 use Rattle.rs_text.specs.Names.{place_of, is_among, nearest_binding, names_with}
-use Rattle.rs_text.specs.Seen.{plain_text, word_text, is_text, sort_named}
+use Rattle.rs_text.specs.Seen.{plain_text, word_text, is_text}
 use Rattle.rs_bodies.specs.declared.dialects.Mark.TheVariants as mark
-use Rattle.rs_text.specs.Signs.{Sign, rec_word, end_word, plain, arrow, bang, question, colon, dot, comma, open_brace, close_brace, open_paren, close_paren, broken}
+use Rattle.rs_text.specs.Signs.{Sign, rec_word, end_word, plain, arrow, bang, question, colon, dot, comma, open_brace, close_brace, broken}
 use Rattle.rs_bodies.specs.declared.dialects.Dialect.{Dialect}
 use Rattle.rs_bodies.specs.declared.dialects.Dialect.TheVariants.{Talks, Acts}
 use Rattle.rs_bodies.specs.declared.dialects.Head.{Head}
@@ -177,61 +177,28 @@ feed_receiver d from p (Some word) at r = feed_receiver_role d (place_of word r.
 
 -- behind the open brace of an act
 abbrev pub reader_in_braces : ℕ → Reader_data → Reader_data
-reader_in_braces act r = record r { depth = suc r.depth; frames = record { act = act; bound = length r.bound; depth = suc r.depth } ∷ r.frames; mode = mode.AtLabel act }
+reader_in_braces act r = record r { depth = suc r.depth; frames = record { act = act; bound = length r.bound; depth = suc r.depth } ∷ r.frames; mode = mode.InMessage act place.Label }
 
 -- an open brace
 abbrev pub feed_brace : ℕ → ℕ → Reader_data → Fed
 feed_brace act at r = if nat_le MOST_NESTING r.depth then fault kind.TooDeep at else Ok (reader_in_braces act r)
 
--- the label with that number
-abbrev pub label_of_number : ℕ → Label
-label_of_number k = record { 0 = k }
-
--- an arm
-abbrev pub feed_label_number : Option ℕ → ℕ → List ℕ → ℕ → Reader_data → Fed
-feed_label_number (Some k) act word at r = in_mode (mode.Paren act (label_of_number k)) r
-feed_label_number None act word at r = if nat_le MOST_LABELS (length r.labels) then fault kind.TooManyLabels at else Ok (record r { labels = r.labels ++ word ∷ []; mode = mode.Paren act (label_of_number (length r.labels)) })
-
--- the label of an arm
-abbrev pub feed_label : ℕ → Wanted → Option (List ℕ) → ℕ → Reader_data → Fed
-feed_label act w None at r = expected w at
-feed_label act w (Some word) at r = feed_label_number (place_of word r.labels) act word at r
+-- a message of an arm of that act, behind a token
+abbrev pub in_message : ℕ → Result Message TextFault → Reader_data → Fed
+in_message act (Err f) r = Err f
+in_message act (Ok (goes_on labels p)) r = Ok (record r { labels = labels; mode = mode.InMessage act p })
+in_message act (Ok (ends label s)) r = in_mode (mode.ArmDot act label s) r
 
 -- behind a receiver a colon or a brace, behind a mark a label or a brace
 abbrev pub feed_single : Dialect → ℕ → Sign → ℕ → Reader_data → Fed
-feed_single Talks act colon at r = in_mode (mode.AtLabel act) r
+feed_single Talks act colon at r = in_mode (mode.InMessage act place.Label) r
 feed_single Talks act t at r = expected wanted.ColonOrBrace at
-feed_single Acts act t at r = feed_label act wanted.LabelOrBrace (word_text t) at r
+feed_single Acts act t at r = in_message act (feed_label wanted.LabelOrBrace (word_text t) at r.labels) r
 
 -- behind a head
 abbrev pub feed_arms : Dialect → ℕ → Sign → ℕ → Reader_data → Fed
 feed_arms d act open_brace at r = feed_brace act at r
 feed_arms d act t at r = feed_single d act t at r
-
--- the open parenthesis behind a label
-abbrev pub feed_paren : ℕ → Label → Sign → ℕ → Reader_data → Fed
-feed_paren act label open_paren at r = in_mode (mode.AtSort act label) r
-feed_paren act label _ at r = expected wanted.OpenParen at
-
--- the sort that a word names, where it names one
-abbrev pub feed_sort_word : Option Sort → ℕ → Label → ℕ → Reader_data → Fed
-feed_sort_word None act label at r = expected wanted.SortOrCloseParen at
-feed_sort_word (Some s) act label at r = in_mode (mode.CloseParen act label s) r
-
--- a word where a sort may stand
-abbrev pub sort_word : ℕ → Label → Option (List ℕ) → ℕ → Reader_data → Fed
-sort_word act label None at r = expected wanted.SortOrCloseParen at
-sort_word act label (Some word) at r = feed_sort_word (sort_named word) act label at r
-
--- the sort of an arm, or the close parenthesis where there is none
-abbrev pub feed_sort : ℕ → Label → Sign → ℕ → Reader_data → Fed
-feed_sort act label close_paren at r = in_mode (mode.ArmDot act label sort.Unit) r
-feed_sort act label t at r = sort_word act label (plain_text t) at r
-
--- the close parenthesis behind a sort
-abbrev pub feed_close_paren : ℕ → Label → Sort → Sign → ℕ → Reader_data → Fed
-feed_close_paren act label s close_paren at r = in_mode (mode.ArmDot act label s) r
-feed_close_paren act label s _ at r = expected wanted.CloseParen at
 
 -- the dot behind the head of an arm
 abbrev pub feed_arm_dot : ℕ → Label → Sort → Sign → ℕ → Reader_data → Fed
@@ -245,7 +212,7 @@ reader_behind_frame f r = record r { bound = drop (length r.bound - f.bound) r.b
 -- a token behind a body, where these braces are open
 abbrev pub feed_next : List Frame → Sign → ℕ → Reader_data → Fed
 feed_next [] t at r = expected wanted.PartOrEnd at
-feed_next (f ∷ fs) comma at r = Ok (record (reader_behind_frame f r) { mode = mode.AtLabel f.act })
+feed_next (f ∷ fs) comma at r = Ok (record (reader_behind_frame f r) { mode = mode.InMessage f.act place.Label })
 feed_next (f ∷ fs) close_brace at r = Ok (record (reader_behind_frame f r) { mode = mode.Next; frames = fs })
 feed_next (f ∷ fs) _ at r = expected wanted.CommaOrCloseBrace at
 
@@ -269,10 +236,7 @@ feed_at d (mode.RecDot from) t at next r = feed_rec_dot from t at r
 feed_at d (mode.AtTurn from p) t at next r = feed_turn d from p t at r
 feed_at d (mode.Receiver from p) t at next r = feed_receiver d from p (plain_text t) at r
 feed_at d (mode.AtArms act) t at next r = feed_arms d act t at r
-feed_at d (mode.AtLabel act) t at next r = feed_label act wanted.Label (word_text t) at r
-feed_at d (mode.Paren act label) t at next r = feed_paren act label t at r
-feed_at d (mode.AtSort act label) t at next r = feed_sort act label t at r
-feed_at d (mode.CloseParen act label s) t at next r = feed_close_paren act label s t at r
+feed_at d (mode.InMessage act p) t at next r = in_message act (feed_message p t at r.labels) r
 feed_at d (mode.ArmDot act label s) t at next r = feed_arm_dot act label s t at r
 feed_at d mode.Next t at next r = feed_behind t at r
 

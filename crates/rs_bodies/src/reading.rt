@@ -1,6 +1,7 @@
 ghost use Rattle.std.specs.Prelude.{◌≡◌, ◌≤◌, ◌<◌, ◌+◌, ◌++◌, ◌∷◌, [], length, OnOk, OnErr, IfOk, IfErr, IfSome, IfNone, Some, None, Option, Ok, Err, true, false, drop, reverse, codes, suc, nat_le, if◌then◌else◌};
 ghost use Rattle.std.specs.Option.{option_map};
 ghost use Rattle.rs_model.specs.declared.limits.TheConstants.{MOST_LABELS, MOST_ROLES, MOST_TALKS};
+ghost use Rattle.rs_text.specs.Messages.{feed_label, feed_message};
 ghost use Rattle.rs_text.specs.Names.{nearest_binding, place_of};
 ghost use Rattle.rs_text.specs.Readings.{feed_sign};
 ghost use Rattle.rs_text.specs.Seen.{plain_text, word_text};
@@ -11,12 +12,10 @@ ghost use Rattle.rs_bodies.specs.Feeding as spec;
 
 use crate::dialects::{Dialect, Head, Mark};
 use crate::drafts::{Draft, DraftArm, add_arm};
-use rs_model::{
-    Label, MOST_ACTS, MOST_LABELS, MOST_NESTING, MOST_ROLES, MOST_TALKS, Name, Role, Sort,
-};
+use rs_model::{Label, MOST_ACTS, MOST_NESTING, MOST_ROLES, MOST_TALKS, Name, Role, Sort};
 use rs_text::{
-    Binding, NameTable, Stop, Terminal, TextKind, TextToken, Wanted, bound_number, expected, fault,
-    seen, unbind,
+    Binding, MessagePlace, MessageStep, NameTable, Stop, Terminal, TextKind, TextToken, Wanted,
+    bound_number, expected, fault, feed_label, feed_message, seen, unbind,
 };
 use std::alloc::Global;
 use std::marker::Model;
@@ -59,11 +58,8 @@ pub(crate) enum Mode {
     Receiver { from: Link, first: Role },
     /// Behind a head.
     AtArms { act: u32 },
-    AtLabel { act: u32 },
-    /// At `(`.
-    Paren { act: u32, label: Label },
-    AtSort { act: u32, label: Label },
-    CloseParen { act: u32, label: Label, sort: Sort },
+    /// Within the message of an arm.
+    InMessage { act: u32, place: MessagePlace },
     ArmDot { act: u32, label: Label, sort: Sort },
     /// Behind a body.
     Next,
@@ -128,17 +124,6 @@ fn role_named(roles: &NameTable, word: &[u8]) -> Option<Role>
 {
     let place = roles.find(word)?;
     Some(Role(place as u8))
-}
-
-/// The label with this name.
-#[tactic(auto, using(rs_text::proofs::Numbers::place_below))]
-fn label_named(labels: &NameTable, word: &[u8]) -> Option<Label>
-    requires { length labels.now ≤ MOST_LABELS }
-    ensures some { IfSome result (λ label. place_of word.now labels.now ≡ Some label.0) }
-    ensures none { IfNone result (place_of word.now labels.now ≡ None) }
-{
-    let place = labels.find(word)?;
-    Some(Label(place as u16))
 }
 
 impl<'a> Reader<'a> {
@@ -474,7 +459,10 @@ impl<'a> Reader<'a> {
             depth,
         })?;
         self.depth = depth;
-        self.mode = Mode::AtLabel { act };
+        self.mode = Mode::InMessage {
+            act,
+            place: MessagePlace::Label,
+        };
         Ok(())
     }
 
@@ -494,100 +482,38 @@ impl<'a> Reader<'a> {
         match dialect {
             Dialect::Talks => match token.terminal() {
                 Terminal::Colon => {
-                    self.mode = Mode::AtLabel { act };
+                    self.mode = Mode::InMessage {
+                        act,
+                        place: MessagePlace::Label,
+                    };
                     Ok(())
                 }
                 _ => expected(Wanted::ColonOrBrace, token.from()),
             },
-            Dialect::Acts => self.label(act, Wanted::LabelOrBrace, token),
+            Dialect::Acts => self.first_label(act, token),
         }
     }
 
-    fn label(&mut self, act: u32, wanted: Wanted, token: &TextToken) -> Result<(), Stop>
-        ensures { spec.Feeds result (spec.feed_label act wanted (word_text token.now.sign) token.now.from self.old) self.old self.new }
+    /// The label of a single arm.
+    fn first_label(&mut self, act: u32, token: &TextToken) -> Result<(), Stop>
+        ensures { spec.Feeds result (spec.in_message act (feed_label Wanted.LabelOrBrace (word_text token.now.sign) token.now.from self.old.labels) self.old) self.old self.new }
     {
-        let Some(word) = token.word() else {
-            return expected(wanted, token.from());
+        let label = feed_label(Wanted::LabelOrBrace, token, self.alloc, &mut self.labels)?;
+        self.mode = Mode::InMessage {
+            act,
+            place: MessagePlace::Paren { label },
         };
-        match label_named(&self.labels, word) {
-            Some(label) => {
-                self.mode = Mode::Paren { act, label };
-                Ok(())
-            }
-            None => self.new_label(act, word, token.from()),
-        }
-    }
-
-    fn new_label(&mut self, act: u32, word: &[u8], at: usize) -> Result<(), Stop>
-        ensures { spec.Feeds result (spec.feed_label_number None act word.now at self.old) self.old self.new }
-    {
-        if self.labels.len() >= MOST_LABELS {
-            return fault(TextKind::TooManyLabels, at);
-        }
-        let place = self.labels.add(self.alloc, word)?;
-        let label = Label(place as u16);
-        self.mode = Mode::Paren { act, label };
         Ok(())
     }
 
-    fn paren(&mut self, act: u32, label: Label, token: &TextToken) -> Result<(), Stop>
-        ensures { spec.Feeds result (spec.feed_paren act label token.now.sign token.now.from self.old) self.old self.new }
+    fn message(&mut self, act: u32, place: MessagePlace, token: &TextToken) -> Result<(), Stop>
+        ensures { spec.Feeds result (spec.in_message act (feed_message place token.now.sign token.now.from self.old.labels) self.old) self.old self.new }
     {
-        match token.terminal() {
-            Terminal::OpenParen => {
-                self.mode = Mode::AtSort { act, label };
-                Ok(())
-            }
-            _ => expected(Wanted::OpenParen, token.from()),
+        match feed_message(place, token, self.alloc, &mut self.labels)? {
+            MessageStep::GoesOn { place } => self.mode = Mode::InMessage { act, place },
+            MessageStep::Ends { label, sort } => self.mode = Mode::ArmDot { act, label, sort },
         }
-    }
-
-    fn sort(&mut self, act: u32, label: Label, token: &TextToken) -> Result<(), Stop>
-        ensures { spec.Feeds result (spec.feed_sort act label token.now.sign token.now.from self.old) self.old self.new }
-    {
-        match token.terminal() {
-            Terminal::CloseParen => {
-                self.mode = Mode::ArmDot {
-                    act,
-                    label,
-                    sort: Sort::Unit,
-                };
-                Ok(())
-            }
-            _ => self.sort_word(act, label, token),
-        }
-    }
-
-    fn sort_word(&mut self, act: u32, label: Label, token: &TextToken) -> Result<(), Stop>
-        ensures { spec.Feeds result (spec.sort_word act label (plain_text token.now.sign) token.now.from self.old) self.old self.new }
-    {
-        let sort = match token.plain() {
-            Some(word) => seen::sort(word),
-            None => None,
-        };
-        let Some(sort) = sort else {
-            return expected(Wanted::SortOrCloseParen, token.from());
-        };
-        self.mode = Mode::CloseParen { act, label, sort };
         Ok(())
-    }
-
-    fn close_paren(
-        &mut self,
-        act: u32,
-        label: Label,
-        sort: Sort,
-        token: &TextToken,
-    ) -> Result<(), Stop>
-        ensures { spec.Feeds result (spec.feed_close_paren act label sort token.now.sign token.now.from self.old) self.old self.new }
-    {
-        match token.terminal() {
-            Terminal::CloseParen => {
-                self.mode = Mode::ArmDot { act, label, sort };
-                Ok(())
-            }
-            _ => expected(Wanted::CloseParen, token.from()),
-        }
     }
 
     fn arm_dot(&mut self, act: u32, label: Label, sort: Sort, token: &TextToken) -> Result<(), Stop>
@@ -621,7 +547,10 @@ impl<'a> Reader<'a> {
         match token.terminal() {
             Terminal::Comma => {
                 self.restore(frame);
-                self.mode = Mode::AtLabel { act: frame.act };
+                self.mode = Mode::InMessage {
+                    act: frame.act,
+                    place: MessagePlace::Label,
+                };
                 Ok(())
             }
             Terminal::CloseBrace => {
@@ -747,10 +676,7 @@ impl<'a> Reader<'a> {
             Mode::AtTurn { from, first } => self.turn(dialect, from, first, token),
             Mode::Receiver { from, first } => self.receiver(dialect, from, first, token),
             Mode::AtArms { act } => self.arms(dialect, act, token),
-            Mode::AtLabel { act } => self.label(act, Wanted::Label, token),
-            Mode::Paren { act, label } => self.paren(act, label, token),
-            Mode::AtSort { act, label } => self.sort(act, label, token),
-            Mode::CloseParen { act, label, sort } => self.close_paren(act, label, sort, token),
+            Mode::InMessage { act, place } => self.message(act, place, token),
             Mode::ArmDot { act, label, sort } => self.arm_dot(act, label, sort, token),
             Mode::Next => self.next(token),
         }

@@ -1,7 +1,7 @@
 -- The canonical text of a derivation spells it.
-use Rattle.std.proofs.Common.{◌≡◌, ℕ, suc, ◌+◌, ◌<◌, ◌≤◌, List, [], ◌∷◌, ◌++◌, length, map, drop, get_or, slice_get, Bool, true, false, ◌&&◌, if◌then◌else◌, Option, Some, refl, sym, ap, ◌∙◌, subst, append-nil, length-append, length-drop, arith}
+use Rattle.std.proofs.Common.{◌≡◌, ℕ, suc, ◌+◌, ◌<◌, ◌≤◌, List, [], ◌∷◌, ◌++◌, length, map, drop, get_or, Bool, true, if◌then◌else◌, Some, refl, sym, ap, ◌∙◌, subst, append-nil, length-append, length-drop, arith}
 use Rattle.std.proofs.lemmas.List.{length-map}
-use Rattle.std.proofs.lemmas.List.Elements.{All-head, All-tail, All-cons}
+use Rattle.std.proofs.lemmas.List.Elements.{All-head, All-tail}
 use Rattle.std.proofs.lemmas.List.Folds.{list_all-append}
 use Rattle.std.proofs.lemmas.Option.{slice_get-get_or, get_or_from_slice_get}
 use Rattle.std.specs.List.{All, AllPairs, flat_map, list_all}
@@ -14,7 +14,6 @@ use Rattle.rs_model.specs.declared.machines.Act.{Act}
 use Rattle.rs_model.specs.declared.machines.Act.TheVariants.{Puts, Takes}
 use Rattle.rs_model.specs.declared.values.Sort.{Sort}
 use Rattle.rs_model.specs.declared.values.Sort.TheVariants as sort
-use Rattle.rs_prefix.specs.declared.earliest.Kind.{Kind}
 use Rattle.rs_derive.specs.Data.{DNode_data, Derivation_data}
 use Rattle.rs_text.specs.Arms.{sort_or_unit}
 use Rattle.rs_text.specs.Lexemes.{Lexeme}
@@ -25,17 +24,18 @@ use Rattle.rs_text.specs.Shown.{shown_sort}
 use Rattle.rs_text.specs.Sound.{IsSound}
 use Rattle.rs_text.specs.Words.{is_word, is_role_word}
 use Rattle.rs_text.proofs.Naming.{place_law, among}
-use Rattle.rs_text.proofs.Nexts.{exists, are_lexed, end_again, lexed_are}
+use Rattle.rs_text.proofs.Nexts.{exists, are_lexed, lexed_are}
+use Rattle.rs_text.proofs.Basics.{both, two_true}
 use Rattle.rs_text.proofs.Written.{written_cut}
 use Rattle.rs_derivations.specs.Canonical.{tree_of_act, tree_of_node, tree_of, canonical_text}
 use Rattle.rs_derivations.specs.Derivations.{labels_of_acts, labels_of_node, labels_of_nodes, peers_of_acts, peers_of_node, peers_of_nodes, names_of, role_named, label_named, act_of, node_of, derivation_of}
 use Rattle.rs_derivations.specs.Numbers.{HasSmallNumbers, AreSmall}
-use Rattle.rs_derivations.specs.Printable.{peer_of, label_of, acts_of, IsPrintable}
-use Rattle.rs_derivations.specs.Spells.{AreKnown, Fits, SpellsDerivation}
-use Rattle.rs_derivations.specs.Texts.{derivation_text}
-use Rattle.rs_derivations.specs.Trees.{ActTree, NodeTree, DerivationTree, derivation_signs}
+use Rattle.rs_derivations.specs.Printable.{peer_of, label_of, IsPrintable}
+use Rattle.rs_derivations.specs.Spells.{Fits, SpellsDerivation}
+use Rattle.rs_derivations.specs.Trees.{derivation_signs}
 use Rattle.rs_derivations.proofs.Spelt.{one_spelling}
-use Rattle.rs_derivations.proofs.Printed.{AreActsWritable, AreNumbersWritable, IsNodeWritable, AreNodesWritable, IsTreeWritable, written}
+use Rattle.rs_derivations.proofs.Standings.{Known}
+use Rattle.rs_derivations.proofs.Printed.{AreActsWritable, AreNumbersWritable, AreNodesWritable, IsTreeWritable, written}
 
 -- ---- names by place
 
@@ -129,23 +129,16 @@ derivation_back names d sound p named =
 
 -- ---- names that are known
 
-abbrev Known : List (List ℕ) → List (List ℕ) → Type 0
-Known names xs = list_all (λ x. is_among x names) xs ≡ true
-
-both : (a b : Bool) → a ≡ true → b ≡ true → (a && b) ≡ true
-both true b h k = k
-both false b h k = absurd (cc h)
-
 acts_known : (names : Names_data) (acts : List Act) → IsSound names → AreNamed names acts → Known names.roles (peers_of_acts (map (tree_of_act names) acts)) × Known names.labels (labels_of_acts (map (tree_of_act names) acts))
 acts_known names [] sound h = (refl, refl)
 acts_known names (a ∷ acts) sound h =
     let k = acts_known names acts sound h.1 in
     let p : is_among (tree_of_act names a).peer names.roles ≡ true = ap (λ z. is_among z names.roles) (act_peer names a) ∙ there names.roles (peer_of a) sound.roles_differ h.0.0 in
     let l : is_among (tree_of_act names a).label names.labels ≡ true = ap (λ z. is_among z names.labels) (act_label names a) ∙ there names.labels (label_of a) sound.labels_differ h.0.1 in
-    (both (is_among (tree_of_act names a).peer names.roles) _ p k.0, both (is_among (tree_of_act names a).label names.labels) _ l k.1)
+    (two_true (is_among (tree_of_act names a).peer names.roles) _ p k.0, two_true (is_among (tree_of_act names a).label names.labels) _ l k.1)
 
 known_both : (names xs ys : List (List ℕ)) → Known names xs → Known names ys → Known names (xs ++ ys)
-known_both names xs ys h k = list_all-append (λ x. is_among x names) xs ys ∙ both (list_all (λ x. is_among x names) xs) (list_all (λ x. is_among x names) ys) h k
+known_both names xs ys h k = list_all-append (λ x. is_among x names) xs ys ∙ two_true (list_all (λ x. is_among x names) xs) (list_all (λ x. is_among x names) ys) h k
 
 nodes_known : (names : Names_data) (ns : List DNode_data) → IsSound names → NodesNamed names ns → Known names.roles (peers_of_nodes (map (tree_of_node names) ns)) × Known names.labels (labels_of_nodes (map (tree_of_node names) ns))
 nodes_known names [] sound h = (refl, refl)
@@ -156,14 +149,10 @@ nodes_known names (n ∷ ns) sound h =
       known_both names.labels (labels_of_node (tree_of_node names n)) (labels_of_nodes (map (tree_of_node names) ns)) a.1 b.1,
     )
 
-and_both : (a b : Bool) → (a && b) ≡ true → (a ≡ true) × (b ≡ true)
-and_both true b h = (refl, h)
-and_both false b h = absurd (cc h)
-
 grown_same : (xs names : List (List ℕ)) → Known names xs → names_with names xs ≡ names
 grown_same [] names h = refl
 grown_same (x ∷ xs) names h =
-    let k = and_both (is_among x names) (list_all (λ y. is_among y names) xs) h in
+    let k = both (is_among x names) (list_all (λ y. is_among y names) xs) h in
     ap (λ z. names_with (if z then names else names ++ x ∷ []) xs) k.0 ∙ grown_same xs names k.1
 
 named : (names : Names_data) (d : Derivation_data) → IsPrintable names d → NodesNamed names d.nodes
@@ -180,7 +169,7 @@ fits old names d sound p roles few =
     let all = p.nodes in
     record {
       formed = record { bound = p.bound; some = omega arith };
-      roles = subst (λ (z : List (List ℕ)). list_all (λ x. is_among x z) (name_at names.roles d.role.0 ∷ peers_of_nodes (map (tree_of_node names) d.nodes)) ≡ true) (sym roles) (both (is_among (name_at names.roles d.role.0) names.roles) _ (there names.roles d.role.0 sound.roles_differ p.roles.role) (nodes_known names d.nodes sound (named names d p)).0);
+      roles = subst (λ (z : List (List ℕ)). list_all (λ x. is_among x z) (name_at names.roles d.role.0 ∷ peers_of_nodes (map (tree_of_node names) d.nodes)) ≡ true) (sym roles) (two_true (is_among (name_at names.roles d.role.0) names.roles) _ (there names.roles d.role.0 sound.roles_differ p.roles.role) (nodes_known names d.nodes sound (named names d p)).0);
       labels = few;
       nodes = omega arith;
     }

@@ -1,6 +1,5 @@
 -- What a token adds to the names and the nodes before a place, and the rule that it may break there.
-use Rattle.std.proofs.Common.{◌≡◌, ◌⊎◌, inl, inr, ℕ, suc, ◌+◌, List, [], ◌∷◌, ◌++◌, codes, length, map, Bool, true, false, ◌&&◌, ◌==◌, nat_le, if◌then◌else◌, Option, Some, None, IfSome, refl, sym, ap, ◌∙◌, append_assoc, append-nil, length-append, arith}
-use Rattle.std.proofs.lemmas.Bool.{eqb-true}
+use Rattle.std.proofs.Common.{◌≡◌, ◌⊎◌, inl, inr, ℕ, suc, ◌+◌, List, [], ◌∷◌, ◌++◌, codes, length, Bool, true, false, ◌&&◌, ◌==◌, nat_le, if◌then◌else◌, Option, Some, None, IfSome, refl, sym, ap, ◌∙◌, append_assoc, append-nil, length-append, arith}
 use Rattle.std.proofs.lemmas.Grind.{flat_map-append}
 use Rattle.std.proofs.lemmas.List.{map-append}
 use Rattle.std.specs.Option.{option_map}
@@ -8,7 +7,6 @@ use Rattle.rs_model.specs.Data.{Names_data}
 use Rattle.rs_model.specs.declared.limits.TheConstants.{MOST_CANDIDATES}
 use Rattle.rs_model.specs.declared.values.Sort.{Sort}
 use Rattle.rs_prefix.specs.declared.earliest.Kind.{Kind}
-use Rattle.rs_text.specs.declared.faults.TextKind.{TextKind}
 use Rattle.rs_text.specs.declared.faults.TextKind.TheVariants as kind
 use Rattle.rs_text.specs.Names.{names_with}
 use Rattle.rs_text.specs.Seen.{plain_text, word_text, sort_named}
@@ -16,9 +14,9 @@ use Rattle.rs_text.specs.Signs.{Sign}
 use Rattle.rs_derivations.specs.Cuts.{ActCut, behind_peer, behind_mark, behind_label, behind_paren, behind_sort, NodeCut, at_number, at_colon, at_state, at_acts, at_act, in_act, behind_act, at_above, at_rank_word, at_rank, at_next_word, at_nexts, at_next, behind_next, Cut, at_begin, at_role, at_bound_word, at_bound, at_brace, in_nodes, at_end}
 use Rattle.rs_derivations.specs.Derivations.{labels_of_acts, labels_of_node, labels_of_nodes, peers_of_acts, peers_of_node, peers_of_nodes}
 use Rattle.rs_derivations.specs.Faults.{number_value, fault_of_role, fault_of_label, fault_of_node, fault_of}
-use Rattle.rs_derivations.specs.Feeding.{is_colon, is_comma, is_open_brace, is_close_brace, is_open_paren, is_close_paren, is_open_bracket, is_close_bracket, is_keyword, mark_kind, is_none_of, is_some_of, is_bound}
+use Rattle.rs_derivations.specs.Feeding.{is_colon, is_comma, is_open_brace, is_close_brace, is_open_bracket, is_close_bracket, is_keyword, mark_kind, is_none_of, is_some_of, is_bound}
 use Rattle.rs_derivations.specs.Trees.{ActTree, NodeTree}
-use Rattle.rs_derivations.proofs.Grows.{Grown, stays, ends, closes, act_tree, node_tree, derivation_tree, acted, nexted, number_step, state_step, act_step, mark_step, label_step, sorted_step, sort_step, above_step, rank_step, next_step, act_grows, node_grows, grown_to, role_step, bound_step, grows}
+use Rattle.rs_derivations.proofs.Grows.{is_open_paren, is_close_paren, Grown, stays, ends, closes, act_tree, node_tree, derivation_tree, acted, number_step, state_step, act_step, mark_step, label_step, sorted_step, sort_step, above_step, rank_step, next_step, act_grows, node_grows, grown_to, role_step, bound_step, grows}
 
 -- ---- names and nodes before a place
 

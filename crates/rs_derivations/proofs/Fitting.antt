@@ -1,6 +1,6 @@
 -- Names and limits before a place: a token keeps them exactly where it breaks no rule.
-use Rattle.std.proofs.Common.{◌≡◌, ◌⊎◌, inl, inr, ℕ, suc, ◌+◌, ◌<◌, ◌≤◌, List, [], ◌∷◌, ◌++◌, length, Bool, true, false, ◌&&◌, nat_le, if◌then◌else◌, Option, Some, None, refl, sym, ap, ◌∙◌, subst, append-nil, length-append, arith}
-use Rattle.std.proofs.lemmas.Bool.{leb-true, leb-false, lt-leb}
+use Rattle.std.proofs.Common.{◌≡◌, inl, inr, ℕ, ◌<◌, ◌≤◌, List, [], ◌∷◌, ◌++◌, length, Bool, true, false, ◌&&◌, nat_le, if◌then◌else◌, Option, Some, None, refl, sym, ap, ◌∙◌, subst, append-nil, length-append, arith}
+use Rattle.std.proofs.lemmas.Bool.{leb-false, lt-leb}
 use Rattle.std.specs.List.{list_all}
 use Rattle.std.proofs.lemmas.List.Folds.{list_all-append}
 use Rattle.rs_model.specs.Data.{Names_data}
@@ -9,12 +9,12 @@ use Rattle.rs_text.specs.declared.faults.TextKind.{TextKind}
 use Rattle.rs_text.specs.declared.faults.TextKind.TheVariants as kind
 use Rattle.rs_text.specs.Names.{names_with, is_among}
 use Rattle.rs_text.specs.Signs.{Sign}
-use Rattle.rs_text.proofs.Gaps.{true_or_false}
+use Rattle.rs_text.proofs.Basics.{both}
 use Rattle.rs_text.proofs.Naming.{grown_append}
 use Rattle.rs_derivations.specs.Cuts.{Cut, at_begin}
-use Rattle.rs_derivations.specs.Faults.{fault_of_role, fault_of_label, fault_of}
+use Rattle.rs_derivations.specs.Faults.{fault_of_role, fault_of}
 use Rattle.rs_derivations.specs.Spells.{AreKnown}
-use Rattle.rs_derivations.proofs.Changes.{labels_in, roles_in, count_in, Adds, AddsNothing, AddsRole, AddsLabel, AddsNode, Change}
+use Rattle.rs_derivations.proofs.Changes.{labels_in, roles_in, count_in, Adds, Change}
 
 -- what stands before the place keeps the rules
 pub record FitsSo (old : Names_data) (c : Cut) : Type 0 where
@@ -33,18 +33,14 @@ all_known old xs = list_all (λ x. is_among x old.roles) xs
 known_both : (old : Names_data) (xs ys : List (List ℕ)) → AreKnown old xs → AreKnown old ys → AreKnown old (xs ++ ys)
 known_both old xs ys h k = list_all-append (λ x. is_among x old.roles) xs ys ∙ ap (λ z. z && all_known old ys) h ∙ k
 
-and_both : (a b : Bool) → (a && b) ≡ true → (a ≡ true) × (b ≡ true)
-and_both true b h = (refl, h)
-and_both false b h = absurd (cc h)
-
 known_parts : (old : Names_data) (xs ys : List (List ℕ)) → AreKnown old (xs ++ ys) → AreKnown old xs × AreKnown old ys
-known_parts old xs ys h = and_both (all_known old xs) (all_known old ys) (sym (list_all-append (λ x. is_among x old.roles) xs ys) ∙ h)
+known_parts old xs ys h = both (all_known old xs) (all_known old ys) (sym (list_all-append (λ x. is_among x old.roles) xs ys) ∙ h)
 
 known_one : (old : Names_data) (x : List ℕ) → is_among x old.roles ≡ true → AreKnown old (x ∷ [])
 known_one old x h = ap (λ z. z && true) h
 
 one_known : (old : Names_data) (x : List ℕ) → AreKnown old (x ∷ []) → is_among x old.roles ≡ true
-one_known old x h = (and_both (is_among x old.roles) true h).0
+one_known old x h = (both (is_among x old.roles) true h).0
 
 with_one : (b : Bool) (names : List (List ℕ)) (x : List ℕ) → length names ≤ length (if b then names else names ++ x ∷ [])
 with_one true names x = omega arith

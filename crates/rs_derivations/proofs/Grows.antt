@@ -1,23 +1,22 @@
 -- How a place goes on by a token, by the grammar alone, and the tokens before the new place.
-use Rattle.std.proofs.Common.{◌≡◌, ℕ, suc, ◌+◌, ◌≤◌, List, [], ◌∷◌, ◌++◌, codes, length, Bool, true, false, ◌&&◌, ◌==◌, nat_le, if◌then◌else◌, Option, Some, None, IfSome, refl, sym, ap, ◌∙◌, subst, append_assoc, append-nil, arith}
+use Rattle.std.proofs.Common.{◌≡◌, ℕ, suc, ◌+◌, ◌≤◌, List, [], ◌∷◌, ◌++◌, codes, length, Bool, true, false, ◌&&◌, ◌==◌, nat_le, if◌then◌else◌, Option, Some, None, IfSome, refl, sym, ap, ◌∙◌, append_assoc, append-nil, arith}
 use Rattle.std.proofs.lemmas.Bool.{eqb-true, leb-true}
 use Rattle.std.proofs.lemmas.Slice.Eq.{bytes_eq-Decides}
 use Rattle.std.specs.Option.{option_map}
-use Rattle.std.specs.Str.{bytes_eq}
 use Rattle.rs_model.specs.declared.values.Sort.{Sort}
-use Rattle.rs_model.specs.declared.values.Sort.TheVariants as sort
 use Rattle.rs_prefix.specs.declared.earliest.Kind.{Kind}
 use Rattle.rs_prefix.specs.declared.earliest.Kind.TheVariants as act
-use Rattle.rs_text.specs.Arms.{sort_text}
 use Rattle.rs_text.specs.Seen.{is_text, plain_text, word_text, sort_named}
 use Rattle.rs_text.specs.Signs.{Sign, rec_word, end_word, plain, number, word_sign, bang, question, colon, comma, open_brace, close_brace, open_paren, close_paren, open_bracket, close_bracket}
+use Rattle.rs_text.proofs.Arms.{sort_text_is}
+use Rattle.rs_text.proofs.Basics.{both, some_is}
 use Rattle.rs_text.proofs.Judging.{IsProper}
 use Rattle.rs_derivations.specs.Cuts.{ActCut, behind_peer, behind_mark, behind_label, behind_paren, behind_sort, NodeCut, at_number, at_colon, at_state, at_acts, at_act, in_act, behind_act, at_above, at_rank_word, at_rank, at_next_word, at_nexts, at_next, behind_next, Cut, at_begin, at_role, at_bound_word, at_bound, at_brace, in_nodes, at_end, act_cut_signs, elements_with_commas, node_behind_acts, node_before_nexts, node_cut_signs, cut_signs, IsPlace}
 use Rattle.rs_derivations.specs.Faults.{number_value}
-use Rattle.rs_derivations.specs.Feeding.{is_colon, is_comma, is_open_brace, is_close_brace, is_open_paren, is_close_paren, is_open_bracket, is_close_bracket, is_keyword, mark_kind, is_none_of, is_some_of, is_bound}
+use Rattle.rs_derivations.specs.Feeding.{is_colon, is_comma, is_open_brace, is_close_brace, is_open_bracket, is_close_bracket, is_keyword, mark_kind, is_none_of, is_some_of, is_bound}
 use Rattle.rs_derivations.specs.Lists.{list_with_separators, with_separators}
-use Rattle.rs_derivations.specs.Spells.{IsBound, IsFormed}
-use Rattle.rs_derivations.specs.Trees.{ActTree, NodeTree, DerivationTree, mark_sign, act_signs, acts_signs, number_signs, numbers_signs, rest_signs, node_signs, nodes_signs, head_signs, derivation_signs}
+use Rattle.rs_derivations.specs.Spells.{IsBound}
+use Rattle.rs_derivations.specs.Trees.{ActTree, NodeTree, DerivationTree, mark_sign, act_signs, acts_signs, number_signs, numbers_signs, node_signs, nodes_signs, head_signs}
 
 -- ---- growth
 
@@ -63,6 +62,14 @@ mark_step s acts p (Some k) = Some (stays (in_act s acts (behind_mark p k)))
 abbrev pub label_step : ℕ → List ActTree → List ℕ → Kind → Option (List ℕ) → Option Grown
 label_step s acts p k None = None
 label_step s acts p k (Some l) = Some (stays (in_act s acts (behind_label p k l)))
+
+abbrev pub is_open_paren : Sign → Bool
+is_open_paren open_paren = true
+is_open_paren _ = false
+
+abbrev pub is_close_paren : Sign → Bool
+is_close_paren close_paren = true
+is_close_paren _ = false
 
 abbrev pub sorted_step : ℕ → List ActTree → List ℕ → Kind → List ℕ → Option Sort → Option Grown
 sorted_step s acts p k l None = None
@@ -171,24 +178,18 @@ mark_is question act.Send h = absurd (cc h)
 mark_is question act.Receive h = refl
 mark_is _ k h = absurd (cc h)
 
-some_number : (n k : ℕ) → Some n ≡ Some k → n ≡ k
-some_number n k h = cc
-
-some_text : (n k : List ℕ) → Some n ≡ Some k → n ≡ k
-some_text n k h = cc
-
 value_is : (t : Sign) (n : ℕ) → number_value t ≡ Some n → t ≡ number n
-value_is (number k) n h = ap number (some_number k n h)
+value_is (number k) n h = ap number (some_is k n h)
 value_is _ n h = absurd (cc h)
 
 plain_is : (t : Sign) (w : List ℕ) → plain_text t ≡ Some w → t ≡ plain w
-plain_is (plain v) w h = ap plain (some_text v w h)
+plain_is (plain v) w h = ap plain (some_is v w h)
 plain_is _ w h = absurd (cc h)
 
 word_is : (t : Sign) (w : List ℕ) → IsProper t → word_text t ≡ Some w → t ≡ word_sign w
-word_is rec_word w p h = ap word_sign (some_text (codes "rec") w h)
-word_is end_word w p h = ap word_sign (some_text (codes "end") w h)
-word_is (plain v) w p h = sym p ∙ ap word_sign (some_text v w h)
+word_is rec_word w p h = ap word_sign (some_is (codes "rec") w h)
+word_is end_word w p h = ap word_sign (some_is (codes "end") w h)
+word_is (plain v) w p h = sym p ∙ ap word_sign (some_is v w h)
 word_is _ w p h = absurd (cc h)
 
 text_is : (o : Option (List ℕ)) (w : List ℕ) → is_text w o ≡ true → o ≡ Some w
@@ -197,19 +198,6 @@ text_is (Some v) w h = ap Some ((bytes_eq-Decides v w).0 h)
 
 keyword_is : (w : List ℕ) (t : Sign) → is_keyword w t ≡ true → t ≡ plain w
 keyword_is w t h = plain_is t w (text_is (plain_text t) w h)
-
-sort_pick : (b : Bool) (w : List ℕ) (q s : Sort) (o : Option Sort) → (b ≡ true → w ≡ sort_text q) → (o ≡ Some s → sort_text s ≡ w) → (if b then Some q else o) ≡ Some s → sort_text s ≡ w
-sort_pick true w q s o f g h = let same : q ≡ s = cc in ap sort_text (sym same) ∙ sym (f refl)
-sort_pick false w q s o f g h = g h
-
-pub sort_is : (text : List ℕ) (s : Sort) → sort_named text ≡ Some s → sort_text s ≡ text
-sort_is text s e =
-    sort_pick (bytes_eq text (codes "unit")) text sort.Unit s _ (λ h. (bytes_eq-Decides text (codes "unit")).0 h)
-    (λ e. sort_pick (bytes_eq text (codes "bool")) text sort.Flag s _ (λ h. (bytes_eq-Decides text (codes "bool")).0 h)
-    (λ e. sort_pick (bytes_eq text (codes "nat")) text sort.Natural s _ (λ h. (bytes_eq-Decides text (codes "nat")).0 h)
-    (λ e. sort_pick (bytes_eq text (codes "int")) text sort.Whole s _ (λ h. (bytes_eq-Decides text (codes "int")).0 h)
-    (λ e. sort_pick (bytes_eq text (codes "bytes")) text sort.Octets s _ (λ h. (bytes_eq-Decides text (codes "bytes")).0 h)
-    (λ e. sort_pick (bytes_eq text (codes "list")) text sort.Numbers s None (λ h. (bytes_eq-Decides text (codes "list")).0 h) (λ e. cc) e) e) e) e) e) e
 
 -- ---- shapes of lists
 
@@ -242,10 +230,6 @@ if_grown false g P h = tt
 either_grown : (b c : Bool) (g h : Grown) (P : Grown → Type 0) → (b ≡ true → P g) → (c ≡ true → P h) → IfSome (if b then Some g else if c then Some h else None) P
 either_grown true c g h P f k = f refl
 either_grown false c g h P f k = if_grown c h P k
-
-and_both : (a b : Bool) → (a && b) ≡ true → (a ≡ true) × (b ≡ true)
-and_both true b h = (refl, h)
-and_both false b h = absurd (cc h)
 
 some_there : {A : Type 0} (xs : List A) → is_some_of xs ≡ true → 1 ≤ length xs
 some_there [] h = absurd (cc h)
@@ -290,7 +274,7 @@ labels_grow ns s acts p k t (Some l) proper e = in_signs (length ns) s acts (pla
 
 sorted_grow : (ns : List NodeTree) (s : ℕ) (acts : List ActTree) (p : List ℕ) (k : Kind) (l w : List ℕ) (t : Sign) (o : Option Sort) → t ≡ plain w → sort_named w ≡ o → IfSome (sorted_step s acts p k l o) (GrownSigns ns (in_act s acts (behind_paren p k l)) t)
 sorted_grow ns s acts p k l w t None f e = tt
-sorted_grow ns s acts p k l w t (Some q) f e = in_signs (length ns) s acts (act_cut_signs (behind_paren p k l)) (act_cut_signs (behind_sort p k l q)) t (ap (λ z. plain p ∷ mark_sign k ∷ word_sign l ∷ open_paren ∷ z ∷ []) (ap plain (sort_is w q e) ∙ sym f))
+sorted_grow ns s acts p k l w t (Some q) f e = in_signs (length ns) s acts (act_cut_signs (behind_paren p k l)) (act_cut_signs (behind_sort p k l q)) t (ap (λ z. plain p ∷ mark_sign k ∷ word_sign l ∷ open_paren ∷ z ∷ []) (ap plain (sort_text_is w q e) ∙ sym f))
 
 act_ends : (ns : List NodeTree) (s : ℕ) (acts : List ActTree) (a : ActCut) (b : ActTree) (t : Sign) → act_signs b ≡ act_cut_signs a ++ close_paren ∷ [] → t ≡ close_paren → GrownSigns ns (in_act s acts a) t (stays (acted s acts b))
 act_ends ns s acts a b t e f = acted_signs (length ns) s acts b ∙ in_signs (length ns) s acts (act_cut_signs a) (act_signs b) t (e ∙ ap (λ z. act_cut_signs a ++ z ∷ []) (sym f))
@@ -308,7 +292,7 @@ act_signs_grow ns s acts (behind_sort p k l q) t proper = if_grown (is_close_par
 
 numbers_grow : (ns : List NodeTree) (t : Sign) (o : Option ℕ) → number_value t ≡ o → IfSome (number_step ns o (is_close_brace t)) (GrownSigns ns at_number t)
 numbers_grow ns t (Some n) e = if_grown (n == length ns) (stays at_colon) _ (λ h. ap (λ z. z ∷ []) (ap number (sym (eqb-true n (length ns) h)) ∙ sym (value_is t n e)))
-numbers_grow ns t None e = if_grown (is_close_brace t && is_some_of ns) closes _ (λ h. let k = and_both (is_close_brace t) (is_some_of ns) h in (refl, close_brace_is t k.0, some_there ns k.1))
+numbers_grow ns t None e = if_grown (is_close_brace t && is_some_of ns) closes _ (λ h. let k = both (is_close_brace t) (is_some_of ns) h in (refl, close_brace_is t k.0, some_there ns k.1))
 
 states_grow : (ns : List NodeTree) (t : Sign) (o : Option ℕ) → number_value t ≡ o → IfSome (state_step o) (GrownSigns ns at_state t)
 states_grow ns t None e = tt
@@ -325,7 +309,7 @@ no_numbers (x ∷ xs) e = absurd (cc e)
 peers_grow : (ns : List NodeTree) (s : ℕ) (acts : List ActTree) (t : Sign) (o : Option (List ℕ)) → plain_text t ≡ o → IfSome (act_step s acts o (is_close_bracket t)) (GrownSigns ns (at_act s acts) t)
 peers_grow ns s acts t (Some w) e = ap (λ z. begun (length ns) s (elements_with_commas act_signs acts ++ z ∷ [])) (sym (plain_is t w e))
 peers_grow ns s acts t None e = if_grown (is_close_bracket t && is_none_of acts) (stays (at_above s acts)) _ (λ h.
-    let k = and_both (is_close_bracket t) (is_none_of acts) h in
+    let k = both (is_close_bracket t) (is_none_of acts) h in
     ap (λ z. begun (length ns) s (z ++ close_bracket ∷ [])) (no_acts acts (none_there acts k.1)) ∙ ap (λ z. begun (length ns) s (elements_with_commas act_signs acts ++ z ∷ [])) (sym (close_bracket_is t k.0)))
 
 aboves_grow : (ns : List NodeTree) (s : ℕ) (acts : List ActTree) (t : Sign) (o : Option ℕ) → number_value t ≡ o → IfSome (above_step s acts o) (GrownSigns ns (at_above s acts) t)
@@ -339,7 +323,7 @@ ranks_grow ns s acts a t (Some n) e = ap (λ z. node_behind_acts (length ns) s a
 nexts_grow : (ns : List NodeTree) (s : ℕ) (acts : List ActTree) (a r : ℕ) (next : List ℕ) (t : Sign) (o : Option ℕ) → number_value t ≡ o → IfSome (next_step s acts a r next o (is_close_bracket t)) (GrownSigns ns (at_next s acts a r next) t)
 nexts_grow ns s acts a r next t (Some n) e = nexted_signs (length ns) s acts a r next n ∙ ap (λ z. (node_before_nexts (length ns) s acts a r ++ elements_with_commas number_signs next) ++ z ∷ []) (sym (value_is t n e))
 nexts_grow ns s acts a r next t None e = if_grown (is_close_bracket t && is_none_of next) (ends (node_tree s acts a r next)) _ (λ h.
-    let k = and_both (is_close_bracket t) (is_none_of next) h in
+    let k = both (is_close_bracket t) (is_none_of next) h in
     node_whole (length ns) s acts a r next ∙ ap (λ z. (node_before_nexts (length ns) s acts a r ++ z) ++ close_bracket ∷ []) (no_numbers next (none_there next k.1))
     ∙ ap (λ z. (node_before_nexts (length ns) s acts a r ++ elements_with_commas number_signs next) ++ z ∷ []) (sym (close_bracket_is t k.0)))
 
@@ -387,7 +371,7 @@ role_place t None e = tt
 role_place t (Some w) e = (ap (λ z. plain (codes "derivation") ∷ z ∷ []) (sym (plain_is t w e)), tt)
 
 bound_of : (n : ℕ) → is_bound n ≡ true → IsBound n
-bound_of n h = let k = and_both (nat_le 1 n) (nat_le n 64) h in (leb-true 1 n k.0, leb-true n 64 k.1)
+bound_of n h = let k = both (nat_le 1 n) (nat_le n 64) h in (leb-true 1 n k.0, leb-true n 64 k.1)
 
 bound_place : (x : List ℕ) (t : Sign) (o : Option ℕ) → number_value t ≡ o → IfSome (bound_step x o) (GoesOn (at_bound x) t)
 bound_place x t None e = tt

@@ -1,11 +1,10 @@
 -- The fault that the reader tells is the first one of the text, and what it reads is spelt there.
-use Rattle.std.proofs.Common.{◌≡◌, ◌⊎◌, inl, inr, ℕ, ◌≤◌, List, [], ◌∷◌, ◌++◌, length, Bool, true, false, ◌&&◌, ◌==◌, nat_le, if◌then◌else◌, Option, Some, None, IfSome, Result, Ok, Err, refl, sym, ap, ◌∙◌, subst, append_assoc}
+use Rattle.std.proofs.Common.{◌≡◌, ◌⊎◌, inl, inr, ℕ, ◌≤◌, List, [], ◌∷◌, ◌++◌, length, Bool, true, false, ◌==◌, if◌then◌else◌, Option, Some, None, IfSome, Ok, Err, refl, sym, ap, ◌∙◌, subst}
 use Rattle.std.specs.Option.{option_map}
 use Rattle.rs_model.specs.Data.{Names_data}
-use Rattle.rs_model.specs.declared.limits.TheConstants.{MOST_LABELS, MOST_CANDIDATES}
+use Rattle.rs_model.specs.declared.limits.TheConstants.{MOST_LABELS}
 use Rattle.rs_derive.specs.Data.{Derivation_data}
 use Rattle.rs_prefix.specs.declared.earliest.Kind.{Kind}
-use Rattle.rs_text.specs.declared.faults.TextFault.{TextFault}
 use Rattle.rs_text.specs.declared.faults.TextKind.{TextKind}
 use Rattle.rs_text.specs.declared.faults.TextKind.TheVariants as kind
 use Rattle.rs_text.specs.declared.faults.Wanted.{Wanted}
@@ -14,25 +13,26 @@ use Rattle.rs_text.specs.Faults.{kind_of}
 use Rattle.rs_text.specs.FirstFaults.{IsWhole, IsClear}
 use Rattle.rs_text.specs.Lexemes.{Lexeme, signs_of}
 use Rattle.rs_text.specs.Lexing.{Lexed}
-use Rattle.rs_text.specs.Readings.{Automaton, Reading, feed_sign, next_lexeme_of, read_all}
+use Rattle.rs_text.specs.Readings.{Reading, feed_sign, next_lexeme_of, read_all}
 use Rattle.rs_text.specs.Seen.{plain_text, word_text}
 use Rattle.rs_text.specs.Signs.{Sign, broken, finish}
 use Rattle.rs_text.proofs.Judging as judging
 use Rattle.rs_text.proofs.Judging.{Here, IsNamed, IsProper, proper_sign, Judges, Halt, halt, Wholeness, a_faulty, a_whole, wholeness}
 use Rattle.rs_text.proofs.Standing.{StopsAtEnd}
 use Rattle.rs_derivations.specs.declared.reading.Mode.{Mode}
+use Rattle.rs_text.specs.declared.messages.MessagePlace.TheVariants as place
 use Rattle.rs_derivations.specs.declared.reading.Mode.TheVariants as mode
-use Rattle.rs_derivations.specs.Cuts.{ActCut, behind_peer, behind_mark, behind_label, behind_paren, behind_sort, NodeCut, at_number, at_colon, at_act, in_act, Cut, at_begin, at_role, in_nodes, at_end, cut_signs, wanted_of, IsPlace}
+use Rattle.rs_derivations.specs.Cuts.{behind_peer, behind_mark, behind_label, behind_paren, behind_sort, NodeCut, at_number, at_colon, at_act, in_act, Cut, at_begin, at_role, in_nodes, at_end, cut_signs, wanted_of, IsPlace}
 use Rattle.rs_derivations.specs.Data.{Reader_data}
-use Rattle.rs_derivations.specs.Derivations.{labels_of_acts, labels_of_nodes, names_of, derivation_of}
+use Rattle.rs_derivations.specs.Derivations.{labels_of_acts, labels_of_nodes, derivation_of}
 use Rattle.rs_text.specs.Names.{names_with}
-use Rattle.rs_derivations.specs.Faults.{Begins, IsInDerivation, StandsAt, IsUnexpected, IsMisplaced, IsBroken, FaultAt, FirstFault, number_value, fault_of_role, fault_of_label, fault_of_node, fault_of, fault_in_node}
+use Rattle.rs_derivations.specs.Faults.{Begins, IsInDerivation, StandsAt, IsMisplaced, FaultAt, number_value, fault_of_role, fault_of_label, fault_of_node, fault_of, fault_in_node}
 use Rattle.rs_derivations.specs.Feeding.{Fed, start_of_derivation, feed_at, is_read, feeding, names_read, derivation_read}
 use Rattle.rs_derivations.specs.Spells.{IsFormed, Fits, SpellsDerivation}
-use Rattle.rs_derivations.specs.Trees.{ActTree, NodeTree, DerivationTree, derivation_signs}
+use Rattle.rs_derivations.specs.Trees.{ActTree, NodeTree, DerivationTree}
 use Rattle.rs_derivations.proofs.Changes.{Change, change}
 use Rattle.rs_derivations.proofs.Fitting.{FitsSo, fits_first, fits_on, fits_back}
-use Rattle.rs_derivations.proofs.Grows.{Grown, stays, closes, number_step, act_step, label_step, grown_to, role_step, node_grows, grows, GoesOn, goes_on}
+use Rattle.rs_derivations.proofs.Grows.{Grown, stays, number_step, act_step, label_step, grown_to, role_step, node_grows, grows, GoesOn, goes_on}
 use Rattle.rs_derivations.proofs.Paths.{along, path, one_place, completes, stuck, no_further}
 use Rattle.rs_derivations.proofs.Standings.{stand, told, says}
 use Rattle.rs_text.proofs.Nexts.{lexed_are}
@@ -260,6 +260,7 @@ IsRefused (Err e) = Unit {0}
 
 end_refused : (m : Mode) (at : ℕ) (r : Reader_data) → IsRefused (feed_at m finish at r)
 end_refused mode.Derivation at r = tt
+end_refused (mode.InMessage p m place.Label) at r = tt
 end_refused _ at r = tt
 
 end_stops : (m : Mode) (at : ℕ) (r d : Reader_data) → feed_at m finish at r ≡ Ok d → ⊥

@@ -1,24 +1,20 @@
 -- The tokens of a place lead to it, so no other place has them; and a derivation can be made of each place.
-use Rattle.std.proofs.Common.{◌≡◌, ℕ, suc, ◌+◌, ◌≤◌, List, [], ◌∷◌, ◌++◌, codes, length, Bool, true, false, ◌&&◌, ◌==◌, nat_le, if◌then◌else◌, Option, Some, None, IfSome, refl, sym, ap, ◌∙◌, subst, append_assoc, append-nil, length-append, arith}
+use Rattle.std.proofs.Common.{◌≡◌, ℕ, suc, ◌≤◌, List, [], ◌∷◌, ◌++◌, codes, length, true, if◌then◌else◌, Option, Some, None, IfSome, refl, sym, ap, ◌∙◌, subst, append_assoc, append-nil, length-append, arith}
 use Rattle.std.proofs.lemmas.Bool.{eq-eqb, le-leb}
 use Rattle.std.specs.Option.{option_map}
-use Rattle.std.specs.Str.{bytes_eq}
-use Rattle.std.proofs.lemmas.Slice.Eq.{bytes_eq-Decides}
 use Rattle.rs_model.specs.declared.values.Sort.{Sort}
-use Rattle.rs_model.specs.declared.values.Sort.TheVariants as sort
 use Rattle.rs_prefix.specs.declared.earliest.Kind.{Kind}
 use Rattle.rs_prefix.specs.declared.earliest.Kind.TheVariants as act
-use Rattle.rs_text.specs.Arms.{sort_text, sort_signs}
-use Rattle.rs_text.specs.Seen.{word_text, sort_named}
-use Rattle.rs_text.specs.Signs.{Sign, rec_word, end_word, plain, number, word_sign, bang, question, colon, comma, open_brace, close_brace, open_paren, close_paren, open_bracket, close_bracket}
-use Rattle.rs_text.proofs.Judging.{IsProper}
+use Rattle.rs_text.specs.Arms.{sort_text}
+use Rattle.rs_text.specs.Signs.{Sign, end_word, plain, number, word_sign, bang, colon, comma, open_brace, close_brace, open_paren, close_paren, open_bracket, close_bracket}
+use Rattle.rs_text.proofs.MessageLaws.{label_seen, sort_seen}
 use Rattle.rs_derivations.specs.Cuts.{ActCut, behind_peer, behind_mark, behind_label, behind_paren, behind_sort, NodeCut, at_number, at_colon, at_state, at_acts, at_act, in_act, behind_act, at_above, at_rank_word, at_rank, at_next_word, at_nexts, at_next, behind_next, Cut, at_begin, at_role, at_bound_word, at_bound, at_brace, in_nodes, at_end, act_cut_signs, elements_with_commas, node_behind_acts, node_before_nexts, node_cut_signs, cut_signs, IsPlace}
-use Rattle.rs_derivations.specs.Faults.{Begins, IsInDerivation}
+use Rattle.rs_derivations.specs.Faults.{Begins}
 use Rattle.rs_derivations.specs.Feeding.{is_bound}
-use Rattle.rs_derivations.specs.Lists.{list_with_separators, with_separators}
+use Rattle.rs_derivations.specs.Lists.{with_separators}
 use Rattle.rs_derivations.specs.Spells.{IsBound, IsFormed}
-use Rattle.rs_derivations.specs.Trees.{ActTree, NodeTree, DerivationTree, mark_sign, act_signs, acts_signs, number_signs, numbers_signs, rest_signs, node_signs, nodes_signs, head_signs, derivation_signs}
-use Rattle.rs_derivations.proofs.Grows.{act_tree, node_tree, derivation_tree, acted, grows, label_step, number_step, sorted_step, grown_to, stays, ends, GoesOn, goes_on}
+use Rattle.rs_derivations.specs.Trees.{ActTree, NodeTree, DerivationTree, mark_sign, act_signs, acts_signs, number_signs, numbers_signs, node_signs, nodes_signs, head_signs, derivation_signs}
+use Rattle.rs_derivations.proofs.Grows.{act_tree, node_tree, derivation_tree, acted, grows, label_step, sorted_step, grown_to, stays, GoesOn, goes_on}
 
 -- ---- along tokens
 
@@ -49,22 +45,6 @@ one : (c d : Cut) (t : Sign) → grows c t ≡ Some d → Path c (t ∷ []) d
 one c d t g = ap (λ z. along z []) g
 
 -- ---- steps that need a test
-
-word_seen : (a b : Bool) (l : List ℕ) → (a ≡ true → l ≡ codes "rec") → (b ≡ true → l ≡ codes "end") → word_text (if a then rec_word else if b then end_word else plain l) ≡ Some l
-word_seen true b l f g = ap Some (sym (f refl))
-word_seen false true l f g = ap Some (sym (g refl))
-word_seen false false l f g = refl
-
-pub label_seen : (l : List ℕ) → word_text (word_sign l) ≡ Some l
-label_seen l = word_seen (bytes_eq l (codes "rec")) (bytes_eq l (codes "end")) l (λ h. (bytes_eq-Decides l (codes "rec")).0 h) (λ h. (bytes_eq-Decides l (codes "end")).0 h)
-
-pub sort_seen : (s : Sort) → sort_named (sort_text s) ≡ Some s
-sort_seen sort.Unit = refl
-sort_seen sort.Flag = refl
-sort_seen sort.Natural = refl
-sort_seen sort.Whole = refl
-sort_seen sort.Octets = refl
-sort_seen sort.Numbers = refl
 
 -- the place in a node
 abbrev node : List ℕ → ℕ → List NodeTree → NodeCut → Cut

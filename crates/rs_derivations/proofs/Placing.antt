@@ -1,26 +1,24 @@
 -- Faults stand at the token that is read.
-use Rattle.std.proofs.Common.{◌≡◌, ℕ, ◌≤◌, List, length, Bool, true, false, ◌==◌, ◌&&◌, nat_le, if◌then◌else◌, Option, Some, None, Result, Ok, Err}
-use Rattle.std.specs.Prelude.{IfErr, IfOk}
-use Rattle.rs_model.specs.declared.graph.Label.{Label}
+use Rattle.std.proofs.Common.{ℕ, ◌≤◌, List, length, Bool, true, false, ◌==◌, ◌&&◌, nat_le, if◌then◌else◌, Option, Some, None, Result, Ok, Err}
+use Rattle.std.specs.Prelude.{IfErr}
 use Rattle.rs_model.specs.declared.graph.Role.{Role}
-use Rattle.rs_model.specs.declared.limits.TheConstants.{MOST_LABELS, MOST_CANDIDATES}
-use Rattle.rs_model.specs.declared.values.Sort.{Sort}
+use Rattle.rs_model.specs.declared.limits.TheConstants.{MOST_CANDIDATES}
 use Rattle.rs_prefix.specs.declared.earliest.Kind.{Kind}
 use Rattle.rs_text.specs.declared.faults.TextFault.{TextFault}
-use Rattle.rs_text.specs.declared.faults.TextKind.{TextKind}
 use Rattle.rs_text.specs.declared.faults.TextKind.TheVariants as kind
 use Rattle.rs_text.specs.declared.faults.Wanted.{Wanted}
-use Rattle.rs_text.specs.Lexemes.{Lexeme}
 use Rattle.rs_text.specs.Names.{place_of}
-use Rattle.rs_text.specs.Readings.{fault, expected, feed_sign}
-use Rattle.rs_text.specs.Seen.{plain_text, word_text, sort_named}
+use Rattle.rs_text.specs.Readings.{fault, expected}
+use Rattle.rs_text.specs.Seen.{plain_text}
 use Rattle.rs_text.specs.Signs.{Sign, broken}
 use Rattle.rs_text.proofs.Keeping.{StaysBelow, Below}
+use Rattle.rs_text.proofs.MessageLaws.{message_below}
+use Rattle.rs_text.specs.Messages.{Message, goes_on, ends, feed_message}
 use Rattle.rs_derivations.specs.declared.reading.Mode.{Mode}
 use Rattle.rs_derivations.specs.declared.reading.Mode.TheVariants as mode
 use Rattle.rs_derivations.specs.Data.{Reader_data}
 use Rattle.rs_derivations.specs.Faults.{number_value}
-use Rattle.rs_derivations.specs.Feeding.{Fed, in_mode, passes, feed_derivation_role, feed_role, feed_bound, feed_node, feed_state, feed_peer, feed_act, feed_mark, feed_label_number, feed_label, feed_pending, feed_sort_word, feed_sort, feed_close_paren, feed_behind_act, feed_above, feed_rank, feed_node_end, feed_next, feed_behind_next, feed_rest, feed_at, feeding, is_bound, is_some_of, is_none_of, is_comma, is_close_bracket, is_close_brace, is_close_paren, mark_kind}
+use Rattle.rs_derivations.specs.Feeding.{Fed, in_mode, passes, feed_derivation_role, feed_role, feed_bound, feed_node, feed_state, feed_peer, feed_act, feed_mark, in_message, feed_behind_act, feed_above, feed_rank, feed_node_end, feed_next, feed_behind_next, feed_rest, feed_at, feeding, is_bound, is_some_of, is_none_of, is_comma, is_close_bracket, is_close_brace, mark_kind}
 
 -- the fault stands there
 abbrev Stays : ℕ → Fed → Type 0
@@ -67,26 +65,10 @@ mark : (n : ℕ) (p : Role) (o : Option Kind) (at : ℕ) (r : Reader_data) → a
 mark n p None at r h = h
 mark n p (Some k) at r h = tt
 
-labelled : (n : ℕ) (o : Option ℕ) (p : Role) (m : Kind) (w : List ℕ) (at : ℕ) (r : Reader_data) → at ≤ n → Stays n (feed_label_number o p m w at r)
-labelled n (Some k) p m w at r h = tt
-labelled n None p m w at r h = either n (nat_le MOST_LABELS (length r.labels)) (fault kind.TooManyLabels at) (Ok _) h tt
-
-label : (n : ℕ) (p : Role) (m : Kind) (o : Option (List ℕ)) (at : ℕ) (r : Reader_data) → at ≤ n → Stays n (feed_label p m o at r)
-label n p m None at r h = h
-label n p m (Some w) at r h = labelled n (place_of w r.labels) p m w at r h
-
-sorted : (n : ℕ) (o : Option Sort) (p : Role) (m : Kind) (l : Label) (at : ℕ) (r : Reader_data) → at ≤ n → Stays n (feed_sort_word o p m l at r)
-sorted n None p m l at r h = h
-sorted n (Some s) p m l at r h = tt
-
-sort : (n : ℕ) (p : Role) (m : Kind) (l : Label) (o : Option (List ℕ)) (c : Bool) (at : ℕ) (r : Reader_data) → at ≤ n → Stays n (feed_sort p m l o c at r)
-sort n p m l (Some w) c at r h = sorted n (sort_named w) p m l at r h
-sort n p m l None true at r h = tt
-sort n p m l None false at r h = h
-
-close : (n : ℕ) (p : Role) (m : Kind) (l : Label) (s : Sort) (c : Bool) (at : ℕ) (r : Reader_data) → at ≤ n → Stays n (feed_close_paren p m l s c at r)
-close n p m l s true at r h = tt
-close n p m l s false at r h = h
+message : (n : ℕ) (p : Role) (m : Kind) (x : Result Message TextFault) (r : Reader_data) → IfErr x (Below n) → Stays n (in_message p m x r)
+message n p m (Err e) r h = h
+message n p m (Ok (goes_on labels x)) r h = tt
+message n p m (Ok (ends l s)) r h = tt
 
 behind_act : (n : ℕ) (g c : Bool) (at : ℕ) (r : Reader_data) → at ≤ n → Stays n (feed_behind_act g c at r)
 behind_act n true c at r h = tt
@@ -133,10 +115,7 @@ fed n mode.AtState t at r h = state n (number_value t) at r h
 fed n mode.AtActs t at r h = passed n _ _ mode.AtAct at r h
 fed n mode.AtAct t at r h = act n (plain_text t) (is_close_bracket t) at r h
 fed n (mode.AtMark p) t at r h = mark n p (mark_kind t) at r h
-fed n (mode.AtLabel p m) t at r h = label n p m (word_text t) at r h
-fed n (mode.AtParen p m l) t at r h = passed n _ _ (mode.AtSort p m l) at r h
-fed n (mode.AtSort p m l) t at r h = sort n p m l (plain_text t) (is_close_paren t) at r h
-fed n (mode.CloseParen p m l s) t at r h = close n p m l s (is_close_paren t) at r h
+fed n (mode.InMessage p m x) t at r h = message n p m (feed_message x t at r.labels) r (message_below n x t at r.labels h)
 fed n m t at r h = rest n m t at r h
 
 -- no fault stands further on

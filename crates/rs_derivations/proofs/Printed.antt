@@ -1,33 +1,20 @@
 -- The canonical text of a derivation is written for its tree, and spells the derivation.
-use Rattle.std.proofs.Common.{◌≡◌, ℕ, suc, ◌+◌, ◌<◌, ◌≤◌, List, [], ◌∷◌, ◌++◌, length, map, drop, take, codes, slice_get, Bool, true, false, ◌&&◌, Option, Some, None, refl, sym, ap, ◌∙◌, subst, append-nil, append_assoc, length-append, length-drop, arith}
-use Rattle.std.proofs.lemmas.List.{length-map}
-use Rattle.std.proofs.lemmas.List.Elements.{All-head, All-tail}
+use Rattle.std.proofs.Common.{◌≡◌, ℕ, suc, ◌≤◌, List, [], ◌∷◌, ◌++◌, codes, true, false, Option, Some, None, refl, sym, ap, ◌∙◌, subst, append_assoc}
 use Rattle.std.specs.Fmt.{decimal}
-use Rattle.std.specs.List.{All, flat_map, list_all}
-use Rattle.rs_model.specs.Data.{Names_data}
-use Rattle.rs_model.specs.declared.limits.TheConstants.{MOST_LABELS, MOST_CANDIDATES, MOST_NUMBER}
-use Rattle.rs_model.specs.declared.machines.Act.{Act}
-use Rattle.rs_model.specs.declared.machines.Act.TheVariants.{Puts, Takes}
 use Rattle.rs_model.specs.declared.values.Sort.{Sort}
-use Rattle.rs_model.specs.declared.values.Sort.TheVariants as sort
 use Rattle.rs_prefix.specs.declared.earliest.Kind.{Kind}
 use Rattle.rs_prefix.specs.declared.earliest.Kind.TheVariants as act
-use Rattle.rs_derive.specs.Data.{DNode_data, Derivation_data}
-use Rattle.rs_text.specs.Arms.{sort_text, sort_signs, sort_or_unit}
+use Rattle.rs_text.specs.Arms.{sort_text, sort_signs}
 use Rattle.rs_text.specs.Bytes.{is_word_byte, is_digit, begins}
-use Rattle.rs_text.specs.Lexemes.{Lexeme}
-use Rattle.rs_text.specs.Lexing.{Lexed, next_lexeme}
-use Rattle.rs_text.specs.NamePlaces.{name_at}
-use Rattle.rs_text.specs.Shown.{shown_text, shown_sort}
-use Rattle.rs_text.specs.Signs.{Sign, plain, number, word_sign, bang, question, colon, comma, open_brace, close_brace, open_paren, close_paren, open_bracket, close_bracket, finish}
-use Rattle.rs_text.specs.Sound.{IsSound}
+use Rattle.rs_text.specs.Shown.{shown_text}
+use Rattle.rs_text.specs.Signs.{Sign, plain, number, word_sign, bang, question, colon, comma, open_brace, close_brace, open_paren, close_paren, open_bracket, close_bracket}
 use Rattle.rs_text.specs.Words.{is_word, is_role_word}
 use Rattle.rs_text.specs.Writing.{IsWritten}
-use Rattle.rs_text.proofs.Written.{nothing_written, joined, before_blank, before_mark, before_word, before_role, before_number, written_cut}
-use Rattle.rs_text.proofs.Nexts.{exists, are_lexed, end_again}
-use Rattle.rs_derivations.specs.Lists.{list_with_separators, with_separators}
-use Rattle.rs_derivations.specs.Texts.{mark_text, act_text, acts_text, numbers_text, rest_text, node_text, nodes_text, bound_text, head_text, derivation_text}
-use Rattle.rs_derivations.specs.Trees.{ActTree, NodeTree, DerivationTree, mark_sign, act_signs, acts_signs, number_signs, numbers_signs, rest_signs, node_signs, nodes_signs, head_signs, derivation_signs}
+use Rattle.rs_text.proofs.Arms.{sort_is_word}
+use Rattle.rs_text.proofs.Written.{nothing_written, joined, before_blank, before_mark, before_word, before_role, before_number}
+use Rattle.rs_derivations.specs.Lists.{with_separators}
+use Rattle.rs_derivations.specs.Texts.{mark_text, act_text, acts_text, numbers_text, rest_text, node_text, nodes_text, derivation_text}
+use Rattle.rs_derivations.specs.Trees.{ActTree, NodeTree, DerivationTree, mark_sign, act_signs, acts_signs, number_signs, numbers_signs, rest_signs, node_signs, nodes_signs, derivation_signs}
 
 -- ---- trees whose names and numbers can be written
 
@@ -54,14 +41,6 @@ AreNodesWritable n [] = Unit {0}
 AreNodesWritable n (t ∷ ts) = (n ≤ 4294967295) × IsNodeWritable t × AreNodesWritable (suc n) ts
 
 -- ---- acts
-
-sort_is_word : (s : Sort) → is_role_word (sort_text s) ≡ true
-sort_is_word sort.Unit = refl
-sort_is_word sort.Flag = refl
-sort_is_word sort.Natural = refl
-sort_is_word sort.Whole = refl
-sort_is_word sort.Octets = refl
-sort_is_word sort.Numbers = refl
 
 closing : (behind : List ℕ) → IsWritten (close_paren ∷ []) (codes ")") behind
 closing behind = before_mark close_paren [] (codes ")") [] behind refl refl (nothing_written behind)

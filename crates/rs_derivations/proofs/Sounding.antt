@@ -1,62 +1,43 @@
 -- The names stay sound, and those that were there stay in their places.
-use Rattle.std.proofs.Common.{◌≡◌, ◌∙◌, ℕ, List, [], ◌∷◌, ◌++◌, append-nil, append_assoc, codes, length, Bool, true, false, ◌==◌, ◌&&◌, nat_le, if◌then◌else◌, Option, Some, None, Ok, Err, IfOk, refl, sym, ap, subst}
+use Rattle.std.proofs.Common.{◌≡◌, ◌∙◌, ℕ, List, length, Bool, true, false, ◌==◌, ◌&&◌, nat_le, if◌then◌else◌, Option, Some, None, Result, Ok, Err, IfOk, refl, sym, ap, subst}
 use Rattle.std.specs.List.{list_all}
 use Rattle.rs_model.specs.Data.{Names_data}
-use Rattle.rs_model.specs.declared.graph.Label.{Label}
 use Rattle.rs_model.specs.declared.graph.Role.{Role}
-use Rattle.rs_model.specs.declared.limits.TheConstants.{MOST_LABELS, MOST_CANDIDATES}
-use Rattle.rs_model.specs.declared.values.Sort.{Sort}
+use Rattle.rs_model.specs.declared.limits.TheConstants.{MOST_CANDIDATES}
 use Rattle.rs_prefix.specs.declared.earliest.Kind.{Kind}
 use Rattle.rs_text.specs.declared.faults.TextKind.TheVariants as kind
 use Rattle.rs_text.specs.declared.faults.Wanted.{Wanted}
 use Rattle.rs_text.specs.Lexemes.{Lexeme}
 use Rattle.rs_text.specs.Lexing.{next_lexeme}
-use Rattle.rs_text.specs.Names.{place_of, is_among, differ}
+use Rattle.rs_text.specs.Names.{place_of, differ}
 use Rattle.rs_text.specs.Readings.{fault, expected, feed_sign}
-use Rattle.rs_text.specs.Seen.{plain_text, word_text, sort_named}
-use Rattle.rs_text.specs.Signs.{Sign, rec_word, end_word, plain, broken}
+use Rattle.rs_text.specs.Seen.{plain_text}
+use Rattle.rs_text.specs.Signs.{Sign, broken}
 use Rattle.rs_text.specs.Sound.{IsSound}
 use Rattle.rs_text.specs.Words.{is_word, is_role_word}
 use Rattle.rs_text.proofs.Judging.{IsNamed, named}
-use Rattle.rs_text.proofs.Naming.{grown_differ, grown_all, not_among, decides_sound}
+use Rattle.rs_text.proofs.Basics.{both}
+use Rattle.rs_text.proofs.MessageLaws.{GoodLabels, GoodBehind, labels_first, message_good}
+use Rattle.rs_text.proofs.Naming.{decides_sound}
+use Rattle.rs_text.specs.Messages.{Message, goes_on, ends, feed_message}
+use Rattle.rs_text.proofs.Keeping.{if_ok}
+use Rattle.rs_text.specs.declared.faults.TextFault.{TextFault}
 use Rattle.rs_derivations.specs.declared.reading.Mode.{Mode}
 use Rattle.rs_derivations.specs.declared.reading.Mode.TheVariants as mode
 use Rattle.rs_derivations.specs.Data.{Reader_data}
 use Rattle.rs_derivations.specs.Faults.{Keeps, number_value}
-use Rattle.rs_derivations.specs.Feeding.{Fed, in_mode, passes, feed_derivation_role, feed_role, feed_bound, feed_node, feed_state, feed_peer, feed_act, feed_mark, feed_label_number, feed_label, feed_sort_word, feed_sort, feed_close_paren, feed_behind_act, feed_above, feed_rank, feed_node_end, feed_next, feed_behind_next, feed_rest, feed_at, feed_of, names_read, is_bound, is_some_of, is_none_of, is_comma, is_close_bracket, is_close_brace, is_close_paren, mark_kind, feeding}
+use Rattle.rs_derivations.specs.Feeding.{Fed, in_mode, passes, feed_derivation_role, feed_role, feed_bound, feed_node, feed_state, feed_peer, feed_act, feed_mark, in_message, feed_behind_act, feed_above, feed_rank, feed_node_end, feed_next, feed_behind_next, feed_rest, feed_at, feed_of, names_read, is_bound, is_some_of, is_none_of, is_comma, is_close_bracket, is_close_brace, mark_kind, feeding}
 
 -- names that are still sound, with further labels behind the old ones
 pub record GoodNames (old : Names_data) (roles labels : List (List ℕ)) : Type 0 where
   pub roles_are : roles ≡ old.roles
-  pub later : List (List ℕ)
-  pub labels_are : labels ≡ old.labels ++ later
-  pub labels_differ : differ labels ≡ true
-  pub words : list_all is_word labels ≡ true
+  pub labels_good : GoodLabels old.labels labels
 
 abbrev pub Good : Names_data → Reader_data → Type 0
 Good old d = GoodNames old d.roles d.labels
 
 abbrev Stays : Names_data → Fed → Type 0
 Stays old x = IfOk x (Good old)
-
-new_differ : (names : List (List ℕ)) (w : List ℕ) → is_among w names ≡ false → differ names ≡ true → differ (names ++ w ∷ []) ≡ true
-new_differ names w e h = rw e at (grown_differ (w ∷ []) names h)
-
-new_all : (test : List ℕ → Bool) (names : List (List ℕ)) (w : List ℕ) → is_among w names ≡ false → list_all test names ≡ true → test w ≡ true → list_all test (names ++ w ∷ []) ≡ true
-new_all test names w e h k = rw e at (grown_all test (w ∷ []) names h (rw k refl))
-
-some_is : (x y : List ℕ) → Some x ≡ Some y → x ≡ y
-some_is x y h = cc
-
-and_split : (a b : Bool) → (a && b) ≡ true → (a ≡ true) × (b ≡ true)
-and_split true b h = (refl, h)
-and_split false b h = absurd (cc h)
-
-word_named : (t : Sign) → IsNamed t → (w : List ℕ) → word_text t ≡ Some w → is_word w ≡ true
-word_named rec_word n w h = subst (λ (z : List ℕ). is_word z ≡ true) (some_is (codes "rec") w h) refl
-word_named end_word n w h = subst (λ (z : List ℕ). is_word z ≡ true) (some_is (codes "end") w h) refl
-word_named (plain x) n w h = (and_split (is_word w) _ (n w (ap plain (some_is x w h)))).0
-word_named _ n w h = absurd (cc h)
 
 either : (old : Names_data) (b : Bool) (x y : Fed) → Stays old x → Stays old y → Stays old (if b then x else y)
 either old true x y h k = h
@@ -99,36 +80,10 @@ mark : (old : Names_data) (p : Role) (o : Option Kind) (at : ℕ) (r : Reader_da
 mark old p None at r h = tt
 mark old p (Some k) at r h = h
 
-pushed : (c : Bool) (old : Names_data) (w : List ℕ) (at : ℕ) (r : Reader_data) (m : Mode) → is_among w r.labels ≡ false → is_word w ≡ true → Good old r → Stays old (if c then fault kind.TooManyLabels at else Ok (record r { labels = r.labels ++ w ∷ []; mode = m }))
-pushed true old w at r m e k h = tt
-pushed false old w at r m e k h = record {
-  roles_are = h.roles_are;
-  later = h.later ++ w ∷ [];
-  labels_are = ap (λ z. z ++ w ∷ []) h.labels_are ∙ append_assoc old.labels h.later (w ∷ []);
-  labels_differ = new_differ r.labels w e h.labels_differ;
-  words = new_all is_word r.labels w e h.words k;
-}
-
-labelled : (old : Names_data) (o : Option ℕ) (p : Role) (m : Kind) (w : List ℕ) (at : ℕ) (r : Reader_data) → place_of w r.labels ≡ o → is_word w ≡ true → Good old r → Stays old (feed_label_number o p m w at r)
-labelled old (Some k) p m w at r e f h = h
-labelled old None p m w at r e f h = pushed (nat_le MOST_LABELS (length r.labels)) old w at r _ (not_among r.labels w 0 e) f h
-
-label : (old : Names_data) (p : Role) (m : Kind) (o : Option (List ℕ)) (at : ℕ) (r : Reader_data) → ((w : List ℕ) → o ≡ Some w → is_word w ≡ true) → Good old r → Stays old (feed_label p m o at r)
-label old p m None at r k h = tt
-label old p m (Some w) at r k h = labelled old (place_of w r.labels) p m w at r refl (k w refl) h
-
-sorted : (old : Names_data) (o : Option Sort) (p : Role) (m : Kind) (l : Label) (at : ℕ) (r : Reader_data) → Good old r → Stays old (feed_sort_word o p m l at r)
-sorted old None p m l at r h = tt
-sorted old (Some s) p m l at r h = h
-
-sort : (old : Names_data) (p : Role) (m : Kind) (l : Label) (o : Option (List ℕ)) (c : Bool) (at : ℕ) (r : Reader_data) → Good old r → Stays old (feed_sort p m l o c at r)
-sort old p m l (Some w) c at r h = sorted old (sort_named w) p m l at r h
-sort old p m l None true at r h = h
-sort old p m l None false at r h = tt
-
-close : (old : Names_data) (p : Role) (m : Kind) (l : Label) (s : Sort) (c : Bool) (at : ℕ) (r : Reader_data) → Good old r → Stays old (feed_close_paren p m l s c at r)
-close old p m l s true at r h = h
-close old p m l s false at r h = tt
+message : (old : Names_data) (p : Role) (m : Kind) (x : Result Message TextFault) (r : Reader_data) → IfOk x (GoodBehind old.labels r.labels) → Good old r → Stays old (in_message p m x r)
+message old p m (Err e) r k h = tt
+message old p m (Ok (goes_on labels x)) r k h = record { roles_are = h.roles_are; labels_good = k }
+message old p m (Ok (ends l s)) r k h = h
 
 behind_act : (old : Names_data) (g c : Bool) (at : ℕ) (r : Reader_data) → Good old r → Stays old (feed_behind_act g c at r)
 behind_act old true c at r h = h
@@ -175,15 +130,8 @@ fed old mode.AtState t at r n h = state old (number_value t) at r h
 fed old mode.AtActs t at r n h = passed old _ _ mode.AtAct at r h
 fed old mode.AtAct t at r n h = act old (plain_text t) (is_close_bracket t) at r h
 fed old (mode.AtMark p) t at r n h = mark old p (mark_kind t) at r h
-fed old (mode.AtLabel p m) t at r n h = label old p m (word_text t) at r (word_named t n) h
-fed old (mode.AtParen p m l) t at r n h = passed old _ _ (mode.AtSort p m l) at r h
-fed old (mode.AtSort p m l) t at r n h = sort old p m l (plain_text t) (is_close_paren t) at r h
-fed old (mode.CloseParen p m l s) t at r n h = close old p m l s (is_close_paren t) at r h
+fed old (mode.InMessage p m x) t at r n h = message old p m (feed_message x t at r.labels) r (message_good old.labels r.labels x t at n h.labels_good) h
 fed old m t at r n h = rest old m t at r h
-
-if_ok : (x : Fed) (d : Reader_data) (Q : Reader_data → Type 0) → x ≡ Ok d → IfOk x Q → Q d
-if_ok (Ok e) d Q same h = let k : e ≡ d = cc in subst Q k h
-if_ok (Err e) d Q same h = absurd (cc same)
 
 good_on : (old : Names_data) (t : Sign) (at : ℕ) (next : Lexeme) (r d : Reader_data) → IsNamed t → feed_sign feeding t at next r ≡ Ok d → Good old r → Good old d
 good_on old (broken k) at next r d name f h = absurd (cc f)
@@ -195,19 +143,16 @@ good_fed old bytes now t next r d e f h = good_on old t.sign t.from next r d (na
 
 -- names that were sound are good at first
 pub good_first : (r : Reader_data) → IsSound (names_read r) → Good (names_read r) r
-good_first r s =
-    let t = and_split (differ r.roles && list_all is_role_word r.roles) (differ r.labels && list_all is_word r.labels) ((decides_sound (names_read r)).1 s) in
-    let u = and_split (differ r.labels) (list_all is_word r.labels) t.1 in
-    record { roles_are = refl; later = []; labels_are = sym (append-nil r.labels); labels_differ = u.0; words = u.1 }
+good_first r s = record { roles_are = refl; labels_good = labels_first (names_read r) s }
 
 pub good_sound : (old : Names_data) (r : Reader_data) → IsSound old → Good old r → IsSound (names_read r)
 good_sound old r s g =
-    let t = and_split (differ old.roles && list_all is_role_word old.roles) (differ old.labels && list_all is_word old.labels) ((decides_sound old).1 s) in
+    let t = both (differ old.roles && list_all is_role_word old.roles) (differ old.labels && list_all is_word old.labels) ((decides_sound old).1 s) in
     let u : (differ r.roles && list_all is_role_word r.roles) ≡ true = ap (λ z. differ z && list_all is_role_word z) g.roles_are ∙ t.0 in
-    (decides_sound (names_read r)).0 (rw (u, g.labels_differ, g.words) refl)
+    (decides_sound (names_read r)).0 (rw (u, g.labels_good.labels_differ, g.labels_good.words) refl)
 
 pub good_keeps : (old : Names_data) (r : Reader_data) → Good old r → Keeps old (names_read r)
-good_keeps old r g = record { later = g.later; roles = g.roles_are; labels = g.labels_are }
+good_keeps old r g = record { later = g.labels_good.later; roles = g.roles_are; labels = g.labels_good.labels_are }
 
 pub same_sound : (r d : Reader_data) → names_read d ≡ names_read r → IsSound (names_read r) → IsSound (names_read d)
 same_sound r d e h = subst IsSound (sym e) h

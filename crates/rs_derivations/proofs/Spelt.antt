@@ -14,7 +14,7 @@ use Rattle.rs_text.proofs.Keeping.{tokens}
 use Rattle.rs_text.proofs.Nexts.{one_list, are_lexed}
 use Rattle.rs_derivations.specs.Cuts.{at_end}
 use Rattle.rs_derivations.specs.Data.{Reader_data}
-use Rattle.rs_derivations.specs.Derivations.{derivation_of, names_of}
+use Rattle.rs_derivations.specs.Derivations.{derivation_of}
 use Rattle.rs_derivations.specs.Faults.{FaultAt, FirstFault, Keeps}
 use Rattle.rs_derivations.specs.Feeding.{start_of_derivation, feeding, names_read, derivation_read}
 use Rattle.rs_derivations.specs.Printable.{IsPrintable}

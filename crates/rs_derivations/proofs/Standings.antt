@@ -1,22 +1,19 @@
 -- The reader at each place: what it has read, and what it makes of a token there.
-use Rattle.std.proofs.Common.{◌≡◌, ◌⊎◌, inl, inr, ℕ, suc, ◌+◌, List, [], ◌∷◌, ◌++◌, codes, length, map, Bool, true, false, ◌&&◌, ◌||◌, ◌==◌, nat_le, if◌then◌else◌, Option, Some, None, Ok, Err, refl, sym, ap, ◌∙◌, subst, append_assoc, append-nil}
+use Rattle.std.proofs.Common.{◌≡◌, ℕ, List, [], ◌∷◌, ◌++◌, codes, length, map, Bool, true, false, ◌&&◌, ◌==◌, nat_le, if◌then◌else◌, Option, Some, None, Ok, refl, sym, ap, ◌∙◌, subst, append_assoc, append-nil}
 use Rattle.std.proofs.lemmas.Grind.{flat_map-append}
 use Rattle.std.proofs.lemmas.List.{map-append, length-map}
 use Rattle.std.specs.List.{list_all}
 use Rattle.std.proofs.lemmas.List.Folds.{list_all-append}
-use Rattle.std.proofs.lemmas.Slice.Eq.{bytes_eq-Decides}
 use Rattle.rs_model.specs.declared.machines.Act.{Act}
 use Rattle.rs_text.specs.Arms.{sort_or_unit}
 use Rattle.std.specs.Option.{option_map}
-use Rattle.std.specs.Str.{bytes_eq}
 use Rattle.rs_model.specs.Data.{Names_data}
 use Rattle.rs_model.specs.declared.graph.Label.{Label}
 use Rattle.rs_model.specs.declared.graph.Role.{Role}
 use Rattle.rs_model.specs.declared.limits.TheConstants.{MOST_LABELS, MOST_CANDIDATES}
 use Rattle.rs_model.specs.declared.values.Sort.{Sort}
 use Rattle.rs_prefix.specs.declared.earliest.Kind.{Kind}
-use Rattle.rs_derive.specs.Data.{DNode_data, Derivation_data}
-use Rattle.rs_text.specs.declared.faults.TextFault.{TextFault}
+use Rattle.rs_derive.specs.Data.{DNode_data}
 use Rattle.rs_text.specs.declared.faults.TextKind.{TextKind}
 use Rattle.rs_text.specs.declared.faults.TextKind.TheVariants as kind
 use Rattle.rs_text.specs.declared.faults.Wanted.{Wanted}
@@ -24,18 +21,22 @@ use Rattle.rs_text.specs.declared.faults.Wanted.TheVariants as wanted
 use Rattle.rs_text.specs.Names.{names_with, is_among, place_of, number_or}
 use Rattle.rs_text.specs.Readings.{fault, expected}
 use Rattle.rs_text.specs.Seen.{plain_text, word_text, sort_named}
-use Rattle.rs_text.specs.Signs.{Sign}
-use Rattle.rs_text.proofs.Naming.{among, not_among, place_of_new, place_stays, grown_append, grown_among}
+use Rattle.rs_text.specs.Signs.{Sign, plain, open_paren, close_paren}
+use Rattle.rs_text.specs.declared.messages.MessagePlace.{MessagePlace}
+use Rattle.rs_text.specs.declared.messages.MessagePlace.TheVariants as place
+use Rattle.rs_text.specs.Messages.{goes_on, label_of_number, labelled_by, feed_label, feed_paren, sorted_by, feed_sort, feed_close}
+use Rattle.rs_text.proofs.Naming.{among, not_among, place_of_new, place_stays, grown_append, grown_among, absent_by}
+use Rattle.rs_text.proofs.Basics.{both, or_first}
 use Rattle.rs_derivations.specs.declared.reading.Mode.{Mode}
 use Rattle.rs_derivations.specs.declared.reading.Mode.TheVariants as mode
 use Rattle.rs_derivations.specs.Cuts.{ActCut, behind_peer, behind_mark, behind_label, behind_paren, behind_sort, NodeCut, at_number, at_colon, at_state, at_acts, at_act, in_act, behind_act, at_above, at_rank_word, at_rank, at_next_word, at_nexts, at_next, behind_next, Cut, at_begin, at_role, at_bound_word, at_bound, at_brace, in_nodes, at_end, wanted_of, node_wanted, act_wanted, next_wanted}
 use Rattle.rs_derivations.specs.Data.{Reader_data}
-use Rattle.rs_derivations.specs.Derivations.{labels_of_acts, labels_of_node, labels_of_nodes, with_labels, role_named, label_named, act_of_kind, act_of, node_of, derivation_of, names_of}
-use Rattle.rs_derivations.specs.Faults.{number_value, fault_of_role, fault_of_label, fault_of_node, fault_of, IsInDerivation}
-use Rattle.rs_derivations.specs.Feeding.{Fed, start_of_derivation, no_node, in_mode, passes, feed_derivation_role, feed_role, feed_bound, feed_node, feed_state, feed_peer, feed_act, feed_mark, feed_label_number, feed_label, feed_pending, feed_sort_word, feed_sort, feed_close_paren, feed_behind_act, feed_above, feed_rank, feed_node_end, feed_next, feed_behind_next, feed_at, feed_of, is_read, is_colon, is_comma, is_open_brace, is_close_brace, is_open_paren, is_close_paren, is_open_bracket, is_close_bracket, is_keyword, mark_kind, is_none_of, is_some_of, is_bound}
-use Rattle.rs_derivations.specs.Trees.{ActTree, NodeTree, DerivationTree}
-use Rattle.rs_derivations.proofs.Grows.{Grown, stays, ends, closes, act_tree, node_tree, derivation_tree, acted, nexted, number_step, state_step, act_step, mark_step, label_step, sorted_step, sort_step, above_step, rank_step, next_step, act_grows, node_grows, grown_to, role_step, bound_step, grows}
-use Rattle.rs_derivations.proofs.Changes.{labels_before, labels_at, labels_in}
+use Rattle.rs_derivations.specs.Derivations.{labels_of_acts, labels_of_node, labels_of_nodes, with_labels, role_named, label_named, act_of_kind, act_of, node_of}
+use Rattle.rs_derivations.specs.Faults.{number_value, fault_of_role, fault_of_label, fault_of_node, fault_of}
+use Rattle.rs_derivations.specs.Feeding.{Fed, start_of_derivation, no_node, feed_derivation_role, feed_role, feed_bound, feed_node, feed_state, feed_peer, feed_act, feed_mark, in_message, feed_above, feed_rank, feed_next, feed_at, is_colon, is_comma, is_open_brace, is_close_brace, is_open_bracket, is_close_bracket, is_keyword, mark_kind, is_none_of, is_some_of, is_bound}
+use Rattle.rs_derivations.specs.Trees.{ActTree, NodeTree}
+use Rattle.rs_derivations.proofs.Grows.{Grown, stays, ends, closes, act_tree, node_tree, derivation_tree, acted, number_step, state_step, act_step, mark_step, label_step, sorted_step, above_step, rank_step, next_step, act_grows, grown_to, role_step, bound_step, grows}
+use Rattle.rs_derivations.proofs.Changes.{labels_at}
 
 -- ---- the reader at a place
 
@@ -61,10 +62,10 @@ draft names (behind_next s acts a r x xs) = drafted names s acts a r (x ∷ xs)
 
 abbrev act_mode : Names_data → ActCut → Mode
 act_mode names (behind_peer p) = mode.AtMark (role_named names p)
-act_mode names (behind_mark p k) = mode.AtLabel (role_named names p) k
-act_mode names (behind_label p k l) = mode.AtParen (role_named names p) k (label_named names l)
-act_mode names (behind_paren p k l) = mode.AtSort (role_named names p) k (label_named names l)
-act_mode names (behind_sort p k l q) = mode.CloseParen (role_named names p) k (label_named names l) q
+act_mode names (behind_mark p k) = mode.InMessage (role_named names p) k place.Label
+act_mode names (behind_label p k l) = mode.InMessage (role_named names p) k (place.Paren (label_named names l))
+act_mode names (behind_paren p k l) = mode.InMessage (role_named names p) k (place.Sort (label_named names l))
+act_mode names (behind_sort p k l q) = mode.InMessage (role_named names p) k (place.Close (label_named names l) q)
 
 abbrev node_mode : Names_data → NodeCut → Mode
 node_mode names at_number = mode.AtNode
@@ -166,27 +167,12 @@ closed_stands old x b ns = ap (λ z. standing (with_labels old z) x b ns no_node
 
 -- ---- a new label changes none that was there
 
-abbrev Known : List (List ℕ) → List (List ℕ) → Type 0
+abbrev pub Known : List (List ℕ) → List (List ℕ) → Type 0
 Known names xs = list_all (λ x. is_among x names) xs ≡ true
-
-and_both : (a b : Bool) → (a && b) ≡ true → (a ≡ true) × (b ≡ true)
-and_both true b h = (refl, h)
-and_both false b h = absurd (cc h)
-
-none_from : (names : List (List ℕ)) (x : List ℕ) (o : Option ℕ) → place_of x names ≡ o → is_among x names ≡ false → place_of x names ≡ None
-none_from names x None e h = e
-none_from names x (Some n) e h = absurd (cc (sym h ∙ among names x 0 n e))
-
-none_there : (names : List (List ℕ)) (x : List ℕ) → is_among x names ≡ false → place_of x names ≡ None
-none_there names x h = none_from names x (place_of x names) refl h
 
 here : (names : List (List ℕ)) (x : List ℕ) (b : Bool) → is_among x names ≡ b → is_among x (if b then names else names ++ x ∷ []) ≡ true
 here names x true e = e
-here names x false e = among (names ++ x ∷ []) x 0 (length names) (place_of_new names x (none_there names x e))
-
-or_first : (a b : Bool) → a ≡ true → (a || b) ≡ true
-or_first true b h = refl
-or_first false b h = absurd (cc h)
+here names x false e = among (names ++ x ∷ []) x 0 (length names) (place_of_new names x (absent_by (place_of x names) x names refl e))
 
 stays_among : (names xs : List (List ℕ)) (x : List ℕ) → is_among x names ≡ true → is_among x (names_with names xs) ≡ true
 stays_among names xs x h = grown_among xs names x ∙ or_first (is_among x names) (is_among x xs) h
@@ -198,8 +184,8 @@ grown_known (x ∷ xs) names =
     let a : is_among x (names_with first xs) ≡ true = stays_among first xs x (here names x (is_among x names) refl) in
     ap (λ z. z && list_all (λ y. is_among y (names_with first xs)) xs) a ∙ grown_known xs first
 
-known_parts : (names xs ys : List (List ℕ)) → Known names (xs ++ ys) → Known names xs × Known names ys
-known_parts names xs ys h = and_both (list_all (λ x. is_among x names) xs) (list_all (λ x. is_among x names) ys) (sym (list_all-append (λ x. is_among x names) xs ys) ∙ h)
+pub known_parts : (names xs ys : List (List ℕ)) → Known names (xs ++ ys) → Known names xs × Known names ys
+known_parts names xs ys h = both (list_all (λ x. is_among x names) xs) (list_all (λ x. is_among x names) ys) (sym (list_all-append (λ x. is_among x names) xs ys) ∙ h)
 
 -- names with these labels
 abbrev having : Names_data → List (List ℕ) → Names_data
@@ -215,7 +201,7 @@ label_kept old labels w x h = let f : ℕ → Label = λ n. record { 0 = n } in 
 acts_kept : (old : Names_data) (labels : List (List ℕ)) (w : List ℕ) (acts : List ActTree) → Known labels (labels_of_acts acts) → map (act_of (having old (labels ++ w ∷ []))) acts ≡ map (act_of (having old labels)) acts
 acts_kept old labels w [] h = refl
 acts_kept old labels w (a ∷ acts) h =
-    let k = and_both (is_among a.label labels) (list_all (λ x. is_among x labels) (labels_of_acts acts)) h in
+    let k = both (is_among a.label labels) (list_all (λ x. is_among x labels) (labels_of_acts acts)) h in
     ap (λ z. act_of_kind a.kind (role_named old a.peer) z (sort_or_unit a.sort) ∷ map (act_of (having old (labels ++ w ∷ []))) acts) (label_kept old labels w a.label k.0) ∙ ap (λ z. act_of (having old labels) a ∷ z) (acts_kept old labels w acts k.1)
 
 nodes_kept : (old : Names_data) (labels : List (List ℕ)) (w : List ℕ) (ns : List NodeTree) → Known labels (labels_of_nodes ns) → map (node_of (having old (labels ++ w ∷ []))) ns ≡ map (node_of (having old labels)) ns
@@ -228,7 +214,7 @@ nodes_kept old labels w (n ∷ ns) h =
 
 -- the reader behind a label, where the names have these labels
 abbrev at_label : Names_data → List ℕ → ℕ → List NodeTree → ℕ → List ActTree → List ℕ → Kind → List ℕ → List (List ℕ) → Reader_data
-at_label old x b ns s acts p k w labels = standing (having old labels) x b ns (drafted (having old labels) s acts 0 0 []) (mode.AtParen (role_named old p) k (label_named (having old labels) w))
+at_label old x b ns s acts p k w labels = standing (having old labels) x b ns (drafted (having old labels) s acts 0 0 []) (mode.InMessage (role_named old p) k (place.Paren (label_named (having old labels) w)))
 
 -- the labels with this one
 labels_then : (old : Names_data) (ns : List NodeTree) (acts : List ActTree) (w : List ℕ) → names_with old.labels (labels_of_nodes ns ++ (labels_of_acts acts ++ w ∷ [])) ≡ names_with (names_with old.labels (labels_of_nodes ns ++ labels_of_acts acts)) (w ∷ [])
@@ -240,48 +226,44 @@ old_label old ns acts w h = let labels : List (List ℕ) = names_with old.labels
 new_label : (old : Names_data) (ns : List NodeTree) (acts : List ActTree) (w : List ℕ) → is_among w (names_with old.labels (labels_of_nodes ns ++ labels_of_acts acts)) ≡ false → names_with old.labels (labels_of_nodes ns ++ (labels_of_acts acts ++ w ∷ [])) ≡ names_with old.labels (labels_of_nodes ns ++ labels_of_acts acts) ++ w ∷ []
 new_label old ns acts w h = let labels : List (List ℕ) = names_with old.labels (labels_of_nodes ns ++ labels_of_acts acts) in labels_then old ns acts w ∙ ap (λ z. if z then labels else labels ++ w ∷ []) h
 
-abbrev numbered : ℕ → Label
-numbered n = record { 0 = n }
-
 new_label_stands : (old : Names_data) (x : List ℕ) (b : ℕ) (ns : List NodeTree) (s : ℕ) (acts : List ActTree) (p : List ℕ) (k : Kind) (w : List ℕ) (labels : List (List ℕ)) → labels ≡ names_with old.labels (labels_of_nodes ns ++ labels_of_acts acts) → place_of w labels ≡ None
-    → standing (having old labels) x b ns (drafted (having old labels) s acts 0 0 []) (mode.AtParen (role_named old p) k (numbered (length labels))) ≡ record (at_label old x b ns s acts p k w (labels ++ w ∷ [])) { labels = labels }
+    → standing (having old labels) x b ns (drafted (having old labels) s acts 0 0 []) (mode.InMessage (role_named old p) k (place.Paren (label_of_number (length labels)))) ≡ record (at_label old x b ns s acts p k w (labels ++ w ∷ [])) { labels = labels }
 new_label_stands old x b ns s acts p k w labels e none =
     let known : Known labels (labels_of_nodes ns ++ labels_of_acts acts) = subst (λ (z : List (List ℕ)). Known z (labels_of_nodes ns ++ labels_of_acts acts)) (sym e) (grown_known (labels_of_nodes ns ++ labels_of_acts acts) old.labels) in
     let parts = known_parts labels (labels_of_nodes ns) (labels_of_acts acts) known in
-    let number : numbered (length labels) ≡ label_named (having old (labels ++ w ∷ [])) w = ap (λ z. numbered (number_or z)) (sym (place_of_new labels w none)) in
-    let shape : List DNode_data → List Act → Label → Reader_data = λ nodes pending l. record { roles = old.roles; labels = labels; role = role_named old x; bound = b; nodes = nodes; node = record { state = s; pending = pending; above = 0; rank = 0; next = [] }; mode = mode.AtParen (role_named old p) k l } in
-    ap (λ z. shape z (map (act_of (having old labels)) acts) (numbered (length labels))) (sym (nodes_kept old labels w ns parts.0))
-    ∙ ap (λ z. shape (map (node_of (having old (labels ++ w ∷ []))) ns) z (numbered (length labels))) (sym (acts_kept old labels w acts parts.1))
+    let number : label_of_number (length labels) ≡ label_named (having old (labels ++ w ∷ [])) w = ap (λ z. label_of_number (number_or z)) (sym (place_of_new labels w none)) in
+    let shape : List DNode_data → List Act → Label → Reader_data = λ nodes pending l. record { roles = old.roles; labels = labels; role = role_named old x; bound = b; nodes = nodes; node = record { state = s; pending = pending; above = 0; rank = 0; next = [] }; mode = mode.InMessage (role_named old p) k (place.Paren l) } in
+    ap (λ z. shape z (map (act_of (having old labels)) acts) (label_of_number (length labels))) (sym (nodes_kept old labels w ns parts.0))
+    ∙ ap (λ z. shape (map (node_of (having old (labels ++ w ∷ []))) ns) z (label_of_number (length labels))) (sym (acts_kept old labels w acts parts.1))
     ∙ ap (λ z. shape (map (node_of (having old (labels ++ w ∷ []))) ns) (map (act_of (having old (labels ++ w ∷ []))) acts) z) number
 
 label_at : (old : Names_data) (x : List ℕ) (b : ℕ) (ns : List NodeTree) (s : ℕ) (acts : List ActTree) (p : List ℕ) (k : Kind) (w : List ℕ) (labels : List (List ℕ)) → names_with old.labels (labels_of_nodes ns ++ (labels_of_acts acts ++ w ∷ [])) ≡ labels → at_label old x b ns s acts p k w labels ≡ stand old (in_nodes x b ns (in_act s acts (behind_label p k w)))
 label_at old x b ns s acts p k w labels e = ap (at_label old x b ns s acts p k w) (sym e)
 
-label_room : (old : Names_data) (x : List ℕ) (b : ℕ) (ns : List NodeTree) (s : ℕ) (acts : List ActTree) (p : List ℕ) (k : Kind) (w : List ℕ) (at : ℕ) (full : Bool) (d : Cut) (r : Reader_data) → r ≡ stand old d
-    → (if full then fault kind.TooManyLabels at else good r) ≡ told old (Some d) (if full then Some kind.TooManyLabels else None) wanted.Label at
-label_room old x b ns s acts p k w at true d r e = refl
-label_room old x b ns s acts p k w at false d r e = ap good e
+label_room : (old : Names_data) (p : Role) (k : Kind) (at : ℕ) (full : Bool) (d : Cut) (labels : List (List ℕ)) (x : MessagePlace) (r : Reader_data) → record r { labels = labels; mode = mode.InMessage p k x } ≡ stand old d
+    → in_message p k (if full then fault kind.TooManyLabels at else Ok (goes_on labels x)) r ≡ told old (Some d) (if full then Some kind.TooManyLabels else None) wanted.Label at
+label_room old p k at true d labels x r e = refl
+label_room old p k at false d labels x r e = ap good e
 
 label_told : (old : Names_data) (x : List ℕ) (b : ℕ) (ns : List NodeTree) (s : ℕ) (acts : List ActTree) (p : List ℕ) (k : Kind) (w : List ℕ) (at : ℕ) (o : Option ℕ) → place_of w (names_with old.labels (labels_of_nodes ns ++ labels_of_acts acts)) ≡ o
-    → feed_label_number o (role_named old p) k w at (stand old (in_nodes x b ns (in_act s acts (behind_mark p k)))) ≡ told old (Some (in_nodes x b ns (in_act s acts (behind_label p k w)))) (fault_of_label (names_with old.labels (labels_of_nodes ns ++ labels_of_acts acts)) (Some w)) wanted.Label at
+    → in_message (role_named old p) k (labelled_by o w at (names_with old.labels (labels_of_nodes ns ++ labels_of_acts acts))) (stand old (in_nodes x b ns (in_act s acts (behind_mark p k)))) ≡ told old (Some (in_nodes x b ns (in_act s acts (behind_label p k w)))) (fault_of_label (names_with old.labels (labels_of_nodes ns ++ labels_of_acts acts)) (Some w)) wanted.Label at
 label_told old x b ns s acts p k w at (Some n) e =
     let labels : List (List ℕ) = names_with old.labels (labels_of_nodes ns ++ labels_of_acts acts) in
     let there : is_among w labels ≡ true = among labels w 0 n e in
     let d : Cut = in_nodes x b ns (in_act s acts (behind_label p k w)) in
-    ap (λ z. good (standing (having old labels) x b ns (drafted (having old labels) s acts 0 0 []) (mode.AtParen (role_named old p) k (numbered (number_or z))))) (sym e)
+    ap (λ z. good (standing (having old labels) x b ns (drafted (having old labels) s acts 0 0 []) (mode.InMessage (role_named old p) k (place.Paren (label_of_number (number_or z)))))) (sym e)
     ∙ ap good (label_at old x b ns s acts p k w labels (old_label old ns acts w there))
     ∙ ap (λ z. told old (Some d) (if z then None else if nat_le MOST_LABELS (length labels) then Some kind.TooManyLabels else None) wanted.Label at) (sym there)
 label_told old x b ns s acts p k w at None e =
     let labels : List (List ℕ) = names_with old.labels (labels_of_nodes ns ++ labels_of_acts acts) in
     let absent : is_among w labels ≡ false = not_among labels w 0 e in
     let d : Cut = in_nodes x b ns (in_act s acts (behind_label p k w)) in
-    let r : Reader_data = standing (having old labels) x b ns (drafted (having old labels) s acts 0 0 []) (mode.AtParen (role_named old p) k (numbered (length labels))) in
-    label_room old x b ns s acts p k w at (nat_le MOST_LABELS (length labels)) d (record r { labels = labels ++ w ∷ [] })
+    label_room old (role_named old p) k at (nat_le MOST_LABELS (length labels)) d (labels ++ w ∷ []) (place.Paren (label_of_number (length labels))) (stand old (in_nodes x b ns (in_act s acts (behind_mark p k))))
     (ap (λ (z : Reader_data). record z { labels = labels ++ w ∷ [] }) (new_label_stands old x b ns s acts p k w labels refl e) ∙ label_at old x b ns s acts p k w (labels ++ w ∷ []) (new_label old ns acts w absent))
     ∙ ap (λ z. told old (Some d) (if z then None else if nat_le MOST_LABELS (length labels) then Some kind.TooManyLabels else None) wanted.Label at) (sym absent)
 
 labels_told : (old : Names_data) (x : List ℕ) (b : ℕ) (ns : List NodeTree) (s : ℕ) (acts : List ActTree) (p : List ℕ) (k : Kind) (at : ℕ) (o : Option (List ℕ))
-    → feed_label (role_named old p) k o at (stand old (in_nodes x b ns (in_act s acts (behind_mark p k)))) ≡ told old (option_map (grown_to x b ns) (label_step s acts p k o)) (fault_of_label (names_with old.labels (labels_of_nodes ns ++ labels_of_acts acts)) o) wanted.Label at
+    → in_message (role_named old p) k (feed_label wanted.Label o at (names_with old.labels (labels_of_nodes ns ++ labels_of_acts acts))) (stand old (in_nodes x b ns (in_act s acts (behind_mark p k)))) ≡ told old (option_map (grown_to x b ns) (label_step s acts p k o)) (fault_of_label (names_with old.labels (labels_of_nodes ns ++ labels_of_acts acts)) o) wanted.Label at
 labels_told old x b ns s acts p k at None = refl
 labels_told old x b ns s acts p k at (Some w) = label_told old x b ns s acts p k w at (place_of w (names_with old.labels (labels_of_nodes ns ++ labels_of_acts acts))) refl
 
@@ -292,9 +274,6 @@ role_there old w at d v (Some n) f e h r g k =
     let role : ℕ → Role = λ n. record { 0 = n } in
     g n refl ∙ ap (λ z. good (f (role (number_or z)))) (sym h) ∙ ap good e ∙ ap (λ z. told old (Some d) (if z then None else Some kind.UnknownRole) v at) (sym (among old.roles w 0 n h))
 role_there old w at d v None f e h r g k = k refl ∙ ap (λ z. told old (Some d) (if z then None else Some kind.UnknownRole) v at) (sym (not_among old.roles w 0 h))
-
-some_number : (n k : ℕ) → Some n ≡ Some k → n ≡ k
-some_number n k h = cc
 
 own_told : (old : Names_data) (at : ℕ) (o : Option (List ℕ)) → feed_role o at (stand old at_role) ≡ told old (role_step o) (fault_of_role old o) wanted.Role at
 own_told old at None = refl
@@ -359,22 +338,37 @@ mark_told : (old : Names_data) (x : List ℕ) (b : ℕ) (ns : List NodeTree) (s 
 mark_told old x b ns s acts p at None = refl
 mark_told old x b ns s acts p at (Some k) = refl
 
-sorted_told : (old : Names_data) (x : List ℕ) (b : ℕ) (ns : List NodeTree) (s : ℕ) (acts : List ActTree) (p : List ℕ) (k : Kind) (l : List ℕ) (at : ℕ) (m : Label) (o : Option Sort) → m ≡ label_named (with_labels old (labels_of_nodes ns ++ (labels_of_acts acts ++ l ∷ []))) l
-    → feed_sort_word o (role_named old p) k m at (stand old (in_nodes x b ns (in_act s acts (behind_paren p k l)))) ≡ told old (option_map (grown_to x b ns) (sorted_step s acts p k l o)) None wanted.SortOrCloseParen at
-sorted_told old x b ns s acts p k l at m None e = refl
-sorted_told old x b ns s acts p k l at m (Some q) e = ap (λ z. in_mode (mode.CloseParen (role_named old p) k z q) (stand old (in_nodes x b ns (in_act s acts (behind_paren p k l))))) e
+-- the label of the message, where it was read
+abbrev label_there : Names_data → List NodeTree → List ActTree → List ℕ → Label
+label_there old ns acts l = label_named (with_labels old (labels_of_nodes ns ++ (labels_of_acts acts ++ l ∷ []))) l
 
-sort_told : (old : Names_data) (x : List ℕ) (b : ℕ) (ns : List NodeTree) (s : ℕ) (acts : List ActTree) (p : List ℕ) (k : Kind) (l : List ℕ) (at : ℕ) (o : Option (List ℕ)) (c : Bool)
-    → feed_sort (role_named old p) k (label_named (with_labels old (labels_of_nodes ns ++ (labels_of_acts acts ++ l ∷ []))) l) o c at (stand old (in_nodes x b ns (in_act s acts (behind_paren p k l)))) ≡ told old (option_map (grown_to x b ns) (sort_step s acts p k l o c)) None wanted.SortOrCloseParen at
-sort_told old x b ns s acts p k l at (Some w) c = sorted_told old x b ns s acts p k l at (label_named (with_labels old (labels_of_nodes ns ++ (labels_of_acts acts ++ l ∷ []))) l) (sort_named w) refl
-sort_told old x b ns s acts p k l at None c = in_if old x b ns c (stays (acted s acts (act_tree p k l None))) (with_act old x b ns s (labels_of_acts acts ++ l ∷ []) acts (act_tree p k l None)) wanted.SortOrCloseParen at (acted_stands old x b ns s acts (act_tree p k l None))
+paren_told : (old : Names_data) (x : List ℕ) (b : ℕ) (ns : List NodeTree) (s : ℕ) (acts : List ActTree) (p : List ℕ) (k : Kind) (l : List ℕ) (t : Sign) (at : ℕ) → let r : Reader_data = stand old (in_nodes x b ns (in_act s acts (behind_label p k l))) in
+    in_message (role_named old p) k (feed_paren (label_there old ns acts l) t at r.labels) r ≡ told old (option_map (grown_to x b ns) (act_grows s acts (behind_label p k l) t)) None wanted.OpenParen at
+paren_told old x b ns s acts p k l open_paren at = refl
+paren_told old x b ns s acts p k l _ at = refl
+
+sorted_told : (old : Names_data) (x : List ℕ) (b : ℕ) (ns : List NodeTree) (s : ℕ) (acts : List ActTree) (p : List ℕ) (k : Kind) (l : List ℕ) (at : ℕ) (o : Option Sort) → let r : Reader_data = stand old (in_nodes x b ns (in_act s acts (behind_paren p k l))) in
+    in_message (role_named old p) k (sorted_by o (label_there old ns acts l) at r.labels) r ≡ told old (option_map (grown_to x b ns) (sorted_step s acts p k l o)) None wanted.SortOrCloseParen at
+sorted_told old x b ns s acts p k l at None = refl
+sorted_told old x b ns s acts p k l at (Some q) = refl
+
+sort_told : (old : Names_data) (x : List ℕ) (b : ℕ) (ns : List NodeTree) (s : ℕ) (acts : List ActTree) (p : List ℕ) (k : Kind) (l : List ℕ) (t : Sign) (at : ℕ) → let r : Reader_data = stand old (in_nodes x b ns (in_act s acts (behind_paren p k l))) in
+    in_message (role_named old p) k (feed_sort (label_there old ns acts l) t at r.labels) r ≡ told old (option_map (grown_to x b ns) (act_grows s acts (behind_paren p k l) t)) None wanted.SortOrCloseParen at
+sort_told old x b ns s acts p k l (plain w) at = sorted_told old x b ns s acts p k l at (sort_named w)
+sort_told old x b ns s acts p k l close_paren at = ap good (acted_stands old x b ns s acts (act_tree p k l None))
+sort_told old x b ns s acts p k l _ at = refl
+
+close_told : (old : Names_data) (x : List ℕ) (b : ℕ) (ns : List NodeTree) (s : ℕ) (acts : List ActTree) (p : List ℕ) (k : Kind) (l : List ℕ) (q : Sort) (t : Sign) (at : ℕ) → let r : Reader_data = stand old (in_nodes x b ns (in_act s acts (behind_sort p k l q))) in
+    in_message (role_named old p) k (feed_close (label_there old ns acts l) q t at r.labels) r ≡ told old (option_map (grown_to x b ns) (act_grows s acts (behind_sort p k l q) t)) None wanted.CloseParen at
+close_told old x b ns s acts p k l q close_paren at = ap good (acted_stands old x b ns s acts (act_tree p k l (Some q)))
+close_told old x b ns s acts p k l q _ at = refl
 
 act_told : (old : Names_data) (x : List ℕ) (b : ℕ) (ns : List NodeTree) (s : ℕ) (acts : List ActTree) (a : ActCut) (t : Sign) (at : ℕ) → let c : Cut = in_nodes x b ns (in_act s acts a) in feed_at (stand old c).mode t at (stand old c) ≡ told old (grows c t) (fault_of old c t) (wanted_of c) at
 act_told old x b ns s acts (behind_peer p) t at = mark_told old x b ns s acts p at (mark_kind t)
 act_told old x b ns s acts (behind_mark p k) t at = labels_told old x b ns s acts p k at (word_text t)
-act_told old x b ns s acts (behind_label p k l) t at = in_if old x b ns (is_open_paren t) (stays (in_act s acts (behind_paren p k l))) (stand old (in_nodes x b ns (in_act s acts (behind_paren p k l)))) wanted.OpenParen at refl
-act_told old x b ns s acts (behind_paren p k l) t at = sort_told old x b ns s acts p k l at (plain_text t) (is_close_paren t)
-act_told old x b ns s acts (behind_sort p k l q) t at = in_if old x b ns (is_close_paren t) (stays (acted s acts (act_tree p k l (Some q)))) (with_act old x b ns s (labels_of_acts acts ++ l ∷ []) acts (act_tree p k l (Some q))) wanted.CloseParen at (acted_stands old x b ns s acts (act_tree p k l (Some q)))
+act_told old x b ns s acts (behind_label p k l) t at = paren_told old x b ns s acts p k l t at
+act_told old x b ns s acts (behind_paren p k l) t at = sort_told old x b ns s acts p k l t at
+act_told old x b ns s acts (behind_sort p k l q) t at = close_told old x b ns s acts p k l q t at
 
 above_told : (old : Names_data) (x : List ℕ) (b : ℕ) (ns : List NodeTree) (s : ℕ) (acts : List ActTree) (at : ℕ) (o : Option ℕ) → feed_above o at (stand old (in_nodes x b ns (at_above s acts))) ≡ told old (option_map (grown_to x b ns) (above_step s acts o)) None wanted.Number at
 above_told old x b ns s acts at None = refl

@@ -1,20 +1,17 @@
 -- What is spelt can be printed.
-use Rattle.std.proofs.Common.{◌≡◌, ◌⊎◌, inl, inr, ℕ, ◌<◌, ◌≤◌, List, [], ◌∷◌, ◌++◌, length, map, Bool, true, false, ◌&&◌, ◌||◌, eqb, cond, Option, Some, None, refl, sym, ap, ◌∙◌, subst, arith}
-use Rattle.std.proofs.lemmas.Bool.{eqb-true, eq-eqb}
-use Rattle.std.proofs.lemmas.List.{map-append, length-map}
+use Rattle.std.proofs.Common.{◌≡◌, ◌⊎◌, inl, inr, ℕ, ◌<◌, ◌≤◌, List, [], ◌∷◌, length, map, Bool, true, false, ◌||◌, eqb, cond, Option, Some, None, refl, sym, ap, ◌∙◌, subst, arith}
+use Rattle.std.proofs.lemmas.Bool.{eqb-true}
+use Rattle.std.proofs.lemmas.List.{length-map}
 use Rattle.std.proofs.lemmas.List.Elements.{All-append, All-cons, All-head, All-tail}
-use Rattle.std.proofs.lemmas.List.Folds.{list_all-append}
 use Rattle.std.specs.List.{All, flat_map, list_all, list_any}
 use Rattle.std.specs.Set.{distinct_count}
 use Rattle.rs_model.specs.Data.{Names_data}
-use Rattle.rs_model.specs.declared.limits.TheConstants.{MOST_LABELS, MOST_CANDIDATES}
 use Rattle.rs_model.specs.declared.machines.Act.{Act}
 use Rattle.rs_prefix.specs.declared.earliest.Kind.TheVariants as act
-use Rattle.rs_derive.specs.Data.{Derivation_data}
 use Rattle.rs_text.specs.Names.{names_with, is_among, place_of, number_or}
-use Rattle.rs_text.proofs.Naming.{among, not_among}
+use Rattle.rs_text.proofs.Naming.{not_among}
 use Rattle.rs_text.proofs.Numbers.{place_below}
-use Rattle.rs_derivations.proofs.Standings.{grown_known as known_grown}
+use Rattle.rs_derivations.proofs.Standings.{grown_known as known_grown, Known, known_parts}
 use Rattle.std.proofs.lemmas.Map.Keys.{IsDistinct-cons}
 use Rattle.std.proofs.lemmas.Map.Steps.{length-le_from_distinct_below}
 use Rattle.std.specs.List.{IsDistinct, AllByRecursion}
@@ -23,11 +20,12 @@ use Rattle.rs_model.specs.declared.graph.Label.{Label}
 use Rattle.rs_model.specs.declared.graph.Role.{Role}
 use Rattle.rs_model.specs.declared.values.Sort.{Sort}
 use Rattle.rs_prefix.specs.declared.earliest.Kind.{Kind}
+use Rattle.rs_text.proofs.Basics.{both}
 use Rattle.rs_text.specs.Arms.{sort_or_unit}
 use Rattle.rs_derive.specs.Data.{DNode_data}
 use Rattle.rs_derivations.specs.Derivations.{act_of_kind, role_named, label_named, labels_of_acts, labels_of_node, labels_of_nodes, peers_of_acts, peers_of_node, peers_of_nodes, act_of, node_of, derivation_of, names_of}
-use Rattle.rs_derivations.specs.Printable.{peer_of, label_of, acts_of, RolesHaveNames, LabelsHaveNames, HasFewLabels, IsPrintable}
-use Rattle.rs_derivations.specs.Spells.{Fits, AreKnown, IsBound}
+use Rattle.rs_derivations.specs.Printable.{peer_of, label_of, IsPrintable}
+use Rattle.rs_derivations.specs.Spells.{Fits}
 use Rattle.rs_derivations.specs.Trees.{ActTree, NodeTree, DerivationTree}
 
 -- ---- places
@@ -39,16 +37,6 @@ below_by names x (Some n) e h = subst (λ (z : Option ℕ). number_or z < length
 -- the place of a name that is there is one
 pub below : (names : List (List ℕ)) (x : List ℕ) → is_among x names ≡ true → number_or (place_of x names) < length names
 below names x h = below_by names x (place_of x names) refl h
-
-abbrev Known : List (List ℕ) → List (List ℕ) → Type 0
-Known names xs = list_all (λ x. is_among x names) xs ≡ true
-
-and_both : (a b : Bool) → (a && b) ≡ true → (a ≡ true) × (b ≡ true)
-and_both true b h = (refl, h)
-and_both false b h = absurd (cc h)
-
-known_parts : (names xs ys : List (List ℕ)) → Known names (xs ++ ys) → Known names xs × Known names ys
-known_parts names xs ys h = and_both (list_all (λ x. is_among x names) xs) (list_all (λ x. is_among x names) ys) (sym (list_all-append (λ x. is_among x names) xs ys) ∙ h)
 
 peer_made : (k : Kind) (p : Role) (l : Label) (s : Sort) → peer_of (act_of_kind k p l s) ≡ p.0
 peer_made act.Send p l s = refl
@@ -72,13 +60,13 @@ nothing P = λ k d h. absurd (omega arith)
 peers_below : (names : Names_data) (acts : List ActTree) → Known names.roles (peers_of_acts acts) → All (λ a. peer_of a < length names.roles) (map (act_of names) acts)
 peers_below names [] h = nothing (λ a. peer_of a < length names.roles)
 peers_below names (a ∷ acts) h =
-    let k = and_both (is_among a.peer names.roles) (list_all (λ x. is_among x names.roles) (peers_of_acts acts)) h in
+    let k = both (is_among a.peer names.roles) (list_all (λ x. is_among x names.roles) (peers_of_acts acts)) h in
     All-cons (λ a. peer_of a < length names.roles) (act_of names a) (map (act_of names) acts) (subst (λ (z : ℕ). z < length names.roles) (sym (peer_is names a)) (below names.roles a.peer k.0)) (peers_below names acts k.1)
 
 labels_below : (names : Names_data) (acts : List ActTree) → Known names.labels (labels_of_acts acts) → All (λ a. label_of a < length names.labels) (map (act_of names) acts)
 labels_below names [] h = nothing (λ a. label_of a < length names.labels)
 labels_below names (a ∷ acts) h =
-    let k = and_both (is_among a.label names.labels) (list_all (λ x. is_among x names.labels) (labels_of_acts acts)) h in
+    let k = both (is_among a.label names.labels) (list_all (λ x. is_among x names.labels) (labels_of_acts acts)) h in
     All-cons (λ a. label_of a < length names.labels) (act_of names a) (map (act_of names) acts) (subst (λ (z : ℕ). z < length names.labels) (sym (label_is names a)) (below names.labels a.label k.0)) (labels_below names acts k.1)
 
 abbrev acts_in : Names_data → List NodeTree → List Act
@@ -150,7 +138,7 @@ grown_known old labels = known_grown labels old.labels
 pub printable : (old : Names_data) (t : DerivationTree) → Fits old t → IsPrintable (names_of old t) (derivation_of (names_of old t) t)
 printable old t f =
     let names : Names_data = names_of old t in
-    let k = and_both (is_among t.role old.roles) (list_all (λ x. is_among x old.roles) (peers_of_nodes t.nodes)) f.roles in
+    let k = both (is_among t.role old.roles) (list_all (λ x. is_among x old.roles) (peers_of_nodes t.nodes)) f.roles in
     let labels = all_labels names t.nodes (grown_known old (labels_of_nodes t.nodes)) in
     let few = few_below (map label_of (acts_in names t.nodes)) (length names.labels) (λ q e. label_there (acts_in names t.nodes) (length names.labels) q labels e) in
     let most = f.labels in

@@ -3,9 +3,8 @@ use Rattle.std.specs.Prelude.{◌≡◌, ℕ, List, [], ◌∷◌, ◌++◌, cod
 use Rattle.rs_model.specs.Data.{Names_data}
 use Rattle.rs_model.specs.declared.graph.Label.{Label}
 use Rattle.rs_model.specs.declared.graph.Role.{Role}
-use Rattle.rs_model.specs.declared.limits.TheConstants.{MOST_LABELS, MOST_BOUND, MOST_CANDIDATES}
+use Rattle.rs_model.specs.declared.limits.TheConstants.{MOST_BOUND, MOST_CANDIDATES}
 use Rattle.rs_model.specs.declared.values.Sort.{Sort}
-use Rattle.rs_model.specs.declared.values.Sort.TheVariants as sort
 use Rattle.rs_prefix.specs.declared.earliest.Kind.{Kind}
 use Rattle.rs_prefix.specs.declared.earliest.Kind.TheVariants as act
 use Rattle.rs_derive.specs.Data.{DNode_data, Derivation_data}
@@ -13,11 +12,13 @@ use Rattle.rs_text.specs.declared.faults.TextFault.{TextFault}
 use Rattle.rs_text.specs.declared.faults.TextKind.TheVariants as kind
 use Rattle.rs_text.specs.declared.faults.Wanted.{Wanted}
 use Rattle.rs_text.specs.declared.faults.Wanted.TheVariants as wanted
+use Rattle.rs_text.specs.declared.messages.MessagePlace.TheVariants as place
+use Rattle.rs_text.specs.Messages.{Message, goes_on, ends, feed_message}
 use Rattle.rs_text.specs.Names.{place_of}
 use Rattle.rs_text.specs.Readings.{Automaton, fault, expected, Fails}
 use Rattle.rs_text.specs.declared.reading.Stop.{Stop}
-use Rattle.rs_text.specs.Seen.{is_text, plain_text, word_text, sort_named}
-use Rattle.rs_text.specs.Signs.{Sign, bang, question, colon, comma, open_brace, close_brace, open_paren, close_paren, open_bracket, close_bracket}
+use Rattle.rs_text.specs.Seen.{is_text, plain_text}
+use Rattle.rs_text.specs.Signs.{Sign, bang, question, colon, comma, open_brace, close_brace, open_bracket, close_bracket}
 use Rattle.rs_derivations.specs.declared.reading.Mode.{Mode}
 use Rattle.rs_derivations.specs.declared.reading.Mode.TheVariants as mode
 use Rattle.rs_derivations.specs.Cuts.{node_wanted, act_wanted, next_wanted}
@@ -46,16 +47,6 @@ is_open_brace _ = false
 abbrev pub is_close_brace : Sign → Bool
 is_close_brace close_brace = true
 is_close_brace _ = false
-
--- an open parenthesis
-abbrev pub is_open_paren : Sign → Bool
-is_open_paren open_paren = true
-is_open_paren _ = false
-
--- a close parenthesis
-abbrev pub is_close_paren : Sign → Bool
-is_close_paren close_paren = true
-is_close_paren _ = false
 
 -- an open bracket
 abbrev pub is_open_bracket : Sign → Bool
@@ -151,39 +142,17 @@ feed_act None closes at r = passes (closes && is_none_of r.node.pending) (act_wa
 -- the mark of an act
 abbrev pub feed_mark : Role → Option Kind → ℕ → Reader_data → Fed
 feed_mark p None at r = expected wanted.Mark at
-feed_mark p (Some k) at r = in_mode (mode.AtLabel p k) r
-
--- the label with that number
-abbrev pub label_of_number : ℕ → Label
-label_of_number k = record { 0 = k }
-
--- the label k, or a new one
-abbrev pub feed_label_number : Option ℕ → Role → Kind → List ℕ → ℕ → Reader_data → Fed
-feed_label_number (Some k) p m word at r = in_mode (mode.AtParen p m (label_of_number k)) r
-feed_label_number None p m word at r = if nat_le MOST_LABELS (length r.labels) then fault kind.TooManyLabels at else Ok (record r { labels = r.labels ++ word ∷ []; mode = mode.AtParen p m (label_of_number (length r.labels)) })
-
--- the label of an act
-abbrev pub feed_label : Role → Kind → Option (List ℕ) → ℕ → Reader_data → Fed
-feed_label p m None at r = expected wanted.Label at
-feed_label p m (Some word) at r = feed_label_number (place_of word r.labels) p m word at r
+feed_mark p (Some k) at r = in_mode (mode.InMessage p k place.Label) r
 
 -- the act is pending
 abbrev pub feed_pending : Role → Kind → Label → Sort → Reader_data → Fed
 feed_pending p m l s r = Ok (record r { node = record r.node { pending = r.node.pending ++ act_of_kind m p l s ∷ [] }; mode = mode.BehindAct })
 
--- the sort that a word names, where it names one
-abbrev pub feed_sort_word : Option Sort → Role → Kind → Label → ℕ → Reader_data → Fed
-feed_sort_word None p m l at r = expected wanted.SortOrCloseParen at
-feed_sort_word (Some s) p m l at r = in_mode (mode.CloseParen p m l s) r
-
--- the sort of an act, or the close parenthesis where there is none
-abbrev pub feed_sort : Role → Kind → Label → Option (List ℕ) → Bool → ℕ → Reader_data → Fed
-feed_sort p m l (Some word) closes at r = feed_sort_word (sort_named word) p m l at r
-feed_sort p m l None closes at r = if closes then feed_pending p m l sort.Unit r else expected wanted.SortOrCloseParen at
-
--- the close parenthesis behind a sort
-abbrev pub feed_close_paren : Role → Kind → Label → Sort → Bool → ℕ → Reader_data → Fed
-feed_close_paren p m l s closes at r = if closes then feed_pending p m l s r else expected wanted.CloseParen at
+-- a message of an act, behind a token
+abbrev pub in_message : Role → Kind → Result Message TextFault → Reader_data → Fed
+in_message p m (Err f) r = Err f
+in_message p m (Ok (goes_on labels x)) r = Ok (record r { labels = labels; mode = mode.InMessage p m x })
+in_message p m (Ok (ends l s)) r = feed_pending p m l s r
 
 -- the comma before a further act, or the end of the acts
 abbrev pub feed_behind_act : Bool → Bool → ℕ → Reader_data → Fed
@@ -237,10 +206,7 @@ feed_at mode.AtState t at r = feed_state (number_value t) at r
 feed_at mode.AtActs t at r = passes (is_open_bracket t) wanted.OpenBracket mode.AtAct at r
 feed_at mode.AtAct t at r = feed_act (plain_text t) (is_close_bracket t) at r
 feed_at (mode.AtMark p) t at r = feed_mark p (mark_kind t) at r
-feed_at (mode.AtLabel p m) t at r = feed_label p m (word_text t) at r
-feed_at (mode.AtParen p m l) t at r = passes (is_open_paren t) wanted.OpenParen (mode.AtSort p m l) at r
-feed_at (mode.AtSort p m l) t at r = feed_sort p m l (plain_text t) (is_close_paren t) at r
-feed_at (mode.CloseParen p m l s) t at r = feed_close_paren p m l s (is_close_paren t) at r
+feed_at (mode.InMessage p m x) t at r = in_message p m (feed_message x t at r.labels) r
 feed_at m t at r = feed_rest m t at r
 
 -- .. in the mode of the reader

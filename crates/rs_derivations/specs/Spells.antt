@@ -8,7 +8,7 @@ use Rattle.rs_text.specs.Lexemes.{Lexeme, signs_of}
 use Rattle.rs_text.specs.Tokens.{AreTokens}
 use Rattle.rs_text.specs.Names.{is_among, names_with}
 use Rattle.rs_derivations.specs.Derivations.{derivation_of, labels_of_nodes, peers_of_nodes, names_of}
-use Rattle.rs_derivations.specs.Trees.{NodeTree, DerivationTree, derivation_signs}
+use Rattle.rs_derivations.specs.Trees.{DerivationTree, derivation_signs}
 
 -- the bound is from 1 to 64, and there is a node at least: so the grammar has it
 abbrev pub IsBound : ℕ → Type 0

@@ -47,7 +47,7 @@ pub fn read_derivation(
     let labels = mem::replace(&mut names.labels, Vec::new(alloc));
     let mut reader = Reader::new(alloc, names.roles.as_slice(), labels);
     let result = read(&mut reader, bytes, at);
-    names.labels = reader.labels;
+    names.labels = reader.labels.into_names();
     let derivation = Derivation {
         role: reader.role,
         bound: reader.bound,

@@ -2,20 +2,24 @@ ghost use Rattle.std.specs.Prelude.{◌≡◌, ◌≤◌, ◌++◌, ◌∷◌, [
 ghost use Rattle.std.specs.Option.{option_map};
 ghost use Rattle.rs_model.specs.declared.limits.TheConstants.{MOST_LABELS, MOST_ROLES};
 ghost use Rattle.rs_text.specs.Lexemes.{Lexeme};
+ghost use Rattle.rs_text.specs.Messages.{feed_message};
 ghost use Rattle.rs_text.specs.Names.{place_of};
 ghost use Rattle.rs_text.specs.Readings.{feed_sign};
-ghost use Rattle.rs_text.specs.Seen.{plain_text, word_text, is_text};
+ghost use Rattle.rs_text.specs.Seen.{plain_text, is_text};
 ghost use Rattle.rs_derivations.specs.Derivations.{act_of_kind};
 ghost use Rattle.rs_derivations.specs.Faults.{number_value};
-ghost use Rattle.rs_derivations.specs.Cuts as place;
+ghost use Rattle.rs_derivations.specs.Cuts as cuts;
 ghost use Rattle.rs_derivations.specs.Feeding as spec;
 ghost use Rattle.rs_derivations.specs.Feeding.{names_read};
 
 use rs_derive::DNode;
 use rs_graph::Row;
-use rs_model::{Act, Label, MOST_BOUND, MOST_CANDIDATES, MOST_LABELS, Name, Role, Sort};
+use rs_model::{Act, Label, MOST_BOUND, MOST_CANDIDATES, Name, Role, Sort};
 use rs_prefix::{Kind, Pending};
-use rs_text::{Stop, Terminal, TextKind, TextToken, Wanted, expected, fault, find, seen};
+use rs_text::{
+    MessagePlace, MessageStep, NameTable, Stop, Terminal, TextKind, TextToken, Wanted, expected,
+    fault, feed_message, find,
+};
 use std::alloc::Global;
 use std::marker::Model;
 use std::mem;
@@ -41,25 +45,11 @@ pub(crate) enum Mode {
     AtMark {
         peer: Role,
     },
-    AtLabel {
+    /// Within the message of an act.
+    InMessage {
         peer: Role,
         kind: Kind,
-    },
-    AtParen {
-        peer: Role,
-        kind: Kind,
-        label: Label,
-    },
-    AtSort {
-        peer: Role,
-        kind: Kind,
-        label: Label,
-    },
-    CloseParen {
-        peer: Role,
-        kind: Kind,
-        label: Label,
-        sort: Sort,
+        place: MessagePlace,
     },
     BehindAct,
     AtAbove,
@@ -82,7 +72,7 @@ pub(crate) enum Mode {
 pub(crate) struct Reader<'a> {
     alloc: Global,
     roles: &'a [Name],
-    pub labels: Vec<Name>,
+    pub labels: NameTable,
     pub role: Role,
     pub bound: u8,
     pub nodes: Vec<DNode>,
@@ -97,9 +87,9 @@ impl<'a> Model for Reader<'a> {
 
     ghost Value = { Reader_data };
 
-    ghost view = { λ r. record { roles = r.roles.now; labels = r.labels.items; role = r.role; bound = r.bound; nodes = r.nodes.items; node = r.node; mode = r.mode } };
+    ghost view = { λ r. record { roles = r.roles.now; labels = r.labels; role = r.role; bound = r.bound; nodes = r.nodes.items; node = r.node; mode = r.mode } };
 
-    ghost invariant = { λ r. (length r.roles.now ≤ MOST_ROLES) × (length r.labels.items ≤ MOST_LABELS) };
+    ghost invariant = { λ r. (length r.roles.now ≤ MOST_ROLES) × (length r.labels ≤ MOST_LABELS) };
 }
 
 fn no_node(alloc: Global) -> DNode
@@ -132,17 +122,6 @@ fn role_named(roles: &[Name], word: &[u8]) -> Option<Role>
 {
     let place = find(roles, word)?;
     Some(Role(place as u8))
-}
-
-/// The label with this name.
-#[tactic(auto, using(rs_text::proofs::Numbers::place_below))]
-fn label_named(labels: &[Name], word: &[u8]) -> Option<Label>
-    requires { length labels.now ≤ MOST_LABELS }
-    ensures some { IfSome result (λ label. place_of word.now labels.now ≡ Some label.0) }
-    ensures none { IfNone result (place_of word.now labels.now ≡ None) }
-{
-    let place = find(labels, word)?;
-    Some(Label(place as u16))
 }
 
 /// The value of a number.
@@ -200,24 +179,6 @@ fn is_close_brace(token: &TextToken) -> bool
     }
 }
 
-fn is_open_paren(token: &TextToken) -> bool
-    ensures { result ≡ spec.is_open_paren token.now.sign }
-{
-    match token.terminal() {
-        Terminal::OpenParen => true,
-        _ => false,
-    }
-}
-
-fn is_close_paren(token: &TextToken) -> bool
-    ensures { result ≡ spec.is_close_paren token.now.sign }
-{
-    match token.terminal() {
-        Terminal::CloseParen => true,
-        _ => false,
-    }
-}
-
 fn is_open_bracket(token: &TextToken) -> bool
     ensures { result ≡ spec.is_open_bracket token.now.sign }
 {
@@ -255,7 +216,7 @@ fn is_bound(number: u32) -> bool
 
 /// What is wanted for a further node.
 fn node_wanted(nodes: &[DNode]) -> Wanted
-    ensures { result ≡ place.node_wanted nodes.now }
+    ensures { result ≡ cuts.node_wanted nodes.now }
 {
     match nodes {
         [] => Wanted::Node,
@@ -264,7 +225,7 @@ fn node_wanted(nodes: &[DNode]) -> Wanted
 }
 
 fn act_wanted(acts: &[Act]) -> Wanted
-    ensures { result ≡ place.act_wanted acts.now }
+    ensures { result ≡ cuts.act_wanted acts.now }
 {
     match acts {
         [] => Wanted::ActOrCloseBracket,
@@ -273,7 +234,7 @@ fn act_wanted(acts: &[Act]) -> Wanted
 }
 
 fn next_wanted(numbers: &[u32]) -> Wanted
-    ensures { result ≡ place.next_wanted numbers.now }
+    ensures { result ≡ cuts.next_wanted numbers.now }
 {
     match numbers {
         [] => Wanted::NumberOrCloseBracket,
@@ -318,7 +279,7 @@ impl<'a> Reader<'a> {
         Reader {
             alloc,
             roles,
-            labels,
+            labels: NameTable::new(alloc, labels),
             role: Role(0),
             bound: 0,
             nodes: Vec::new(alloc),
@@ -434,84 +395,30 @@ impl<'a> Reader<'a> {
         let Some(kind) = kind else {
             return expected(Wanted::Mark, at);
         };
-        self.mode = Mode::AtLabel { peer, kind };
-        Ok(())
-    }
-
-    fn label(&mut self, peer: Role, kind: Kind, token: &TextToken) -> Result<(), Stop>
-        ensures { spec.Feeds result (spec.feed_label peer kind (word_text token.now.sign) token.now.from self.old) self.old self.new }
-    {
-        let Some(word) = token.word() else {
-            return expected(Wanted::Label, token.from());
-        };
-        let label = label_named(self.labels.as_slice(), word);
-        self.labelled_by(label, peer, kind, word, token.from())
-    }
-
-    fn labelled_by(
-        &mut self,
-        label: Option<Label>,
-        peer: Role,
-        kind: Kind,
-        word: &[u8],
-        at: usize,
-    ) -> Result<(), Stop>
-        ensures { spec.Feeds result (spec.feed_label_number (option_map (λ label. label.0) label) peer kind word.now at self.old) self.old self.new }
-    {
-        let Some(label) = label else {
-            return self.new_label(peer, kind, word, at);
-        };
-        self.mode = Mode::AtParen { peer, kind, label };
-        Ok(())
-    }
-
-    fn new_label(&mut self, peer: Role, kind: Kind, word: &[u8], at: usize) -> Result<(), Stop>
-        ensures { spec.Feeds result (spec.feed_label_number None peer kind word.now at self.old) self.old self.new }
-    {
-        let place = self.labels.len();
-        if place >= MOST_LABELS {
-            return fault(TextKind::TooManyLabels, at);
-        }
-        let name = Name::of(self.alloc, word)?;
-        self.labels.push(name)?;
-        let label = Label(place as u16);
-        self.mode = Mode::AtParen { peer, kind, label };
-        Ok(())
-    }
-
-    fn sort(&mut self, peer: Role, kind: Kind, label: Label, token: &TextToken) -> Result<(), Stop>
-        ensures { spec.Feeds result (spec.feed_sort peer kind label (plain_text token.now.sign) (spec.is_close_paren token.now.sign) token.now.from self.old) self.old self.new }
-    {
-        let Some(word) = token.plain() else {
-            if is_close_paren(token) {
-                return self.pend(peer, kind, label, Sort::Unit);
-            }
-            return expected(Wanted::SortOrCloseParen, token.from());
-        };
-        let sort = seen::sort(word);
-        self.sorted_by(sort, peer, kind, label, token.from())
-    }
-
-    fn sorted_by(
-        &mut self,
-        sort: Option<Sort>,
-        peer: Role,
-        kind: Kind,
-        label: Label,
-        at: usize,
-    ) -> Result<(), Stop>
-        ensures { spec.Feeds result (spec.feed_sort_word sort peer kind label at self.old) self.old self.new }
-    {
-        let Some(sort) = sort else {
-            return expected(Wanted::SortOrCloseParen, at);
-        };
-        self.mode = Mode::CloseParen {
+        self.mode = Mode::InMessage {
             peer,
             kind,
-            label,
-            sort,
+            place: MessagePlace::Label,
         };
         Ok(())
+    }
+
+    fn message(
+        &mut self,
+        peer: Role,
+        kind: Kind,
+        place: MessagePlace,
+        token: &TextToken,
+    ) -> Result<(), Stop>
+        ensures { spec.Feeds result (spec.in_message peer kind (feed_message place token.now.sign token.now.from self.old.labels) self.old) self.old self.new }
+    {
+        match feed_message(place, token, self.alloc, &mut self.labels)? {
+            MessageStep::GoesOn { place } => {
+                self.mode = Mode::InMessage { peer, kind, place };
+                Ok(())
+            }
+            MessageStep::Ends { label, sort } => self.pend(peer, kind, label, sort),
+        }
     }
 
     /// The act is pending.
@@ -523,24 +430,6 @@ impl<'a> Reader<'a> {
         self.node.pending.push(made(peer, kind, label, sort))?;
         self.mode = Mode::BehindAct;
         Ok(())
-    }
-
-    fn close_paren(
-        &mut self,
-        peer: Role,
-        kind: Kind,
-        label: Label,
-        sort: Sort,
-        closes: bool,
-        at: usize,
-    ) -> Result<(), Stop>
-        ensures { spec.Feeds result (spec.feed_close_paren peer kind label sort closes at self.old) self.old self.new }
-    {
-        if closes {
-            self.pend(peer, kind, label, sort)
-        } else {
-            expected(Wanted::CloseParen, at)
-        }
     }
 
     fn behind_act(&mut self, goes: bool, closes: bool, at: usize) -> Result<(), Stop>
@@ -657,23 +546,7 @@ impl<'a> Reader<'a> {
             }
             Mode::AtAct => self.act(token),
             Mode::AtMark { peer } => self.mark(peer, mark_kind(token), at),
-            Mode::AtLabel { peer, kind } => self.label(peer, kind, token),
-            Mode::AtParen { peer, kind, label } => {
-                let right = is_open_paren(token);
-                self.pass(
-                    right,
-                    Wanted::OpenParen,
-                    Mode::AtSort { peer, kind, label },
-                    at,
-                )
-            }
-            Mode::AtSort { peer, kind, label } => self.sort(peer, kind, label, token),
-            Mode::CloseParen {
-                peer,
-                kind,
-                label,
-                sort,
-            } => self.close_paren(peer, kind, label, sort, is_close_paren(token), at),
+            Mode::InMessage { peer, kind, place } => self.message(peer, kind, place, token),
             Mode::BehindAct
             | Mode::AtAbove
             | Mode::AtRankWord

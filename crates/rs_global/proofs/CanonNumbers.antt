@@ -5,7 +5,7 @@ use Rattle.std.proofs.lemmas.List.Folds.{list_any-append}
 use Rattle.std.proofs.lemmas.Slice.Eq.{bytes_eq-Decides}
 use Rattle.std.specs.Str.{bytes_eq}
 use Rattle.rs_model.specs.Data.{Names_data}
-use Rattle.rs_text.proofs.Basics.{some_is, or_first, or_cases}
+use Rattle.rs_text.proofs.Basics.{some_is, or_first, or_cases, or_end}
 use Rattle.rs_text.proofs.Gaps.{true_or_false}
 use Rattle.rs_text.proofs.Naming.{grown_among, grown_differ, place_stands, placed_by, bytes_same, at_among, among_at, place_at}
 use Rattle.rs_text.specs.Names.{number_or, names_with, is_among, place_of, differ}
@@ -39,15 +39,11 @@ same_test f all x y inj a b = elim (true_or_false (bytes_eq x y)) [
 or_same : (a b c d : Bool) → a ≡ c → b ≡ d → (a || b) ≡ (c || d)
 or_same a b c d e f = cc
 
-or_second : (a b : Bool) → b ≡ true → (a || b) ≡ true
-or_second true b h = refl
-or_second false b h = h
-
 pub among_map : (f : List ℕ → List ℕ) (all : List (List ℕ)) (x : List ℕ) (names : List (List ℕ)) → Injects f all → is_among x all ≡ true → ((y : List ℕ) → is_among y names ≡ true → is_among y all ≡ true) → is_among (f x) (map f names) ≡ is_among x names
 among_map f all x [] inj a within = refl
 among_map f all x (y ∷ names) inj a within =
     or_same (bytes_eq (f y) (f x)) (is_among (f x) (map f names)) (bytes_eq y x) (is_among x names)
-    (same_test f all y x inj (within y (or_first (bytes_eq y y) (is_among y names) (bytes_same y))) a) (among_map f all x names inj a (λ z h. within z (or_second (bytes_eq y z) (is_among z names) h)))
+    (same_test f all y x inj (within y (or_first (bytes_eq y y) (is_among y names) (bytes_same y))) a) (among_map f all x names inj a (λ z h. within z (or_end (bytes_eq y z) (is_among z names) h)))
 
 pub grown_map : (f : List ℕ → List ℕ) (all xs names : List (List ℕ)) → Injects f all → ((y : List ℕ) → is_among y names ≡ true → is_among y all ≡ true) → ((y : List ℕ) → is_among y xs ≡ true → is_among y all ≡ true) → names_with (map f names) (map f xs) ≡ map f (names_with names xs)
 grown_map f all [] names inj old new = refl
@@ -57,11 +53,11 @@ grown_map f all (x ∷ xs) names inj old new =
     let step : Bool → List (List ℕ) = λ z. names_with (if z then map f names else map f names ++ f x ∷ []) (map f xs) in
     let plain : Bool → List (List ℕ) = λ z. map f (names_with (if z then names else names ++ x ∷ []) xs) in
     elim (true_or_false (is_among x names)) [
-      | inl e ↦ ap step (test ∙ e) ∙ grown_map f all xs names inj old (λ y h. new y (or_second (bytes_eq x y) (is_among y xs) h)) ∙ ap plain (sym e)
+      | inl e ↦ ap step (test ∙ e) ∙ grown_map f all xs names inj old (λ y h. new y (or_end (bytes_eq x y) (is_among y xs) h)) ∙ ap plain (sym e)
       | inr e ↦ ap step (test ∙ e) ∙ ap (λ z. names_with z (map f xs)) (sym (map-append f names (x ∷ [])))
           ∙ grown_map f all xs (names ++ x ∷ []) inj
           (λ y h. or_cases (is_among y all ≡ true) (is_among y names) (is_among y (x ∷ [])) (sym (list_any-append (λ z. bytes_eq z y) names (x ∷ [])) ∙ h) (λ a. old y a) (λ a. or_cases (is_among y all ≡ true) (bytes_eq x y) false a (λ b. subst (λ (z : List ℕ). is_among z all ≡ true) ((bytes_eq-Decides x y).0 b) there) (λ b. absurd (cc b))))
-          (λ y h. new y (or_second (bytes_eq x y) (is_among y xs) h))
+          (λ y h. new y (or_end (bytes_eq x y) (is_among y xs) h))
           ∙ ap plain (sym e)
     ]
 

@@ -52,6 +52,11 @@ keep_all a P k (l ∷ ls) (Ok r) n h = keep_if P (a.is_read r) (Ok (record { rea
 pub kept : {R : Type 0} (a : Automaton R) (P : R → Type 0) → Keeps a P → (o : R) → P o → (bytes : List ℕ) (at : ℕ) (ls : List Lexeme) → Lexed bytes at ls → IfOk (read_all a (Ok o) ls) (KeptIn P)
 kept a P k o h bytes at ls lexed = keep_all a P k ls (Ok o) (all_named bytes ls at lexed) h
 
+-- what holds of a result holds of what it gives
+pub if_ok : {R E : Type 0} (x : Result R E) (d : R) (P : R → Type 0) → x ≡ Ok d → IfOk x P → P d
+if_ok (Ok e) d P same h = let k : e ≡ d = cc in subst P k h
+if_ok (Err e) d P same h = absurd (cc same)
+
 -- ---- offsets
 
 abbrev pub Below : ℕ → TextFault → Type 0

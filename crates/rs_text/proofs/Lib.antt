@@ -15,5 +15,6 @@ pub mod Judging
 pub mod Keeping
 pub mod Arms
 pub mod Bindings
+pub mod MessageLaws
 pub mod Comments
 pub mod PlainNames

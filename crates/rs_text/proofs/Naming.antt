@@ -106,7 +106,7 @@ absent_at [] name k h e = cc
 absent_at (x ∷ names) name zero h e = cc ((bytes_eq-Decides x name).1 (some_is x name e), or_left (bytes_eq x name) (is_among name names) h)
 absent_at (x ∷ names) name (suc k) h e = absent_at names name k (or_right (bytes_eq x name) (is_among name names) h) e
 
-none_or_some : (o : Option ℕ) → (o ≡ None) ⊎ ((k : ℕ) × (o ≡ Some k))
+pub none_or_some : (o : Option ℕ) → (o ≡ None) ⊎ ((k : ℕ) × (o ≡ Some k))
 none_or_some None = inl refl
 none_or_some (Some k) = inr (k, refl)
 

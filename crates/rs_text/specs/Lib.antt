@@ -18,4 +18,5 @@ pub mod Seen
 pub mod Terminals
 pub mod FirstFaults
 pub mod Readings
+pub mod Messages
 pub mod Writing

@@ -75,14 +75,14 @@ impl From<Fault> for Stop {
 }
 
 /// Refuses a token for this fault.
-pub fn fault(kind: TextKind, at: usize) -> Result<(), Stop>
+pub fn fault<T>(kind: TextKind, at: usize) -> Result<T, Stop>
     ensures { result ≡ Err (Stop.Fault (record { kind = kind; at = at })) }
 {
     Err(Stop::Fault(TextFault { kind, at }))
 }
 
 /// Refuses a token where something else is wanted.
-pub fn expected(wanted: Wanted, at: usize) -> Result<(), Stop>
+pub fn expected<T>(wanted: Wanted, at: usize) -> Result<T, Stop>
     ensures { result ≡ Err (Stop.Fault (record { kind = TextKind.Expected wanted; at = at })) }
 {
     fault(TextKind::Expected(wanted), at)
