@@ -2,10 +2,10 @@
 #![tactic(auto)]
 
 mod actors;
+mod arm_places;
 mod cells;
 pub mod laws;
 mod messages;
-mod places;
 mod players;
 mod playing;
 mod rows;
@@ -18,8 +18,8 @@ mod transcripts;
 mod turns;
 
 pub use actors::Actor;
+pub use arm_places::place_by_label;
 pub use messages::{Event, Message, Refused, StepFault, Stepped};
-pub use places::place_by_label;
 pub use runs::{Outcome, Run, RunFault, got_from, run_bounded, run_plain, sent_to};
 pub use seeded::SeededActor;
 pub use steps::Core;

@@ -6,7 +6,7 @@ ghost use Rattle.rs_core.specs.Configurations.{state_of};
 ghost use Rattle.rs_core.specs.Turns.{KeepsWell, NextTells, TurnTells, is_full};
 ghost use Rattle.rs_core.specs.declared.messages.StepFault.TheVariants as step_fault;
 
-use crate::places::place_by_label;
+use crate::arm_places::place_by_label;
 use crate::players::Player;
 use crate::{Actor, Core, Entry, Event, StepFault, Stepped};
 use rs_model::{Arm, Label, NoMemory, Role, State, Value};

@@ -26,7 +26,7 @@ pub fn stores_are_events()
     ensures loaded_head { (key : Key) (s t : State (Option Parcel) View) (c : Configuration) (p q : ℕ) → RingsShow key s → RingsShow key t → Shown key s c → IsPair key.roles p q → LoadsHeadOf key s t p q → Shown key t c }
     ensures loaded_tail { (key : Key) (s t : State (Option Parcel) View) (c : Configuration) (p q : ℕ) → RingsShow key s → RingsShow key t → Shown key s c → IsPair key.roles p q → LoadsTailOf key s t p q → Shown key t c }
     ensures split { (key : Key) (s t : State (Option Parcel) View) (c : Configuration) (r : ℕ) → RingsShow key s → RingsShow key t → Shown key s c → SplitsOff s t r → Shown key t c }
-    ensures joint_view { (key : Key) (s t : State (Option Parcel) View) (c : Configuration) → RingsShow key s → RingsShow key t → Shown key s c → JoinsIn s t → Shown key t c }
+    ensures joined { (key : Key) (s t : State (Option Parcel) View) (c : Configuration) → RingsShow key s → RingsShow key t → Shown key s c → JoinsIn s t → Shown key t c }
 {}
 
 /// The first pass speaks for all roles. Each stands in its machine's start state and has done nothing.

@@ -35,7 +35,7 @@ pub fn survivors_are_some()
     ensures start { (sub above : Machine_data) (bound : ℕ) → IsCandidate sub above bound (start_spot sub above) }
     ensures short { (sub above : Machine_data) (bound : ℕ) (p : Spot) → IsCandidate sub above bound p → length p.pending ≤ bound }
     ensures canonical { (sub above : Machine_data) (bound : ℕ) (d : Derivation_data) → HasCanonicalNodes sub above bound d → Survives sub above bound (start_spot sub above) }
-    ensures ended_machine { (bound : ℕ) → Survives ended_machine ended_machine bound (start_spot ended_machine ended_machine) }
+    ensures ended { (bound : ℕ) → Survives ended_machine ended_machine bound (start_spot ended_machine ended_machine) }
     ensures stuck { (bound : ℕ) → Survives ended_machine waiting bound (start_spot ended_machine waiting) → ⊥ }
 {}
 

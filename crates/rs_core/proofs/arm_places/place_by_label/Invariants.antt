@@ -1,6 +1,6 @@
 use Rattle.std.proofs.Common.{◌≡◌, ◌≢◌, ◌<◌, ◌^◌, ℕ, Some, slice_get}
 use Rattle.rs_model.specs.declared.graph.Arm.{Arm}
-use Rattle.rs_core.proofs.places.place_by_label.Given as goal
+use Rattle.rs_core.proofs.arm_places.place_by_label.Given as goal
 
 abbrev pub invariant-loop-place : goal.invariant-loop-place
 invariant-loop-place l = record {

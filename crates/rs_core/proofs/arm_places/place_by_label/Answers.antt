@@ -2,7 +2,7 @@ use Rattle.std.proofs.Common.{◌≡◌, ◌≢◌, ◌∙◌, ◌<◌, ◌+◌,
 use Rattle.std.proofs.lemmas.Option.{get_or_from_slice_get, slice_get_within}
 use Rattle.rs_model.specs.declared.graph.Arm.{Arm}
 use Rattle.rs_core.proofs.Places.{few-labels, labelled}
-use Rattle.rs_core.proofs.places.place_by_label.Goals as goal
+use Rattle.rs_core.proofs.arm_places.place_by_label.Goals as goal
 use borrow.Author.Count.{below_more}
 
 pub loop-place-preserved : goal.loop-place-preserved
