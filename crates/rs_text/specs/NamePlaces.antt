@@ -1,7 +1,5 @@
 -- Believed: what readers, printers and laws say of names and their places.
-use Rattle.std.specs.Prelude.{◌≡◌, ◌≢◌, ◌<◌, slice_get, ℕ, List, [], ◌∷◌, Option, Some, None, if◌then◌else◌}
-use Rattle.std.specs.Str.{bytes_eq}
-use Rattle.rs_text.specs.Names.{Bound}
+use Rattle.std.specs.Prelude.{◌≡◌, ◌≢◌, ◌<◌, slice_get, ℕ, List, [], Option, Some, None}
 
 -- the name stands at the place and at none before it
 pub record StandsFirst (name : List ℕ) (names : List (List ℕ)) (place : ℕ) : Type 0 where
@@ -12,11 +10,6 @@ pub record StandsFirst (name : List ℕ) (names : List (List ℕ)) (place : ℕ)
 abbrev pub text_or_none : Option (List ℕ) → List ℕ
 text_or_none None = []
 text_or_none (Some text) = text
-
--- the last number that a name is bound to, by bindings in order
-abbrev pub last_bound : List ℕ → Bound → Option ℕ → Option ℕ
-last_bound name [] found = found
-last_bound name (b ∷ bs) found = last_bound name bs (if bytes_eq b.0 name then Some b.1 else found)
 
 -- the name at a place, or nothing
 abbrev pub name_at : List (List ℕ) → ℕ → List ℕ

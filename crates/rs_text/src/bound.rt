@@ -19,17 +19,18 @@ impl<'a> Model for Binding<'a> {
 }
 
 /// The number that the name is bound to by the nearest of the bindings, which is the last one.
-#[tactic(auto, using(crate::proofs::Bindings::nearest))]
 pub fn bound_number(bindings: &[Binding], name: &[u8]) -> Option<u32>
     ensures { result ≡ nearest_binding name.now (reverse bindings.now) }
 {
-    let mut number = None;
-    for binding in bindings {
+    let mut left = bindings.len();
+    while left > 0 {
+        left -= 1;
+        let binding = &bindings[left];
         if binding.name == name {
-            number = Some(binding.number);
+            return Some(binding.number);
         }
     }
-    number
+    None
 }
 
 /// Lets go of all bindings but the first ones, as many as `left` says.
