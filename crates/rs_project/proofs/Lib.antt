@@ -6,6 +6,7 @@ pub mod Walks
 pub mod Surveys
 pub mod Cycles
 pub mod Peels
+pub mod Runs
 pub mod Lone
 pub mod Routes
 pub mod Merged

@@ -138,6 +138,21 @@ fn projections(rt: HostRuntime) -> Result<(), Fail> {
     Ok(())
 }
 
+// A run of talks between others, of which one offers a choice that changes nothing, and talks of role 2 with arms that lead
+// back into it at each place.
+const BACK_INTO_A_RUN: &str =
+    "0>1:0u1 0>1:0u2,1u3 0>1:0u4 1>0:0u4 0>2:0u0,1u1,2u2,3u3,4u5 0>2:0u0,1u2,2u6 end";
+
+#[test]
+fn back_into_a_run(rt: HostRuntime) -> Result<(), Fail> {
+    let alloc = rt.alloc();
+    let protocol = protocol(alloc, BACK_INTO_A_RUN)?;
+    let found = projected(alloc, &protocol, 2)?;
+    let states = "0?0u0,1u0,2u0,3u0,4u1 0?0u0,1u0,2u2 end";
+    assert!(rt; is_projection(alloc, &found, 2, states, "4 5 -")?);
+    Ok(())
+}
+
 #[test]
 fn refusals(rt: HostRuntime) -> Result<(), Fail> {
     let alloc = rt.alloc();

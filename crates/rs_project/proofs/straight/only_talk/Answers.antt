@@ -1,7 +1,8 @@
-use Rattle.std.proofs.Common.{subst, rules, arith, ◌<◌, length, ap}
-use Rattle.rs_project.specs.Marks.{IsTrueSurvey, IsOn, Survey_data}
-use Rattle.rs_project.proofs.Lists.{read-via}
-use Rattle.rs_project.proofs.Lone.{flag-at, meets-only, next-fits, stands-on}
+use Rattle.std.proofs.Common.{◌≡◌, subst, arith, ◌<◌, ℕ, length, get_or, ap}
+use Rattle.rs_project.specs.Marks.{IsTrueSurvey, IsOn, StandsFor, Survey_data}
+use Rattle.rs_project.proofs.Lists.{at-read, read-via}
+use Rattle.rs_project.proofs.Lone.{flag-at, meets-only}
+use Rattle.rs_project.proofs.Runs.{stands-via}
 use Rattle.rs_project.proofs.straight.only_talk.Goals as goal
 
 pub returns-then-index : goal.returns-then-index
@@ -12,10 +13,13 @@ returns-then-index c =
 
 pub loop-preserved : goal.loop-preserved
 loop-preserved c =
-    let w : c.loop.node < length c.args.survey.now.passing = (let i = c.loop.invariant.within in let s = (subst IsTrueSurvey c.survey.view_is c.survey.invariant).survey.passing_size in omega arith) in
-    let on : IsOn c.args.survey.now.passing c.loop.node = flag-at c.survey.inside.passing.items c.args.survey.now.passing c.loop.node c.index-in-loop.result.now _ (ap (λ (z : Survey_data). z.passing) c.survey.view_is) w c.index-in-loop.ensures c.if-not-index.false in
-    let at = read-via c.args.survey.now.protocol.nodes c.protocol.inside.nodes.items c.loop.node c.index-in-loop-2.result.now (search rules) c.loop.invariant.within c.index-in-loop-2.ensures in
+    let runs = (subst IsTrueSurvey c.survey.view_is c.survey.invariant).runs in
+    let ends = c.args.survey.now.run_ends in
+    let w : c.loop.node < length ends = (let i = c.loop.invariant.within in let s = runs.size in omega arith) in
+    let e : get_or ends c.loop.node 0 ≡ c.index-end.result.now = at-read ends c.loop.node c.index-end.result.now 0 (read-via ends c.survey.inside.run_ends.items c.loop.node c.index-end.result.now (ap (λ (z : Survey_data). z.run_ends) c.survey.view_is) w c.index-end.ensures) in
+    let P : ℕ → Type 0 = λ z. z < length c.args.survey.now.protocol.nodes in
+    let Q : ℕ → Type 0 = λ z. StandsFor c.args.survey.now.protocol c.args.survey.now.role c.loop.node z in
     record {
-      within = next-fits c.args.survey.now.protocol c.loop.node c.in_ok-node.node c.index-in-loop-2.result.now (subst IsTrueSurvey c.survey.view_is c.survey.invariant).well_formed at c.in_ok-node.ensures;
-      stands = stands-on c.args.survey.now.protocol c.args.survey.now.role c.args.start c.loop.node c.in_ok-node.node c.index-in-loop-2.result.now (((subst IsTrueSurvey c.survey.view_is c.survey.invariant).survey.passing c.loop.node).0 on) at c.in_ok-node.ensures c.loop.invariant.stands;
+      within = subst P e (runs.within c.loop.node c.loop.invariant.within);
+      stands = stands-via c.args.survey.now.protocol c.args.survey.now.role c.args.start c.loop.node c.index-end.result.now c.loop.invariant.stands (subst Q e (runs.stands c.loop.node c.loop.invariant.within));
     }
