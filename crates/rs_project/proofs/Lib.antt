@@ -19,6 +19,7 @@ pub mod Buckets
 pub mod Singles
 pub mod Behind
 pub mod Steps
+pub mod Found
 pub mod Lockstep
 pub mod OneAnswer
 pub mod OneProjection

@@ -1,6 +1,5 @@
 -- What a role meets along talks with one arm.
-use Rattle.std.proofs.Common.{◌≡◌, inl, inr, ℕ, ◌<◌, ◌≤◌, Bool, false, List, [], ◌∷◌, length, get_or, Result, Ok, Err, refl, sym, ◌∙◌, subst, arith}
-use Rattle.std.specs.Prelude.{IfOk}
+use Rattle.std.proofs.Common.{◌≡◌, inl, inr, ℕ, ◌<◌, Bool, false, List, [], ◌∷◌, length, get_or, refl, sym, ◌∙◌, subst, arith}
 use Rattle.std.proofs.lemmas.List.{get_or_default}
 use Rattle.rs_model.specs.Data.{Protocol_data}
 use Rattle.rs_model.specs.declared.graph.Role.{Role}
@@ -57,17 +56,7 @@ lone-front pr role starts start talk f es ef only = rw (es, ef) record {
       | inr bad ↦ bad
     ]
 
-pub lone-result : {E : Type 0} (pr : Protocol_data) (role : Role) (starts : List ℕ) (start talk : ℕ) (r : Result Front_data E) → starts ≡ start ∷ [] → MeetsOnly pr role start talk → IfOk r (λ f. f ≡ lone_front talk)
-    → IfOk r (λ f. IsFront f (StartMeets pr role starts) (StartEnds pr role starts))
-lone-result pr role starts start talk (Ok f) es only is = lone-front pr role starts start talk f es is only
-lone-result pr role starts start talk (Err e) es only is = tt
-
 -- ---- what is read of the survey
 
 pub flag-at : (items flags : List Bool) (n : ℕ) (r b : Bool) → items ≡ flags → n < length flags → r ≡ get_or items n r → r ≡ b → get_or flags n false ≡ b
 flag-at items flags n r b e h is rb = let P : List Bool → Type 0 = λ z. r ≡ get_or z n r in sym (subst P e is ∙ get_or_default flags n r false h) ∙ rb
-
-pub one-start : (starts : List ℕ) (d : ℕ) → 1 ≤ length starts → length starts < 2 → starts ≡ get_or starts 0 d ∷ []
-one-start [] d some few = absurd (omega (arith, some))
-one-start (x ∷ []) d some few = refl
-one-start (x ∷ (y ∷ xs)) d some few = absurd (omega (arith, few))

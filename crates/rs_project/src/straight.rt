@@ -2,7 +2,7 @@ ghost use Rattle.std.specs.Prelude.{◌≡◌, ◌<◌, length, IfOk, IfSome};
 ghost use Rattle.std.specs.List.{All};
 ghost use Rattle.rs_project.specs.Filing.{lone_front};
 ghost use Rattle.rs_project.specs.Working.{IsFrontFrom};
-ghost use Rattle.rs_project.specs.Marks.{MeetsOnly};
+ghost use Rattle.rs_project.specs.Marks.{MeetsOnly, StandsFor};
 
 use crate::fronts::{Front, in_order};
 use crate::surveying::Survey;
@@ -12,21 +12,31 @@ use std::alloc::Global;
 // From more nodes than these marks lead to the talks at less cost.
 const FEW: usize = 4;
 
-/// The one talk that the role meets from a node, where a run leads to it.
-pub fn only_talk(survey: &Survey, start: u32) -> Option<u32>
+/// Where the run that begins at the node ends: a node from which the role meets the same.
+pub fn run_end(survey: &Survey, start: u32) -> u32
     requires start { start < length survey.now.protocol.nodes }
-    ensures { IfSome result (λ talk. MeetsOnly survey.now.protocol survey.now.role start talk) }
+    ensures within { result < length survey.now.protocol.nodes }
+    ensures stands { StandsFor survey.now.protocol survey.now.role start result }
 {
     let mut node = start;
     for _ in 0..survey.run_ends.len() {
-        if survey.involved[node as usize] {
-            return Some(node);
-        }
         let end = survey.run_ends[node as usize];
         if end == node {
-            return None;
+            return node;
         }
         node = end;
+    }
+    node
+}
+
+// The one talk that the role meets from a node, where a run leads to it.
+fn only_talk(survey: &Survey, start: u32) -> Option<u32>
+    requires start { start < length survey.now.protocol.nodes }
+    ensures { IfSome result (λ talk. MeetsOnly survey.now.protocol survey.now.role start talk) }
+{
+    let end = run_end(survey, start);
+    if survey.involved[end as usize] {
+        return Some(end);
     }
     None
 }

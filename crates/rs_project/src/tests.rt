@@ -143,13 +143,30 @@ fn projections(rt: HostRuntime) -> Result<(), Fail> {
 const BACK_INTO_A_RUN: &str =
     "0>1:0u1 0>1:0u2,1u3 0>1:0u4 1>0:0u4 0>2:0u0,1u1,2u2,3u3,4u5 0>2:0u0,1u2,2u6 end";
 
+// .. into one that ends at a choice of others, behind which role 2 meets one of two talks.
+const BACK_BEFORE_A_CHOICE: &str =
+    "0>1:0u1 0>1:0u2,1u3 0>2:0u4 0>2:1u5 0>2:0u0,1u1,2u6 0>2:0u1,1u6 end";
+
 #[test]
-fn back_into_a_run(rt: HostRuntime) -> Result<(), Fail> {
+fn back_into_runs(rt: HostRuntime) -> Result<(), Fail> {
     let alloc = rt.alloc();
-    let protocol = protocol(alloc, BACK_INTO_A_RUN)?;
-    let found = projected(alloc, &protocol, 2)?;
-    let states = "0?0u0,1u0,2u0,3u0,4u1 0?0u0,1u0,2u2 end";
-    assert!(rt; is_projection(alloc, &found, 2, states, "4 5 -")?);
+    let table = [
+        (
+            BACK_INTO_A_RUN,
+            "0?0u0,1u0,2u0,3u0,4u1 0?0u0,1u0,2u2 end",
+            "4 5 -",
+        ),
+        (
+            BACK_BEFORE_A_CHOICE,
+            "0?0u1,1u2 0?0u0,1u0,2u3 0?0u0,1u3 end",
+            "2+3 4 5 -",
+        ),
+    ];
+    for (signs, states, sets) in table {
+        let protocol = protocol(alloc, signs)?;
+        let found = projected(alloc, &protocol, 2)?;
+        assert!(rt; is_projection(alloc, &found, 2, states, sets)?);
+    }
     Ok(())
 }
 

@@ -1,25 +1,11 @@
-use Rattle.std.proofs.Common.{◌≡◌, subst, arith, ◌<◌, ℕ, length, get_or, ap}
-use Rattle.rs_project.specs.Marks.{IsTrueSurvey, IsOn, StandsFor, Survey_data}
-use Rattle.rs_project.proofs.Lists.{at-read, read-via}
+use Rattle.std.proofs.Common.{subst, arith, ◌<◌, length, ap}
+use Rattle.rs_project.specs.Marks.{IsTrueSurvey, IsOn, Survey_data}
 use Rattle.rs_project.proofs.Lone.{flag-at, meets-only}
-use Rattle.rs_project.proofs.Runs.{stands-via}
 use Rattle.rs_project.proofs.straight.only_talk.Goals as goal
 
 pub returns-then-index : goal.returns-then-index
 returns-then-index c =
-    let w : c.loop.node < length c.args.survey.now.involved = (let i = c.loop.invariant.within in let s = (subst IsTrueSurvey c.survey.view_is c.survey.invariant).survey.involved_size in omega arith) in
-    let on : IsOn c.args.survey.now.involved c.loop.node = flag-at c.survey.inside.involved.items c.args.survey.now.involved c.loop.node c.index.result.now _ (ap (λ (z : Survey_data). z.involved) c.survey.view_is) w c.index.ensures c.if-index.true in
-    meets-only c.args.survey.now.protocol c.args.survey.now.role c.args.start c.loop.node (((subst IsTrueSurvey c.survey.view_is c.survey.invariant).survey.involved c.loop.node).0 on) c.loop.invariant.stands
-
-pub loop-preserved : goal.loop-preserved
-loop-preserved c =
-    let runs = (subst IsTrueSurvey c.survey.view_is c.survey.invariant).runs in
-    let ends = c.args.survey.now.run_ends in
-    let w : c.loop.node < length ends = (let i = c.loop.invariant.within in let s = runs.size in omega arith) in
-    let e : get_or ends c.loop.node 0 ≡ c.index-end.result.now = at-read ends c.loop.node c.index-end.result.now 0 (read-via ends c.survey.inside.run_ends.items c.loop.node c.index-end.result.now (ap (λ (z : Survey_data). z.run_ends) c.survey.view_is) w c.index-end.ensures) in
-    let P : ℕ → Type 0 = λ z. z < length c.args.survey.now.protocol.nodes in
-    let Q : ℕ → Type 0 = λ z. StandsFor c.args.survey.now.protocol c.args.survey.now.role c.loop.node z in
-    record {
-      within = subst P e (runs.within c.loop.node c.loop.invariant.within);
-      stands = stands-via c.args.survey.now.protocol c.args.survey.now.role c.args.start c.loop.node c.index-end.result.now c.loop.invariant.stands (subst Q e (runs.stands c.loop.node c.loop.invariant.within));
-    }
+    let end = c.run_end-end.result in
+    let w : end < length c.args.survey.now.involved = (let i = c.run_end-end.ensures.within in let s = (subst IsTrueSurvey c.survey.view_is c.survey.invariant).survey.involved_size in omega arith) in
+    let on : IsOn c.args.survey.now.involved end = flag-at c.survey.inside.involved.items c.args.survey.now.involved end c.index.result.now _ (ap (λ (z : Survey_data). z.involved) c.survey.view_is) w c.index.ensures c.if-index.true in
+    meets-only c.args.survey.now.protocol c.args.survey.now.role c.args.start end (((subst IsTrueSurvey c.survey.view_is c.survey.invariant).survey.involved end).0 on) c.run_end-end.ensures.stands
