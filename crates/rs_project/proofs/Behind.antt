@@ -14,14 +14,14 @@ use Rattle.rs_wellformed.specs.WellFormed.{IsWellFormed}
 use Rattle.rs_project.specs.Data.{Front_data}
 use Rattle.rs_project.specs.Graph.{Involves}
 use Rattle.rs_project.specs.Marks.{Among, StartMeets, StartEnds, labelled_nexts, labelled_nexts_of}
-use Rattle.rs_project.specs.Projection.{Agree, BothSend, BothReceive, LeadsOn}
+use Rattle.rs_project.specs.Projection.{Agree, BothSend, BothReceive, LabelChoice, LeadsOn, merged_choices}
 use Rattle.rs_project.specs.Refusals.{IsFront}
 use Rattle.rs_project.specs.Working.{AddsFront, FaultFrom, FindFault, FindsFront, FindsFrom, IsFrontBehind, IsFrontFrom, NumberFault}
 use Rattle.rs_project.specs.declared.projecting.ProjFault.{ProjFault}
 use Rattle.rs_project.specs.declared.projecting.ProjFault.TheVariants.{Unmergeable, Unreached, TooManyStates, NoMemory}
 use Rattle.rs_project.proofs.Cycles.{all-by, next-within}
 use Rattle.rs_project.proofs.Lists.{contained, contains, at-short}
-use Rattle.rs_project.proofs.Numbers.{flat-from, flat-to}
+use Rattle.rs_project.proofs.Numbers.{choice-leads, flat-from, flat-to}
 
 label-same : (x y : Label) → (x.0 == y.0) ≡ true → x ≡ y
 label-same x y h = elim (eqb_tells x.0 y.0) [ inl t ↦ (let mk : ℕ → Label = λ p. record { 0 = p } in ap mk t.1) | inr t ↦ absurd (cc (h, t.0)) ]
@@ -84,6 +84,13 @@ lead-starts pr talks label next on =
 
 pub starts-within : (pr : Protocol_data) (talks : List ℕ) (label : Label) → IsWellFormed pr → All (λ s. s < length pr.nodes) (starts-of pr talks label)
 starts-within pr talks label wf = all-by (λ s. s < length pr.nodes) (starts-of pr talks label) (λ x m. (let on = starts-lead pr talks label x m in next-within pr on.talk on.place x wf on.step))
+
+-- .. and some start stands behind the label of a choice
+pub some-starts : (pr : Protocol_data) (talks starts : List ℕ) (c : LabelChoice) → starts ≡ starts-of pr talks c.label → Among (merged_choices pr talks) c → starts ≢ []
+some-starts pr talks starts c e m none =
+    let on = choice-leads pr talks c m in
+    let P : List ℕ → Type 0 = λ z. Among z on.0 in
+    subst P (sym e ∙ none) (lead-starts pr talks c.label on.0 on.1)
 
 pub front-behind : (pr : Protocol_data) (role : Role) (talks : List ℕ) (label : Label) (f : Front_data) → IsFront f (StartMeets pr role (starts-of pr talks label)) (StartEnds pr role (starts-of pr talks label))
     → IsFrontBehind pr role talks label f

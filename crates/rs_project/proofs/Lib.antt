@@ -6,6 +6,7 @@ pub mod Walks
 pub mod Surveys
 pub mod Cycles
 pub mod Peels
+pub mod Runs
 pub mod Lone
 pub mod Routes
 pub mod Merged
@@ -18,6 +19,7 @@ pub mod Buckets
 pub mod Singles
 pub mod Behind
 pub mod Steps
+pub mod Found
 pub mod Lockstep
 pub mod OneAnswer
 pub mod OneProjection

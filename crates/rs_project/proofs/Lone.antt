@@ -1,68 +1,21 @@
 -- What a role meets along talks with one arm.
-use Rattle.std.proofs.Common.{◌≡◌, inl, inr, ℕ, ◌<◌, ◌≤◌, Bool, false, List, [], ◌∷◌, length, get_or, Result, Ok, Err, slice_get, Some, refl, sym, ◌∙◌, subst, arith}
-use Rattle.std.specs.Prelude.{IfOk}
+use Rattle.std.proofs.Common.{◌≡◌, inl, inr, ℕ, ◌<◌, Bool, false, List, [], ◌∷◌, length, get_or, refl, sym, ◌∙◌, subst, arith}
 use Rattle.std.proofs.lemmas.List.{get_or_default}
-use Rattle.std.specs.List.{All}
 use Rattle.rs_model.specs.Data.{Protocol_data}
-use Rattle.rs_model.specs.declared.graph.Node.{Node}
 use Rattle.rs_model.specs.declared.graph.Role.{Role}
 use Rattle.rs_project.specs.Data.{Front_data}
 use Rattle.rs_project.specs.Filing.{lone_front}
-use Rattle.rs_project.specs.Graph.{PathStep, LeadsTo, IsPath, Involves, PassesBy, AllPassBy, MeetsFirst, MeetsTheEnd}
-use Rattle.rs_project.specs.Marks.{Among, MeetsOnly, StandsFor, StartEnds, StartMeets, nexts_of_node}
+use Rattle.rs_project.specs.Graph.{PathStep, IsPath, Involves, AllPassBy, MeetsFirst, MeetsTheEnd}
+use Rattle.rs_project.specs.Marks.{Among, MeetsOnly, StandsFor, StartEnds, StartMeets}
 use Rattle.rs_project.specs.Refusals.{IsFront}
-use Rattle.rs_wellformed.specs.WellFormed.{IsWellFormed}
-use Rattle.rs_project.proofs.Cycles.{nexts-within}
 use Rattle.rs_project.proofs.Lists.{contained, contains}
-use Rattle.rs_project.proofs.Spread.{among-leads, leads-among, step_of}
-
-pub stands-itself : (pr : Protocol_data) (role : Role) (n : ℕ) → StandsFor pr role n n
-stands-itself pr role n = record { meets = λ t. ((λ m. m), (λ m. m)); ends = λ e. e }
-
--- a step from a node with one arm leads to the node behind it
-one-next : (pr : Protocol_data) (n place next only : ℕ) (node : Node) → slice_get pr.nodes n ≡ Some node → nexts_of_node node ≡ only ∷ [] → LeadsTo pr n place next → next ≡ only
-one-next pr n place next only node is one goes =
-    let P : List ℕ → Type 0 = λ z. Among z next in
-    elim (subst P one (leads-among pr n place next node is goes)) [ inl e ↦ sym e | inr bad ↦ absurd bad ]
-
-pub stands-on : (pr : Protocol_data) (role : Role) (start n next : ℕ) (node : Node) → PassesBy pr role n → slice_get pr.nodes n ≡ Some node → nexts_of_node node ≡ next ∷ [] → StandsFor pr role start n → StandsFor pr role start next
-stands-on pr role start n next node passes is one s = record {
-  meets = λ t. ((λ m. on t ((s.meets t).0 m)), (λ m. (s.meets t).1 (back t m)));
-  ends = λ e. end-on (s.ends e);
-}
-  where
-    on : (t : ℕ) → MeetsFirst pr role n t → MeetsFirst pr role next t
-    on t m = go m.steps m.path m.earlier
-      where
-        go : (ss : List PathStep) → IsPath pr n ss t → AllPassBy pr role ss → MeetsFirst pr role next t
-        go [] path earlier = let P : ℕ → Type 0 = λ z. Involves pr role z in absurd (passes.uninvolved (subst P (sym path) m.involved))
-        go (a ∷ ss) path earlier =
-            let e : path.0 ≡ next = one-next pr n a.place path.0 next node is one path.2 in
-            let P : ℕ → Type 0 = λ z. IsPath pr z ss t in
-            record { steps = ss; path = subst P e path.3; earlier = earlier.1; involved = m.involved }
-
-    goes : (place : ℕ) × LeadsTo pr n place next
-    goes = let P : List ℕ → Type 0 = λ z. Among z next in among-leads pr n next node is (subst P (sym one) (inl refl))
-
-    back : (t : ℕ) → MeetsFirst pr role next t → MeetsFirst pr role n t
-    back t m = record { steps = step_of n goes.0 ∷ m.steps; path = (next, refl, goes.1, m.path); earlier = (passes, m.earlier); involved = m.involved }
-
-    end-on : MeetsTheEnd pr role n → MeetsTheEnd pr role next
-    end-on m = go m.steps m.path m.earlier
-      where
-        go : (ss : List PathStep) → IsPath pr n ss m.last → AllPassBy pr role ss → MeetsTheEnd pr role next
-        go [] path earlier = absurd (passes.awaited (λ talk reached i. (let P : ℕ → Type 0 = λ z. (ss : List PathStep) × IsPath pr z ss talk in m.idle talk (subst P path reached) i)))
-        go (a ∷ ss) path earlier =
-            let e : path.0 ≡ next = one-next pr n a.place path.0 next node is one path.2 in
-            let P : ℕ → Type 0 = λ z. IsPath pr z ss m.last in
-            record { steps = ss; last = m.last; path = subst P e path.3; earlier = earlier.1; idle = m.idle }
 
 -- a talk of the role is met itself
 pub meets-only : (pr : Protocol_data) (role : Role) (start n : ℕ) → Involves pr role n → StandsFor pr role start n → MeetsOnly pr role start n
 meets-only pr role start n i s = record {
   met = (s.meets n).1 (record { steps = []; path = refl; earlier = tt; involved = i });
   only = λ t m. (let k = (s.meets t).0 m in here t k.steps k.path k.earlier);
-  never = λ e. (let k = s.ends e in none k.last k.steps k.path k.earlier (λ talk reached j. k.idle talk reached j));
+  never = λ e. (let k = s.ends.0 e in none k.last k.steps k.path k.earlier (λ talk reached j. k.idle talk reached j));
 }
   where
     here : (t : ℕ) (ss : List PathStep) → IsPath pr n ss t → AllPassBy pr role ss → n ≡ t
@@ -103,20 +56,7 @@ lone-front pr role starts start talk f es ef only = rw (es, ef) record {
       | inr bad ↦ bad
     ]
 
-pub lone-result : {E : Type 0} (pr : Protocol_data) (role : Role) (starts : List ℕ) (start talk : ℕ) (r : Result Front_data E) → starts ≡ start ∷ [] → MeetsOnly pr role start talk → IfOk r (λ f. f ≡ lone_front talk)
-    → IfOk r (λ f. IsFront f (StartMeets pr role starts) (StartEnds pr role starts))
-lone-result pr role starts start talk (Ok f) es only is = lone-front pr role starts start talk f es is only
-lone-result pr role starts start talk (Err e) es only is = tt
-
 -- ---- what is read of the survey
 
 pub flag-at : (items flags : List Bool) (n : ℕ) (r b : Bool) → items ≡ flags → n < length flags → r ≡ get_or items n r → r ≡ b → get_or flags n false ≡ b
 flag-at items flags n r b e h is rb = let P : List Bool → Type 0 = λ z. r ≡ get_or z n r in sym (subst P e is ∙ get_or_default flags n r false h) ∙ rb
-
-pub next-fits : (pr : Protocol_data) (n next : ℕ) (node : Node) → IsWellFormed pr → slice_get pr.nodes n ≡ Some node → nexts_of_node node ≡ next ∷ [] → next < length pr.nodes
-next-fits pr n next node wf is one = let P : List ℕ → Type 0 = λ z. All (λ s. s < length pr.nodes) z in subst P one (nexts-within pr n node wf is) 0 0 (omega arith)
-
-pub one-start : (starts : List ℕ) (d : ℕ) → 1 ≤ length starts → length starts < 2 → starts ≡ get_or starts 0 d ∷ []
-one-start [] d some few = absurd (omega (arith, some))
-one-start (x ∷ []) d some few = refl
-one-start (x ∷ (y ∷ xs)) d some few = absurd (omega (arith, few))

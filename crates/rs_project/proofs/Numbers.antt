@@ -122,18 +122,18 @@ behind-push pr role fs talks [] (m ∷ ns) c n h at = absurd h
 behind-push pr role fs talks (d ∷ cs) [] c n h at = absurd h
 behind-push pr role fs talks (d ∷ cs) (m ∷ ns) c n h at = (h.0, behind-push pr role fs talks cs ns c n h.1 at)
 
-keeps-adds : (old new : List Front_data) (f : Front_data) (n : ℕ) → AddsFront old f new n → KeepsFronts old new
+pub keeps-adds : (old new : List Front_data) (f : Front_data) (n : ℕ) → AddsFront old f new n → KeepsFronts old new
 keeps-adds old new f n (inl p) = λ k g h. (let P : List Front_data → Type 0 = λ z. slice_get z k ≡ Some g in subst P (sym p.1) h)
 keeps-adds old new f n (inr p) = λ k g h. (let P : List Front_data → Type 0 = λ z. slice_get z k ≡ Some g in subst P (sym p.1) (at-left old (f ∷ []) k g h))
 
-stands-adds : (old new : List Front_data) (f : Front_data) (n : ℕ) → AddsFront old f new n → slice_get new n ≡ Some f
+pub stands-adds : (old new : List Front_data) (f : Front_data) (n : ℕ) → AddsFront old f new n → slice_get new n ≡ Some f
 stands-adds old new f n (inl p) = let P : List Front_data → Type 0 = λ z. slice_get z n ≡ Some f in subst P (sym p.1) p.0
 stands-adds old new f n (inr p) =
     let P : List Front_data → Type 0 = λ z. slice_get z n ≡ Some f in
     let Q : ℕ → Type 0 = λ z. slice_get (old ++ (f ∷ [])) z ≡ Some f in
     subst P (sym p.1) (subst Q (sym p.0) (at-last old f))
 
-found-adds : (pr : Protocol_data) (role : Role) (old new : List Front_data) (f : Front_data) (n : ℕ) → AreFound pr role old → ((t : ℕ) → Among f.talks t → Involves pr role t)
+pub found-adds : (pr : Protocol_data) (role : Role) (old new : List Front_data) (f : Front_data) (n : ℕ) → AreFound pr role old → ((t : ℕ) → Among f.talks t → Involves pr role t)
     → (f.talks ≡ [] → f.ends ≡ true) → AddsFront old f new n → AreFound pr role new
 found-adds pr role old new f n found right told (inl p) = let P : List Front_data → Type 0 = λ z. AreFound pr role z in subst P (sym p.1) found
 found-adds pr role old new f n found right told (inr p) =
@@ -259,7 +259,7 @@ choices-last : (arms : List Arm) (a : Arm) → map choice_of (arms ++ (a ∷ [])
 choices-last [] a = refl
 choices-last (x ∷ arms) a = ap (λ z. choice_of x ∷ z) (choices-last arms a)
 
-among-choices : (choices : List Arm) (i : ℕ) (a : Arm) → slice_get choices i ≡ Some a → Among (map choice_of choices) (choice_of a)
+pub among-choices : (choices : List Arm) (i : ℕ) (a : Arm) → slice_get choices i ≡ Some a → Among (map choice_of choices) (choice_of a)
 among-choices choices i a h = at-among (map choice_of choices) i (choice_of a) (at-map choice_of choices i a h)
 
 -- one arm more

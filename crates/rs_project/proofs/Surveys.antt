@@ -132,12 +132,12 @@ map-length : (f : Node → Bool) (nodes : List Node) → length (map f nodes) �
 map-length f [] = refl
 map-length f (x ∷ xs) = ap suc (map-length f xs)
 
-pub is-survey : (pr : Protocol_data) (role : Role) (involved awaited passing : List Bool) → involved ≡ map (λ k. involves_role role k) pr.nodes
+pub is-survey : (pr : Protocol_data) (role : Role) (involved awaited passing : List Bool) (ends : List ℕ) → involved ≡ map (λ k. involves_role role k) pr.nodes
     → length awaited ≡ length pr.nodes → length passing ≡ length involved
     → ((r : Role) → AllAwaited pr r involved → AllAwaited pr r awaited) → HasFlags involved awaited → IsSettled pr awaited
     → ((n : ℕ) → n < length involved → get_or passing n false ≡ (get_or awaited n false && not (get_or involved n false)))
-    → IsSurvey pr role record { protocol = pr; role = role; involved = involved; awaited = awaited; passing = passing }
-is-survey pr role involved awaited passing e asize psize sound has settled each = record {
+    → IsSurvey pr role record { protocol = pr; role = role; involved = involved; awaited = awaited; passing = passing; run_ends = ends }
+is-survey pr role involved awaited passing ends e asize psize sound has settled each = record {
   involved_size = isize;
   awaited_size = asize;
   passing_size = psize ∙ isize;

@@ -146,13 +146,40 @@ pub record HasUnreached (protocol : Protocol_data) (role : Role) (flags : List B
   pub size : length flags ≡ length protocol.nodes
   pub whole : (n : ℕ) → IsUnreached protocol role n → IsOn flags n
 
--- what is known of the nodes for the role: which involve the role, from which a talk of it can be reached, and which pass by it
+-- only nodes are flagged that pass by the role
+abbrev pub AllPassing : Protocol_data → Role → List Bool → Type 0
+AllPassing protocol role flags = (n : ℕ) → IsOn flags n → PassesBy protocol role n
+
+-- the role meets from node n what it meets from the other one
+pub record StandsFor (protocol : Protocol_data) (role : Role) (n other : ℕ) : Type 0 where
+  pub meets : (talk : ℕ) → MeetsFirst protocol role n talk ↔ MeetsFirst protocol role other talk
+  pub ends : MeetsTheEnd protocol role n ↔ MeetsTheEnd protocol role other
+
+-- for each node, where the run that begins there ends: a node from which the role meets the same
+pub record AreRunEnds (protocol : Protocol_data) (role : Role) (ends : List ℕ) : Type 0 where
+  pub size : length ends ≡ length protocol.nodes
+  pub within : (n : ℕ) → n < length protocol.nodes → slice_index_or ends n 0 < length protocol.nodes
+  pub stands : (n : ℕ) → n < length protocol.nodes → StandsFor protocol role n (slice_index_or ends n 0)
+
+-- the arms lead to nodes whose runs all end at that node
+abbrev pub have_end : List ℕ → ℕ → List Arm → Bool
+have_end ends end [] = true
+have_end ends end (a ∷ arms) = if slice_index_or ends a.next 0 == end then have_end ends end arms else false
+
+-- .. of a node that has arms
+abbrev pub HasEnd : List ℕ → ℕ → Node → Type 0
+HasEnd ends end Finished = ⊥
+HasEnd ends end (Talk sender receiver arms) = (arms ≢ []) × (have_end ends end arms ≡ true)
+
+-- what is known of the nodes for the role: which involve the role, from which a talk of it can be reached, which pass by
+-- it, and where the runs of these end
 pub record Survey_data : Type 0 where
   pub protocol : Protocol_data
   pub role : Role
   pub involved : List Bool
   pub awaited : List Bool
   pub passing : List Bool
+  pub run_ends : List ℕ
 
 -- the survey tells this of each node of the protocol
 pub record IsSurvey (protocol : Protocol_data) (role : Role) (survey : Survey_data) : Type 0 where
@@ -169,17 +196,13 @@ pub record IsTrueSurvey (known : Survey_data) : Type 0 where
   pub well_formed : IsWellFormed known.protocol
   pub few : length known.protocol.nodes < 2 ^ 32
   pub survey : IsSurvey known.protocol known.role known
+  pub runs : AreRunEnds known.protocol known.role known.run_ends
 
 -- the talk involves the role, and is the one that it meets first from node n; nor does it meet the end
 pub record MeetsOnly (protocol : Protocol_data) (role : Role) (n talk : ℕ) : Type 0 where
   pub met : MeetsFirst protocol role n talk
   pub only : (other : ℕ) → MeetsFirst protocol role n other → talk ≡ other
   pub never : MeetsTheEnd protocol role n → ⊥
-
--- the role meets from node n what it meets from the other one
-pub record StandsFor (protocol : Protocol_data) (role : Role) (n other : ℕ) : Type 0 where
-  pub meets : (talk : ℕ) → MeetsFirst protocol role n talk ↔ MeetsFirst protocol role other talk
-  pub ends : MeetsTheEnd protocol role n → MeetsTheEnd protocol role other
 
 -- one of the starts meets the talk first
 pub record StartMeets (protocol : Protocol_data) (role : Role) (starts : List ℕ) (talk : ℕ) : Type 0 where

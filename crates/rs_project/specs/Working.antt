@@ -1,5 +1,5 @@
 -- Steps: what the work on the states keeps, and what it comes to.
-use Rattle.std.specs.Prelude.{◌≡◌, ◌≢◌, ◌⊎◌, ℕ, ◌<◌, ◌≤◌, true, List, [], ◌∷◌, ◌++◌, map, length, Option, Some, slice_get}
+use Rattle.std.specs.Prelude.{◌≡◌, ◌≢◌, ◌⊎◌, ℕ, ◌<◌, ◌≤◌, true, List, [], ◌∷◌, ◌++◌, map, length, Option, Some, slice_get, slice_index_or, suc}
 use Rattle.std.specs.List.{Contains}
 use Rattle.rs_model.specs.declared.limits.TheConstants.{MOST_STATES}
 use Rattle.rs_model.specs.Data.{Protocol_data}
@@ -11,7 +11,7 @@ use Rattle.rs_model.specs.declared.machines.State.TheVariants.{Done, Puts, Takes
 use Rattle.rs_model.specs.Talks.{Talks}
 use Rattle.rs_project.specs.Data.{Front_data}
 use Rattle.rs_project.specs.Graph.{Involves, MeetsFirst, MeetsTheEnd}
-use Rattle.rs_project.specs.Marks.{Among, StartEnds, StartMeets}
+use Rattle.rs_project.specs.Marks.{Among, IsTrueSurvey, StartEnds, StartMeets, Survey_data}
 use Rattle.rs_project.specs.Order.{IsOnce, Numbered, Worked}
 use Rattle.rs_project.specs.Numbered.{nexts_behind}
 use Rattle.rs_project.specs.Projection.{LabelChoice, choice_of, merged_choices, MeetsBehind, EndsBehind}
@@ -95,6 +95,22 @@ pub record AreFound (protocol : Protocol_data) (role : Role) (fronts : List Fron
   pub few : length fronts ≤ MOST_STATES
   pub right : (k : ℕ) (f : Front_data) (t : ℕ) → slice_get fronts k ≡ Some f → Among f.talks t → Involves protocol role t
   pub told : (k : ℕ) (f : Front_data) → slice_get fronts k ≡ Some f → f.talks ≡ [] → f.ends ≡ true
+
+-- the search for the fronts of one projection: what is known of the protocol for the role, and the fronts that were found
+pub record Search_data : Type 0 where
+  pub survey : Survey_data
+  pub fronts : List Front_data
+
+-- a number that stands at a node, as one more than it is, is that of the front from there
+abbrev pub AreFrom : Protocol_data → Role → List Front_data → List ℕ → Type 0
+AreFrom protocol role fronts numbers = (n k : ℕ) → slice_index_or numbers n 0 ≡ suc k
+    → (front : Front_data) × (slice_get fronts k ≡ Some front) × IsFrontFrom protocol role (n ∷ []) front
+
+-- what holds of the search
+pub record IsSearch (search : Search_data) (numbers : List ℕ) : Type 0 where
+  pub known : IsTrueSurvey search.survey
+  pub found : AreFound search.survey.protocol search.survey.role search.fronts
+  pub from : AreFrom search.survey.protocol search.survey.role search.fronts numbers
 
 -- behind these choices stand the fronts with the numbers of the row, and those that weren't found before were added
 pub record Discovers (protocol : Protocol_data) (role : Role) (old : List Front_data) (talks : List ℕ) (choices : List LabelChoice) (new : List Front_data) (row : List ℕ) : Type 0 where

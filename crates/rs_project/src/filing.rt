@@ -109,8 +109,8 @@ impl Fronts {
     }
 }
 
-// What stands for the talk.
-fn number_at(numbers: &[u32], talk: u32) -> u32
+/// What stands at the node.
+pub fn number_at(numbers: &[u32], talk: u32) -> u32
     ensures { result ≡ slice_index_or numbers.now talk 0 }
 {
     match numbers.get(talk as usize) {
@@ -119,8 +119,8 @@ fn number_at(numbers: &[u32], talk: u32) -> u32
     }
 }
 
-// Makes a place for the talk.
-fn make_room(numbers: &mut Vec<u32>, talk: Option<u32>) -> Result<(), NoMemory>
+/// Makes a place for the node.
+pub fn make_room(numbers: &mut Vec<u32>, talk: Option<u32>) -> Result<(), NoMemory>
     ensures same { (n : ℕ) → slice_index_or numbers.new.items n 0 ≡ slice_index_or numbers.old.items n 0 }
     ensures room { OnOk result (IfSome talk (λ t. t < length numbers.new.items)) }
 {
@@ -135,8 +135,8 @@ fn make_room(numbers: &mut Vec<u32>, talk: Option<u32>) -> Result<(), NoMemory>
     Ok(())
 }
 
-// Notes the number for the talk.
-fn set_number(numbers: &mut Vec<u32>, talk: Option<u32>, number: u32)
+/// Notes the number at the node.
+pub fn set_number(numbers: &mut Vec<u32>, talk: Option<u32>, number: u32)
     requires { IfSome talk (λ t. t < length numbers.old.items) }
     ensures { numbers.new.items ≡ with_number talk number numbers.old.items }
 {

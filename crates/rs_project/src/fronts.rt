@@ -4,7 +4,6 @@ ghost use Rattle.rs_project.specs.Filing.{lone_front};
 ghost use Rattle.rs_project.specs.Working.{IsFrontFrom};
 
 use crate::spreading::Marks;
-use crate::straight::{lone_front, only_talk};
 use crate::surveying::Survey;
 use rs_model::NoMemory;
 use std::alloc::Global;
@@ -47,24 +46,6 @@ fn only_item(numbers: &[u32]) -> Option<u32>
 }
 
 /// What the role may meet first from one of the nodes in `starts`. It is found by marks, whatever they were before.
-pub fn front_of(
-    alloc: Global,
-    survey: &Survey,
-    marks: &mut Marks,
-    starts: &[u32],
-) -> Result<Front, NoMemory>
-    requires starts { All (λ s. s < length survey.now.protocol.nodes) starts.now }
-    ensures { IfOk result (λ f. IsFrontFrom survey.now.protocol survey.now.role starts.now f) }
-{
-    if let [start] = starts {
-        if let Some(talk) = only_talk(survey, *start) {
-            return lone_front(alloc, talk);
-        }
-    }
-    marked_front(alloc, survey, marks, starts)
-}
-
-/// .. where talks with more arms than one may lead to it.
 pub fn marked_front(
     alloc: Global,
     survey: &Survey,

@@ -12,6 +12,7 @@ mod noting;
 mod peeling;
 mod projecting;
 mod rounds;
+mod searching;
 mod spreading;
 mod straight;
 mod surveying;

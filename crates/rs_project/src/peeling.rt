@@ -3,7 +3,7 @@ ghost use Rattle.rs_model.specs.declared.graph.Role.{Role};
 ghost use Rattle.rs_project.specs.Marks.{HasUnreached, IsLeft, IsOn};
 ghost use Rattle.rs_wellformed.specs.WellFormed.{IsWellFormed};
 
-use crate::surveying::leads_to_one;
+use crate::surveying::{leads_to_one, numbers};
 use rs_model::{Arm, NoMemory, Node, Protocol};
 use std::alloc::Global;
 
@@ -137,14 +137,4 @@ fn add_before(todo: &mut Vec<u32>, edges: &Edges, number: usize) -> Result<(), N
         left = edge.next as usize;
     }
     Ok(())
-}
-
-fn numbers(alloc: Global, count: usize) -> Result<Vec<u32>, NoMemory>
-    requires { count < 2 ^ 32 }
-{
-    let mut numbers = Vec::with_capacity(alloc, count)?;
-    for number in 0..count {
-        numbers.push(number as u32)?;
-    }
-    Ok(numbers)
 }

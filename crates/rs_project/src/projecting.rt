@@ -2,20 +2,19 @@ ghost use Rattle.std.specs.Prelude.{◌≡◌, ◌⊎◌, ◌<◌, ◌≤◌, �
 ghost use Rattle.std.specs.List.{Contains};
 ghost use Rattle.rs_model.specs.declared.limits.TheConstants.{MOST_STATES};
 ghost use Rattle.rs_model.specs.WellFormed.{IsWellFormedMachine};
-ghost use Rattle.rs_project.specs.Graph.{Involves, MeetsFirst, MeetsTheEnd};
+ghost use Rattle.rs_project.specs.Graph.{Involves};
 ghost use Rattle.rs_project.specs.Marks.{Among};
 ghost use Rattle.rs_project.specs.Numbered.{IsNumberedProjection, nexts_behind, nexts_of};
 ghost use Rattle.rs_project.specs.Projection.{Agree, choice_of, merged_choices};
-ghost use Rattle.rs_project.specs.Refusals.{FirstRefusal, IsFront, NoneUnreached};
-ghost use Rattle.rs_project.specs.Working.{AreFound, ArmsFault, Discovers, HasShape, StateFault, WorksOn};
+ghost use Rattle.rs_project.specs.Refusals.{FirstRefusal, NoneUnreached};
+ghost use Rattle.rs_project.specs.Working.{HasShape, StateFault, WorksOn};
 ghost use Rattle.rs_wellformed.specs.WellFormed.{IsWellFormed};
 
 use crate::clashes::first_clash;
-use crate::filing::Fronts;
 use crate::finding::{joint_arms, lone_arms};
-use crate::fronts::{Front, front_of};
+use crate::fronts::Front;
 use crate::rounds::first_unreached;
-use crate::spreading::Marks;
+use crate::searching::Search;
 use crate::surveying::{Survey, survey_of};
 use rs_model::{Arms, Machine, NoMemory, Node, Protocol, Role, State};
 use smallvec::SmallVec;
@@ -104,33 +103,26 @@ pub fn project(alloc: Global, protocol: &Protocol, role: Role) -> Result<Project
     if let Some(node) = first_unreached(alloc, &survey)? {
         return Err(ProjFault::Unreached { role, node });
     }
-    let mut marks = Marks::new(alloc);
-    let start = front_of(alloc, &survey, &mut marks, &[protocol.root])?;
-    let projection = work(alloc, &survey, &mut marks, start)?;
+    let projection = work(alloc, &survey)?;
     Ok(projection)
 }
 
-fn work(
-    alloc: Global,
-    survey: &Survey,
-    marks: &mut Marks,
-    start: Front,
-) -> Result<Projection, ProjFault>
+fn work(alloc: Global, survey: &Survey) -> Result<Projection, ProjFault>
     requires reached { NoneUnreached survey.now.protocol survey.now.role }
-    requires start { IsFront start (MeetsFirst survey.now.protocol survey.now.role survey.now.protocol.root) (MeetsTheEnd survey.now.protocol survey.now.role survey.now.protocol.root) }
     ensures ok { IfOk result (λ p. IsNumberedProjection survey.now.protocol survey.now.role p) }
     ensures err { IfErr result (λ e. (e ≡ ProjFault.NoMemory) ⊎ FirstRefusal survey.now.protocol survey.now.role e) }
 {
+    let protocol = survey.protocol;
     let room = usual_size(&survey.involved);
-    let mut fronts = Fronts::with_room(alloc, room, survey.involved.len())?;
-    fronts.add(start)?;
+    let mut search = Search::new(alloc, survey, room)?;
+    let _first = search.find_from(alloc, protocol.root)?;
     let mut states: Vec<State> = Vec::with_capacity(alloc, room)?;
-    while states.len() < fronts.len() {
-        let state = state_of(alloc, survey, marks, states.len(), &mut fronts)?;
+    while states.len() < search.len() {
+        let state = state_of(alloc, &mut search, states.len())?;
         states.reserve(1)?;
         states.push_reserved(state);
     }
-    let sets = sets_of(alloc, fronts.into_items())?;
+    let sets = sets_of(alloc, search.into_fronts())?;
     let machine = Machine {
         role: survey.role,
         states,
@@ -150,41 +142,30 @@ fn usual_size(involved: &[bool]) -> usize {
     size
 }
 
-fn state_of(
-    alloc: Global,
-    survey: &Survey,
-    marks: &mut Marks,
-    number: usize,
-    fronts: &mut Fronts,
-) -> Result<State, ProjFault>
-    requires found { AreFound survey.now.protocol survey.now.role fronts.old }
-    requires number { number < length fronts.old }
-    ensures ok { IfOk result (λ s. WorksOn survey.now.protocol survey.now.role fronts.old number fronts.new s) }
-    ensures err { IfErr result (λ e. StateFault survey.now.protocol survey.now.role fronts.old number e) }
+fn state_of(alloc: Global, search: &mut Search, number: usize) -> Result<State, ProjFault>
+    requires number { number < length search.old.fronts }
+    ensures survey { search.new.survey ≡ search.old.survey }
+    ensures ok { IfOk result (λ s. WorksOn search.old.survey.protocol search.old.survey.role search.old.fronts number search.new.fronts s) }
+    ensures err { IfErr result (λ e. StateFault search.old.survey.protocol search.old.survey.role search.old.fronts number e) }
 {
-    let role = survey.role;
-    let front = &fronts.as_slice()[number];
+    let survey = search.survey();
+    let front = &search.as_slice()[number];
     if let Some(talk) = front.lone_talk() {
-        let arms = lone_arms(alloc, survey, marks, talk, fronts)?;
-        return Ok(act_of(survey.protocol, role, &[talk], arms));
+        let arms = lone_arms(alloc, search, talk)?;
+        return Ok(act_of(survey.protocol, survey.role, &[talk], arms));
     }
-    joint_state(alloc, survey, marks, number, fronts)
+    joint_state(alloc, search, number)
 }
 
 // The state that stands for the members of the front together.
-fn joint_state(
-    alloc: Global,
-    survey: &Survey,
-    marks: &mut Marks,
-    number: usize,
-    fronts: &mut Fronts,
-) -> Result<State, ProjFault>
-    requires found { AreFound survey.now.protocol survey.now.role fronts.old }
-    requires number { number < length fronts.old }
-    ensures ok { IfOk result (λ s. WorksOn survey.now.protocol survey.now.role fronts.old number fronts.new s) }
-    ensures err { IfErr result (λ e. StateFault survey.now.protocol survey.now.role fronts.old number e) }
+fn joint_state(alloc: Global, search: &mut Search, number: usize) -> Result<State, ProjFault>
+    requires number { number < length search.old.fronts }
+    ensures survey { search.new.survey ≡ search.old.survey }
+    ensures ok { IfOk result (λ s. WorksOn search.old.survey.protocol search.old.survey.role search.old.fronts number search.new.fronts s) }
+    ensures err { IfErr result (λ e. StateFault search.old.survey.protocol search.old.survey.role search.old.fronts number e) }
 {
-    let front = &fronts.as_slice()[number];
+    let survey = search.survey();
+    let front = &search.as_slice()[number];
     let found = first_clash(alloc, survey.protocol, survey.role, front)?;
     if let Some(clash) = found {
         return Err(ProjFault::Unmergeable {
@@ -194,7 +175,7 @@ fn joint_state(
         });
     }
     let talks: SmallVec<u32, 4> = SmallVec::from_slice(alloc, &front.talks)?;
-    let arms = joint_arms(alloc, survey, marks, talks.as_slice(), fronts)?;
+    let arms = joint_arms(alloc, search, talks.as_slice())?;
     Ok(act_of(survey.protocol, survey.role, talks.as_slice(), arms))
 }
 

@@ -1,50 +1,47 @@
-ghost use Rattle.std.specs.Prelude.{◌≡◌, ◌<◌, ◌∷◌, [], length, IfOk, IfSome};
+ghost use Rattle.std.specs.Prelude.{◌≡◌, ◌<◌, length, IfOk, IfSome};
 ghost use Rattle.std.specs.List.{All};
 ghost use Rattle.rs_project.specs.Filing.{lone_front};
 ghost use Rattle.rs_project.specs.Working.{IsFrontFrom};
-ghost use Rattle.rs_project.specs.Marks.{MeetsOnly, nexts_of_node};
+ghost use Rattle.rs_project.specs.Marks.{MeetsOnly, StandsFor};
 
 use crate::fronts::{Front, in_order};
 use crate::surveying::Survey;
-use rs_model::{NoMemory, Node};
+use rs_model::NoMemory;
 use std::alloc::Global;
 
 // From more nodes than these marks lead to the talks at less cost.
 const FEW: usize = 4;
 
-/// The one talk that the role meets from a node, where talks with one arm alone lead to it.
-pub fn only_talk(survey: &Survey, start: u32) -> Option<u32>
+/// Where the run that begins at the node ends: a node from which the role meets the same.
+pub fn run_end(survey: &Survey, start: u32) -> u32
+    requires start { start < length survey.now.protocol.nodes }
+    ensures within { result < length survey.now.protocol.nodes }
+    ensures stands { StandsFor survey.now.protocol survey.now.role start result }
+{
+    let mut node = start;
+    for _ in 0..survey.run_ends.len() {
+        let end = survey.run_ends[node as usize];
+        if end == node {
+            return node;
+        }
+        node = end;
+    }
+    node
+}
+
+// The one talk that the role meets from a node, where a run leads to it.
+fn only_talk(survey: &Survey, start: u32) -> Option<u32>
     requires start { start < length survey.now.protocol.nodes }
     ensures { IfSome result (λ talk. MeetsOnly survey.now.protocol survey.now.role start talk) }
 {
-    let protocol = survey.protocol;
-    let mut node = start;
-    for _ in 0..protocol.nodes.len() {
-        if survey.involved[node as usize] {
-            return Some(node);
-        }
-        if !survey.passing[node as usize] {
-            return None;
-        }
-        node = only_next(&protocol.nodes[node as usize])?;
+    let end = run_end(survey, start);
+    if survey.involved[end as usize] {
+        return Some(end);
     }
     None
 }
 
-// The node to which a talk with one arm leads.
-fn only_next(node: &Node) -> Option<u32>
-    ensures { IfSome result (λ next. nexts_of_node node.now ≡ next ∷ []) }
-{
-    match node {
-        Node::Finished => None,
-        Node::Talk { arms, .. } => match arms.as_slice() {
-            [arm] => Some(arm.next),
-            _ => None,
-        },
-    }
-}
-
-/// What the role may meet first from few nodes, where talks with one arm alone lead to it from each.
+/// What the role may meet first from few nodes, where runs lead to one talk from each.
 pub fn straight_front(
     alloc: Global,
     survey: &Survey,

@@ -1,8 +1,8 @@
-ghost use Rattle.std.specs.Prelude.{◌≡◌, ◌↔◌, ◌≤◌, ◌<◌, ◌^◌, ◌&&◌, ℕ, true, false, not, map, length, slice_index_or, slice_get, Some, IfOk};
+ghost use Rattle.std.specs.Prelude.{◌≡◌, ◌≢◌, ◌↔◌, ◌≤◌, ◌<◌, ◌^◌, ◌&&◌, ℕ, true, false, not, map, length, slice_index_or, slice_get, [], Some, IfOk, IfSome};
 ghost use Rattle.rs_model.specs.declared.graph.Node.{Node};
 ghost use Rattle.rs_model.specs.declared.graph.Role.{Role};
-ghost use Rattle.rs_project.specs.Graph.{Involves, IsIdle};
-ghost use Rattle.rs_project.specs.Marks.{AllAwaited, HasFlags, IsOn, IsSettled, LeadsWithin, any_on, involves_role, leads_on, count_of_lowered};
+ghost use Rattle.rs_project.specs.Graph.{Involves, IsIdle, PassesBy};
+ghost use Rattle.rs_project.specs.Marks.{AllAwaited, AllPassing, AreRunEnds, HasEnd, HasFlags, IsOn, IsSettled, LeadsWithin, any_on, have_end, involves_role, leads_on, count_of_lowered};
 ghost use Rattle.rs_wellformed.specs.WellFormed.{IsWellFormed};
 ghost use Rattle.std.specs.List.{All};
 
@@ -11,7 +11,8 @@ use std::alloc::Global;
 use std::marker::Model;
 
 /// A well-formed protocol, and what is known of its nodes for one role: whether a node is a talk that involves the role, whether such a
-/// talk can be reached from it, and whether it passes by the role.
+/// talk can be reached from it, whether it passes by the role, and where the run that begins there ends: a node from which
+/// the role meets the same.
 #[derive(Drop)]
 pub struct Survey<'a> {
     pub protocol: &'a Protocol,
@@ -19,6 +20,7 @@ pub struct Survey<'a> {
     pub involved: Vec<bool>,
     pub awaited: Vec<bool>,
     pub passing: Vec<bool>,
+    pub run_ends: Vec<u32>,
 }
 
 impl<'a> Model for Survey<'a> {
@@ -26,9 +28,9 @@ impl<'a> Model for Survey<'a> {
 
     ghost Value = { Survey_data };
 
-    ghost view = { λ s. record { protocol = s.protocol.now; role = s.role; involved = s.involved.items; awaited = s.awaited.items; passing = s.passing.items } };
+    ghost view = { λ s. record { protocol = s.protocol.now; role = s.role; involved = s.involved.items; awaited = s.awaited.items; passing = s.passing.items; run_ends = s.run_ends.items } };
 
-    ghost invariant = { λ s. IsTrueSurvey (record { protocol = s.protocol.now; role = s.role; involved = s.involved.items; awaited = s.awaited.items; passing = s.passing.items }) };
+    ghost invariant = { λ s. IsTrueSurvey (record { protocol = s.protocol.now; role = s.role; involved = s.involved.items; awaited = s.awaited.items; passing = s.passing.items; run_ends = s.run_ends.items }) };
 }
 
 /// What is known of the protocol's nodes for the role.
@@ -45,12 +47,14 @@ pub fn survey_of<'a>(
     let involved = involved_nodes(alloc, protocol, role)?;
     let awaited = awaited_nodes(alloc, protocol, &involved)?;
     let passing = passing_nodes(alloc, &involved, &awaited)?;
+    let run_ends = ends_of_runs(alloc, protocol, &passing)?;
     Ok(Survey {
         protocol,
         role,
         involved,
         awaited,
         passing,
+        run_ends,
     })
 }
 
@@ -171,4 +175,84 @@ fn passing_nodes(alloc: Global, involved: &[bool], awaited: &[bool]) -> Result<V
         passing[i] = awaited[i] && !involved[i];
     }
     Ok(passing)
+}
+
+// Where the runs end. A run goes on from a node that passes by the role and whose arms all come to one end.
+fn ends_of_runs(alloc: Global, protocol: &Protocol, passing: &[bool]) -> Result<Vec<u32>, NoMemory>
+    requires well_formed { IsWellFormed protocol.now }
+    requires few { length protocol.now.nodes < 2 ^ 32 }
+    requires size { length passing.now ≡ length protocol.now.nodes }
+    ensures { IfOk result (λ v. (role : Role) → AllPassing protocol.now role passing.now → AreRunEnds protocol.now role v.items) }
+{
+    let mut ends = numbers(alloc, passing.len())?;
+    let mut left = passing.len();
+    while left > 0 {
+        left -= 1;
+        if passing[left] {
+            go_on(protocol, &mut ends, left);
+        }
+    }
+    Ok(ends)
+}
+
+/// The numbers of so many nodes, in order.
+pub fn numbers(alloc: Global, count: usize) -> Result<Vec<u32>, NoMemory>
+    requires { count < 2 ^ 32 }
+    ensures size { IfOk result (λ v. length v.items ≡ count) }
+    ensures each { IfOk result (λ v. (n : ℕ) → n < count → slice_index_or v.items n 0 ≡ n) }
+{
+    let mut numbers = vec![in alloc; 0; count]?;
+    for number in 0..count {
+        numbers[number] = number as u32;
+    }
+    Ok(numbers)
+}
+
+// The run that begins at the node ends where those behind its arms do, if they do at one node.
+fn go_on(protocol: &Protocol, ends: &mut Vec<u32>, number: usize)
+    requires well_formed { IsWellFormed protocol.now }
+    requires size { length ends.old.items ≡ length protocol.now.nodes }
+    requires node { number < length protocol.now.nodes }
+    ensures size { length ends.new.items ≡ length protocol.now.nodes }
+    ensures runs { (role : Role) → PassesBy protocol.now role number → AreRunEnds protocol.now role ends.old.items → AreRunEnds protocol.now role ends.new.items }
+{
+    if let Some(end) = common_end(&protocol.nodes[number], ends) {
+        ends[number] = end;
+    }
+}
+
+fn common_end(node: &Node, ends: &[u32]) -> Option<u32>
+    requires { LeadsWithin (length ends.now) node.now }
+    ensures { IfSome result (λ end. HasEnd ends.now end node.now) }
+{
+    match node {
+        Node::Finished => None,
+        Node::Talk { arms, .. } => end_of_all(arms.as_slice(), ends),
+    }
+}
+
+fn end_of_all(arms: &[Arm], ends: &[u32]) -> Option<u32>
+    requires { All (λ a. a.next < length ends.now) arms.now }
+    ensures { IfSome result (λ end. (arms.now ≢ []) × (have_end ends.now end arms.now ≡ true)) }
+{
+    if arms.is_empty() {
+        return None;
+    }
+    let end = ends[arms[0].next as usize];
+    if !have_end(arms, ends, end) {
+        return None;
+    }
+    Some(end)
+}
+
+fn have_end(arms: &[Arm], ends: &[u32], end: u32) -> bool
+    requires { All (λ a. a.next < length ends.now) arms.now }
+    ensures { result ≡ have_end ends.now end arms.now }
+{
+    for arm in arms {
+        if ends[arm.next as usize] != end {
+            return false;
+        }
+    }
+    true
 }

@@ -138,6 +138,38 @@ fn projections(rt: HostRuntime) -> Result<(), Fail> {
     Ok(())
 }
 
+// A run of talks between others, of which one offers a choice that changes nothing, and talks of role 2 with arms that lead
+// back into it at each place.
+const BACK_INTO_A_RUN: &str =
+    "0>1:0u1 0>1:0u2,1u3 0>1:0u4 1>0:0u4 0>2:0u0,1u1,2u2,3u3,4u5 0>2:0u0,1u2,2u6 end";
+
+// .. into one that ends at a choice of others, behind which role 2 meets one of two talks.
+const BACK_BEFORE_A_CHOICE: &str =
+    "0>1:0u1 0>1:0u2,1u3 0>2:0u4 0>2:1u5 0>2:0u0,1u1,2u6 0>2:0u1,1u6 end";
+
+#[test]
+fn back_into_runs(rt: HostRuntime) -> Result<(), Fail> {
+    let alloc = rt.alloc();
+    let table = [
+        (
+            BACK_INTO_A_RUN,
+            "0?0u0,1u0,2u0,3u0,4u1 0?0u0,1u0,2u2 end",
+            "4 5 -",
+        ),
+        (
+            BACK_BEFORE_A_CHOICE,
+            "0?0u1,1u2 0?0u0,1u0,2u3 0?0u0,1u3 end",
+            "2+3 4 5 -",
+        ),
+    ];
+    for (signs, states, sets) in table {
+        let protocol = protocol(alloc, signs)?;
+        let found = projected(alloc, &protocol, 2)?;
+        assert!(rt; is_projection(alloc, &found, 2, states, sets)?);
+    }
+    Ok(())
+}
+
 #[test]
 fn refusals(rt: HostRuntime) -> Result<(), Fail> {
     let alloc = rt.alloc();

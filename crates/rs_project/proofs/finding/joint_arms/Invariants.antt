@@ -6,6 +6,7 @@ use Rattle.rs_project.proofs.finding.joint_arms.Given as goal
 
 abbrev pub invariant-loop-choice : goal.invariant-loop-choice
 invariant-loop-choice l = record {
-  discovers : Discovers l.survey.protocol l.survey.role l.fn.fronts l.talks (map choice_of (take l.choice-index l.choice-items)) l.fronts (nexts_of l.arms);
+  survey : l.search.survey ≡ l.fn.search.survey;
+  discovers : Discovers l.fn.search.survey.protocol l.fn.search.survey.role l.fn.search.fronts l.talks (map choice_of (take l.choice-index l.choice-items)) l.search.fronts (nexts_of l.arms);
   same : map choice_of l.arms ≡ map choice_of (take l.choice-index l.choice-items);
 }

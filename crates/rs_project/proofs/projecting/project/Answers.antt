@@ -1,12 +1,10 @@
-use Rattle.std.proofs.Common.{arith, ◌≤◌, inr, ℕ, [], ◌∷◌, Option, MatchOption, refl, ap, subst, subst₂, sym, ◌∙◌}
+use Rattle.std.proofs.Common.{arith, ◌≤◌, inr, ℕ, Option, MatchOption, refl, subst, subst₂}
 use Rattle.rs_model.specs.Data.{Protocol_data}
 use Rattle.rs_model.specs.declared.graph.Role.{Role}
 use Rattle.rs_project.specs.Graph.{IsUnreached}
-use Rattle.rs_project.specs.Marks.{StartMeets, StartEnds}
-use Rattle.rs_project.specs.Refusals.{IsFront, NoneUnreached}
+use Rattle.rs_project.specs.Refusals.{NoneUnreached}
 use Rattle.rs_project.specs.Numbered.{IsNumberedProjection}
 use Rattle.rs_project.proofs.Machines.{projection-machine}
-use Rattle.rs_project.proofs.Steps.{front-root}
 use Rattle.rs_project.proofs.projecting.project.Goals as goal
 
 pub returns-in-Some-clause-err : goal.returns-in-Some-clause-err
@@ -16,13 +14,6 @@ returns-in-Some-clause-err c =
     let Q : Protocol_data → Role → Type 0 = λ y z. IsUnreached y z c.in-Some.node × ((n : ℕ) → IsUnreached y z n → c.in-Some.node ≤ n) in
     let h = subst₂ Q c.in_ok-survey.ensures.protocol c.in_ok-survey.ensures.role (subst P c.in-Some.is c.in_ok-node.ensures) in
     inr (refl, h.0, h.1)
-
-pub work-requires-clause-start : goal.work-requires-clause-start
-work-requires-clause-start c =
-    let sv = c.in_ok-survey.survey in
-    let P : ℕ → Type 0 = λ z. IsFront c.in_ok-start.start (StartMeets sv.protocol sv.role (z ∷ [])) (StartEnds sv.protocol sv.role (z ∷ [])) in
-    front-root sv.protocol sv.role c.in_ok-start.start
-    (subst P (ap (λ (z : Protocol_data). z.root) c.protocol.view_is ∙ sym (ap (λ (z : Protocol_data). z.root) c.in_ok-survey.ensures.protocol)) c.in_ok-start.ensures)
 
 pub returns-clause-ok : goal.returns-clause-ok
 returns-clause-ok c =

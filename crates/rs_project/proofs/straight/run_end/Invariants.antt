@@ -1,6 +1,6 @@
 use Rattle.std.proofs.Common.{◌<◌, length}
 use Rattle.rs_project.specs.Marks.{StandsFor}
-use Rattle.rs_project.proofs.straight.only_talk.Given as goal
+use Rattle.rs_project.proofs.straight.run_end.Given as goal
 
 abbrev pub invariant-loop : goal.invariant-loop
 invariant-loop l = record {

@@ -1,0 +1,123 @@
+-- The search for fronts, front by front.
+use Rattle.std.proofs.Common.{◌≡◌, ◌≢◌, ◌⊎◌, ◌++◌, inl, inr, ℕ, suc, ◌+◌, ◌-◌, ◌<◌, true, List, [], ◌∷◌, length, set, get_or, Result, Ok, Err, Some, slice_get, refl, sym, ap, ◌∙◌, subst, subst₂, arith}
+use Rattle.std.specs.Prelude.{IfOk, OnErr}
+use Rattle.std.proofs.lemmas.Bool.Decides.{eqb_tells}
+use Rattle.std.proofs.lemmas.Option.{none-some}
+use Rattle.std.proofs.lemmas.List.{get_or-set_same, get_or-set_other}
+use Rattle.rs_model.specs.Data.{Protocol_data}
+use Rattle.rs_model.specs.declared.graph.Role.{Role}
+use Rattle.rs_model.specs.declared.machines.State.{State}
+use Rattle.rs_project.specs.Data.{Front_data}
+use Rattle.rs_project.specs.Filing.{lone_front}
+use Rattle.rs_project.specs.Graph.{Involves, MeetsFirst, MeetsTheEnd}
+use Rattle.rs_project.specs.Marks.{Among, IsSurvey, StandsFor, Survey_data}
+use Rattle.rs_project.specs.Refusals.{FirstRefusal}
+use Rattle.rs_project.specs.Working.{AddsFront, FaultFrom, FindsFrom, IsFrontFrom, IsSearch, Search_data, Working}
+use Rattle.rs_project.specs.declared.projecting.ProjFault.{ProjFault}
+use Rattle.rs_project.specs.declared.projecting.ProjFault.TheVariants.{Unmergeable, Unreached, TooManyStates, NoMemory}
+use Rattle.rs_project.proofs.Lists.{contained, contains}
+use Rattle.rs_project.proofs.Lone.{lone-front, meets-only}
+use Rattle.rs_project.proofs.Meetings.{meets-some}
+use Rattle.rs_project.proofs.Numbers.{found-adds, keeps-adds}
+use Rattle.rs_project.proofs.Steps.{front-root, working-begin}
+
+-- what is met from a run's end is met from where it begins
+pub from-start : (pr : Protocol_data) (role : Role) (start end : ℕ) (f : Front_data) → StandsFor pr role start end → IsFrontFrom pr role (end ∷ []) f → IsFrontFrom pr role (start ∷ []) f
+from-start pr role start end f s is = record {
+  rising = is.rising;
+  talks = λ t. (
+    (λ h. (let m = (is.talks t).0 h in elim m.among [
+      | inl e ↦ (let P : ℕ → Type 0 = λ z. MeetsFirst pr role z t in record { start = start; among = inl refl; meets = (s.meets t).1 (subst P (sym e) m.meets) })
+      | inr bad ↦ absurd bad
+    ])),
+    (λ m. elim m.among [
+      | inl e ↦ (let P : ℕ → Type 0 = λ z. MeetsFirst pr role z t in (is.talks t).1 record { start = end; among = inl refl; meets = (s.meets t).0 (subst P (sym e) m.meets) })
+      | inr bad ↦ absurd bad
+    ]),
+  );
+  ends = (
+    (λ e. (let m = is.ends.0 e in elim m.among [
+      | inl k ↦ (let P : ℕ → Type 0 = λ z. MeetsTheEnd pr role z in record { start = start; among = inl refl; ends = s.ends.1 (subst P (sym k) m.ends) })
+      | inr bad ↦ absurd bad
+    ])),
+    (λ m. elim m.among [
+      | inl k ↦ (let P : ℕ → Type 0 = λ z. MeetsTheEnd pr role z in is.ends.1 record { start = end; among = inl refl; ends = s.ends.0 (subst P (sym k) m.ends) })
+      | inr bad ↦ absurd bad
+    ]),
+  );
+}
+
+-- a run that ends at a talk of the role
+pub lone-from : (pr : Protocol_data) (role : Role) (start end : ℕ) → Involves pr role end → StandsFor pr role start end → IsFrontFrom pr role (start ∷ []) (lone_front end)
+lone-from pr role start end i s = lone-front pr role (start ∷ []) start end (lone_front end) refl refl (meets-only pr role start end i s)
+
+pub some-among : (xs : List ℕ) → xs ≢ [] → (x : ℕ) × Among xs x
+some-among [] some = absurd (some refl)
+some-among (x ∷ xs) some = (x, inl refl)
+
+-- a front from starts is found
+pub search-adds : (search : Search_data) (new : List Front_data) (numbers starts : List ℕ) (s : ℕ) (f : Front_data) (n : ℕ) → IsSearch search numbers → Among starts s
+    → IsFrontFrom search.survey.protocol search.survey.role starts f → AddsFront search.fronts f new n → IsSearch record { survey = search.survey; fronts = new } numbers
+search-adds search new numbers starts s f n is among front adds = record {
+  known = is.known;
+  found = found-adds search.survey.protocol search.survey.role search.fronts new f n is.found (λ t h. ((front.talks t).0 (contains f.talks t h)).meets.involved) told adds;
+  from = λ x k e. (let r = is.from x k e in (r.0, keeps-adds search.fronts new f n adds k r.0 r.1, r.2));
+}
+  where
+    told : f.talks ≡ [] → f.ends ≡ true
+    told e = elim (meets-some search.survey.protocol search.survey.role search.survey is.known.survey s) [
+      | inl m ↦ (let P : List ℕ → Type 0 = λ z. Among z m.0 in absurd (subst P e (contained f.talks m.0 ((front.talks m.0).1 record { start = s; among = among; meets = m.1 }))))
+      | inr m ↦ front.ends.1 record { start = s; among = among; ends = m }
+    ]
+
+pub search-result : (search : Search_data) (new : List Front_data) (numbers starts : List ℕ) (s : ℕ) (f : Front_data) (r : Result ℕ ProjFault) → IsSearch search numbers → Among starts s
+    → IsFrontFrom search.survey.protocol search.survey.role starts f → IfOk r (λ n. AddsFront search.fronts f new n) → OnErr r (new ≡ search.fronts) → IsSearch record { survey = search.survey; fronts = new } numbers
+search-result search new numbers starts s f (Ok n) is among front adds same = search-adds search new numbers starts s f n is among front adds
+search-result search new numbers starts s f (Err e) is among front adds same =
+    let P : List Front_data → Type 0 = λ z. IsSearch record { survey = search.survey; fronts = z } numbers in
+    subst P (sym same) record { known = is.known; found = is.found; from = is.from }
+
+pub same-numbers : (search : Search_data) (old new : List ℕ) → ((n : ℕ) → get_or new n 0 ≡ get_or old n 0) → IsSearch search old → IsSearch search new
+same-numbers search old new same is = record { known = is.known; found = is.found; from = λ n k e. is.from n k (sym (same n) ∙ e) }
+
+-- the number of a front is noted at the node from which it is met
+pub noted-at : (search : Search_data) (numbers : List ℕ) (end n : ℕ) (f : Front_data) → IsSearch search numbers → end < length numbers → slice_get search.fronts n ≡ Some f
+    → IsFrontFrom search.survey.protocol search.survey.role (end ∷ []) f → IsSearch search (set numbers end (n + 1))
+noted-at search numbers end n f is within at front = record {
+  known = is.known;
+  found = is.found;
+  from = λ x k e. elim (eqb_tells x end) [
+    | inl p ↦ (let here : get_or (set numbers end (n + 1)) x 0 ≡ n + 1 = ap (λ (z : ℕ). get_or (set numbers end (n + 1)) z 0) p.1 ∙ get_or-set_same numbers end (n + 1) 0 within in
+        let same : n ≡ k = omega (arith, e, here) in
+        let P : ℕ → Type 0 = λ z. slice_get search.fronts z ≡ Some f in
+        let Q : ℕ → Type 0 = λ z. IsFrontFrom search.survey.protocol search.survey.role (z ∷ []) f in
+        (f, subst P same at, subst Q (sym p.1) front))
+    | inr p ↦ is.from x k (sym (get_or-set_other numbers end x (n + 1) 0 p.1) ∙ e)
+  ];
+}
+
+-- the number that is noted is that of the front
+pub finds-known : (search : Search_data) (numbers : List ℕ) (start end known : ℕ) → IsSearch search numbers → StandsFor search.survey.protocol search.survey.role start end → known ≡ get_or numbers end 0 → 0 < known
+    → FindsFrom search.survey.protocol search.survey.role search.fronts (start ∷ []) search.fronts (known - 1)
+finds-known search numbers start end known is s e some =
+    let k : get_or numbers end 0 ≡ suc (known - 1) = omega (arith, e, some) in
+    let r = is.from end (known - 1) k in
+    record { front = r.0; is = from-start search.survey.protocol search.survey.role start end r.0 s r.2; adds = inl (r.1, refl) }
+
+-- the front from the root is found first
+pub working-found : (pr : Protocol_data) (role : Role) (sv : Survey_data) (old new : List Front_data) (states : List State) (root n : ℕ) → IsSurvey pr role sv → root ≡ pr.root → old ≡ [] → states ≡ []
+    → FindsFrom pr role old (root ∷ []) new n → Working pr role new states
+working-found pr role sv old new states root n is er eo es f =
+    let P : List Front_data → List State → Type 0 = λ y z. Working pr role y z in
+    let R : ℕ → Type 0 = λ z. IsFrontFrom pr role (z ∷ []) f.front in
+    elim f.adds [
+      | inl a ↦ (let Q : List Front_data → Type 0 = λ z. slice_get z n ≡ Some f.front in absurd (none-some f.front (subst Q eo a.0)))
+      | inr a ↦ subst₂ P (sym (a.1 ∙ ap (λ (z : List Front_data). z ++ (f.front ∷ [])) eo)) (sym es) (working-begin pr role sv f.front is (front-root pr role f.front (subst R er f.is)))
+    ]
+
+-- only memory may be wanting for it
+pub first-fault : (pr : Protocol_data) (role : Role) (old : List Front_data) (starts : List ℕ) → old ≡ [] → (e : ProjFault) → FaultFrom pr role old starts e → (e ≡ NoMemory) ⊎ FirstRefusal pr role e
+first-fault pr role old starts eo (Unmergeable r a b) h = absurd h
+first-fault pr role old starts eo (Unreached r n) h = absurd h
+first-fault pr role old starts eo (TooManyStates r) h = (let m = h.1.many in let l = ap (λ (z : List Front_data). length z) eo in absurd (omega (arith, m, l)))
+first-fault pr role old starts eo NoMemory h = inl refl

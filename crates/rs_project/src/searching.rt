@@ -1,0 +1,181 @@
+ghost use Rattle.std.specs.Prelude.{◌≡◌, ◌≢◌, ◌<◌, ◌≤◌, ◌∷◌, [], length, IfOk, IfErr, OnErr};
+ghost use Rattle.std.specs.List.{All};
+ghost use Rattle.rs_model.specs.declared.limits.TheConstants.{MOST_STATES};
+ghost use Rattle.rs_project.specs.Filing.{lone_front};
+ghost use Rattle.rs_project.specs.Working.{AddsFront, AreFound, FaultFrom, FindsFrom, IsFrontFrom, FrontIsNew, NumberFault};
+
+use crate::ProjFault;
+use crate::filing::{Fronts, make_room, number_at, set_number};
+use crate::fronts::{Front, marked_front};
+use crate::spreading::Marks;
+use crate::straight::{lone_front, run_end, straight_front};
+use crate::surveying::Survey;
+use rs_model::{MOST_STATES, NoMemory, Role};
+use std::alloc::Global;
+use std::marker::Model;
+
+/// The search for the fronts of one projection: those that were found, and at nodes where runs end the number of the front
+/// from there, as one more than it is, or 0.
+#[derive(Drop)]
+pub struct Search<'a> {
+    survey: &'a Survey<'a>,
+    marks: Marks,
+    fronts: Fronts,
+    numbers: Vec<u32>,
+}
+
+impl<'a> Model for Search<'a> {
+    ghost use Rattle.rs_project.specs.Working.{IsSearch, Search_data};
+
+    ghost Value = { Search_data };
+
+    ghost view = { λ s. record { survey = s.survey.now; fronts = s.fronts } };
+
+    ghost invariant = { λ s. IsSearch (record { survey = s.survey.now; fronts = s.fronts }) s.numbers.items };
+}
+
+impl<'a> Search<'a> {
+    /// Nothing is found yet; there is room for so many fronts.
+    pub fn new(alloc: Global, survey: &'a Survey<'a>, room: usize) -> Result<Search<'a>, NoMemory>
+        ensures survey { IfOk result (λ s. s.survey ≡ survey.now) }
+        ensures none { IfOk result (λ s. s.fronts ≡ []) }
+    {
+        let fronts = Fronts::with_room(alloc, room, survey.involved.len())?;
+        Ok(Search {
+            survey,
+            marks: Marks::new(alloc),
+            fronts,
+            numbers: Vec::new(alloc),
+        })
+    }
+
+    /// What is known of the protocol for the role.
+    pub fn survey(&self) -> &'a Survey<'a>
+        ensures is { result.now ≡ self.now.survey }
+        ensures found { AreFound self.now.survey.protocol self.now.survey.role self.now.fronts }
+    {
+        self.survey
+    }
+
+    /// The fronts, by their numbers.
+    pub fn as_slice(&self) -> &[Front]
+        ensures { result.now ≡ self.now.fronts }
+    {
+        self.fronts.as_slice()
+    }
+
+    /// How many there are.
+    pub fn len(&self) -> usize
+        ensures is { result ≡ length self.now.fronts }
+        ensures few { result ≤ MOST_STATES }
+    {
+        self.fronts.len()
+    }
+
+    /// The fronts alone.
+    pub fn into_fronts(self) -> Vec<Front>
+        ensures { result.items ≡ self.entry.fronts }
+    {
+        let Search { fronts, .. } = self;
+        fronts.into_items()
+    }
+
+    /// The number of what the role meets first from the starts, which is added where it is new.
+    pub fn find(&mut self, alloc: Global, starts: &[u32]) -> Result<u32, ProjFault>
+        requires some { starts.now ≢ [] }
+        requires starts { All (λ s. s < length self.old.survey.protocol.nodes) starts.now }
+        ensures survey { self.new.survey ≡ self.old.survey }
+        ensures ok { IfOk result (λ n. FindsFrom self.old.survey.protocol self.old.survey.role self.old.fronts starts.now self.new.fronts n) }
+        ensures err { IfErr result (λ e. FaultFrom self.old.survey.protocol self.old.survey.role self.old.fronts starts.now e) }
+    {
+        if let [start] = starts {
+            return self.find_from(alloc, *start);
+        }
+        let survey = self.survey;
+        let front = front_of_many(alloc, survey, &mut self.marks, starts)?;
+        number_of(survey.role, &mut self.fronts, front)
+    }
+
+    /// The number of what the role meets first from the start, which is added where it is new.
+    pub fn find_from(&mut self, alloc: Global, start: u32) -> Result<u32, ProjFault>
+        requires start { start < length self.old.survey.protocol.nodes }
+        ensures survey { self.new.survey ≡ self.old.survey }
+        ensures ok { IfOk result (λ n. FindsFrom self.old.survey.protocol self.old.survey.role self.old.fronts (start ∷ []) self.new.fronts n) }
+        ensures err { IfErr result (λ e. FaultFrom self.old.survey.protocol self.old.survey.role self.old.fronts (start ∷ []) e) }
+    {
+        let survey = self.survey;
+        let end = run_end(survey, start);
+        if survey.involved[end as usize] {
+            return number_of_lone(alloc, survey.role, &mut self.fronts, end);
+        }
+        let known = number_at(&self.numbers, end);
+        if known > 0 {
+            return Ok(known - 1);
+        }
+        make_room(&mut self.numbers, Some(end))?;
+        let front = marked_front(alloc, survey, &mut self.marks, &[end])?;
+        let number = number_of(survey.role, &mut self.fronts, front)?;
+        set_number(&mut self.numbers, Some(end), number + 1);
+        Ok(number)
+    }
+}
+
+// What the role meets first from more than one start.
+fn front_of_many(
+    alloc: Global,
+    survey: &Survey,
+    marks: &mut Marks,
+    starts: &[u32],
+) -> Result<Front, NoMemory>
+    requires starts { All (λ s. s < length survey.now.protocol.nodes) starts.now }
+    ensures { IfOk result (λ f. IsFrontFrom survey.now.protocol survey.now.role starts.now f) }
+{
+    if let Some(front) = straight_front(alloc, survey, starts)? {
+        return Ok(front);
+    }
+    marked_front(alloc, survey, marks, starts)
+}
+
+// The number of the front of this talk alone, which is added where it is new.
+fn number_of_lone(
+    alloc: Global,
+    role: Role,
+    fronts: &mut Fronts,
+    talk: u32,
+) -> Result<u32, ProjFault>
+    ensures ok { IfOk result (λ n. AddsFront fronts.old (lone_front talk) fronts.new n) }
+    ensures err { IfErr result (λ e. NumberFault role fronts.old (lone_front talk) e) }
+    ensures same { OnErr result (fronts.new ≡ fronts.old) }
+{
+    if let Some(known) = fronts.number_of_lone(talk) {
+        return Ok(known);
+    }
+    let front = lone_front(alloc, talk)?;
+    add_new(role, fronts, front)
+}
+
+// The number of a front, which is added where it is new.
+fn number_of(role: Role, fronts: &mut Fronts, front: Front) -> Result<u32, ProjFault>
+    ensures ok { IfOk result (λ n. AddsFront fronts.old front fronts.new n) }
+    ensures err { IfErr result (λ e. NumberFault role fronts.old front e) }
+    ensures same { OnErr result (fronts.new ≡ fronts.old) }
+{
+    if let Some(number) = fronts.number_of(&front) {
+        return Ok(number);
+    }
+    add_new(role, fronts, front)
+}
+
+fn add_new(role: Role, fronts: &mut Fronts, front: Front) -> Result<u32, ProjFault>
+    requires { FrontIsNew fronts.old front }
+    ensures ok { IfOk result (λ n. AddsFront fronts.old front fronts.new n) }
+    ensures err { IfErr result (λ e. NumberFault role fronts.old front e) }
+    ensures same { OnErr result (fronts.new ≡ fronts.old) }
+{
+    let number = fronts.len();
+    if number == MOST_STATES {
+        return Err(ProjFault::TooManyStates { role });
+    }
+    fronts.add(front)?;
+    Ok(number as u32)
+}
