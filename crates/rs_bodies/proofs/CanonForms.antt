@@ -1,10 +1,11 @@
 -- The canonical form of a body, and where names lead.
-use Rattle.std.proofs.Common.{◌≡◌, ℕ, suc, ◌+◌, ◌<◌, List, [], ◌∷◌, length, Option, Some, None, slice_get, ap, sym, ◌∙◌}
+use Rattle.std.proofs.Common.{◌≡◌, ℕ, suc, ◌+◌, ◌<◌, List, [], ◌∷◌, length, Option, Some, slice_get, ap, sym, ◌∙◌}
 use Rattle.std.proofs.lemmas.Option.{slice_get-get_or}
 use Rattle.rs_model.specs.Data.{Names_data}
 use Rattle.rs_model.specs.declared.values.Sort.{Sort}
 use Rattle.rs_text.specs.Arms.{sort_or_unit}
 use Rattle.rs_text.specs.Shown.{shown_sort}
+use Rattle.rs_text.specs.NamePlaces.{text_or_none}
 use Rattle.rs_text.specs.Names.{Bound, nearest_binding, number_or}
 use Rattle.rs_bodies.specs.declared.dialects.Dialect.{Dialect}
 use Rattle.rs_bodies.specs.declared.places.Place.{Place}
@@ -17,10 +18,6 @@ use Rattle.rs_bodies.proofs.Wrapped.{wrapped, offered}
 
 -- ---- the canonical form
 
-abbrev pub or_empty : Option (List ℕ) → List ℕ
-or_empty None = []
-or_empty (Some name) = name
-
 -- how a text's names are numbered, the names that are written instead, and the places of its graph
 pub record Writing : Type 0 where
   pub numbers : Numbering
@@ -28,10 +25,10 @@ pub record Writing : Type 0 where
   pub places : List Place
 
 abbrev pub role_as : Writing → List ℕ → List ℕ
-role_as w name = or_empty (slice_get w.names.roles (role_of w.numbers name).0)
+role_as w name = text_or_none (slice_get w.names.roles (role_of w.numbers name).0)
 
 abbrev pub label_as : Writing → List ℕ → List ℕ
-label_as w name = or_empty (slice_get w.names.labels (label_of w.numbers name).0)
+label_as w name = text_or_none (slice_get w.names.labels (label_of w.numbers name).0)
 
 abbrev pub turn_as : {dia : Dialect} → Writing → Turn dia → Turn dia
 turn_as w (sends_to r) = sends_to (role_as w r)
@@ -82,9 +79,9 @@ abbrev mutual
 pub role_stands : (w : Writing) (s : List ℕ) → HasRole w s → slice_get w.names.roles (role_of w.numbers s).0 ≡ Some (role_as w s)
 role_stands w s lt =
     let e = slice_get-get_or w.names.roles (role_of w.numbers s).0 [] lt in
-    e ∙ ap Some (sym (ap or_empty e))
+    e ∙ ap Some (sym (ap text_or_none e))
 
 pub label_stands : (w : Writing) (l : List ℕ) → HasLabel w l → slice_get w.names.labels (label_of w.numbers l).0 ≡ Some (label_as w l)
 label_stands w l lt =
     let e = slice_get-get_or w.names.labels (label_of w.numbers l).0 [] lt in
-    e ∙ ap Some (sym (ap or_empty e))
+    e ∙ ap Some (sym (ap text_or_none e))

@@ -4,6 +4,7 @@ use Rattle.std.proofs.lemmas.Bool.{ltb-true, lt-ltb}
 use Rattle.rs_model.specs.declared.values.Sort.{Sort}
 use Rattle.rs_text.proofs.Basics.{two_true, both}
 use Rattle.rs_text.proofs.Naming.{grown_append}
+use Rattle.rs_bodies.proofs.ShapeGoes.{deeper_within}
 use Rattle.rs_text.specs.Names.{Bound, nearest_binding, number_or, names_with, is_among}
 use Rattle.rs_bodies.specs.declared.dialects.Dialect.{Dialect}
 use Rattle.rs_bodies.specs.declared.dialects.Dialect.TheVariants.{Talks, Acts}
@@ -22,10 +23,6 @@ use Rattle.rs_bodies.proofs.Wrapped.{scene, offered, opened_for, wrapped_fits, w
 use Rattle.rs_bodies.specs.Shapes.{deeper}
 
 -- ---- nesting, names and limits of the canonical form
-
-deeper_within : (c here : Bool) (inner d : ℕ) → (c ≡ true → here ≡ true) → inner ≤ d → (here ≡ true → inner < d) → deeper c inner ≤ d
-deeper_within true here inner d f le lt = let h = lt (f refl) in omega arith
-deeper_within false here inner d f le lt = le
 
 -- the roles that are written are known
 abbrev pub RolesKnown : Writing → List (List ℕ) → Type 0

@@ -20,7 +20,7 @@ end_small : (end : Bool) → length (end_of end) ≤ 1
 end_small true = omega arith
 end_small false = omega arith
 
-most_small : (dia : Dialect) → most dia ≤ MOST_TALKS
+pub most_small : (dia : Dialect) → most dia ≤ MOST_TALKS
 most_small Talks = omega arith
 most_small Acts = omega arith
 

@@ -123,7 +123,7 @@ label_goes base final ls rest l count ended e few = elim (none_or_some (place_of
       ap (λ z. walk_behind_label (number_or z) (walk count (top base (length ls)) ended)) place ∙ old_label some.0 (top base (length ls)) count ended (omega arith) ∙ ap (λ z. Some (walk count (top base (length z)) ended)) (sym same))
 ]
 
-deeper_within : (c here : Bool) (inner d : ℕ) → (c ≡ true → here ≡ true) → inner ≤ d → (here ≡ true → inner < d) → deeper c inner ≤ d
+pub deeper_within : (c here : Bool) (inner d : ℕ) → (c ≡ true → here ≡ true) → inner ≤ d → (here ≡ true → inner < d) → deeper c inner ≤ d
 deeper_within true here inner d f le lt = let h = lt (f refl) in omega arith
 deeper_within false here inner d f le lt = le
 

@@ -12,9 +12,9 @@ use Rattle.rs_text.proofs.PlainNames.{plain_names, plain_count, plain_differ, pl
 use Rattle.rs_text.proofs.Basics.{some_is, both, seam}
 use Rattle.rs_text.specs.Names.{names_with}
 use Rattle.rs_text.specs.Sound.{IsSound}
+use Rattle.rs_bodies.proofs.Few.{most_small}
 use Rattle.rs_text.specs.Words.{is_word, is_role_word}
 use Rattle.rs_bodies.specs.declared.dialects.Dialect.{Dialect}
-use Rattle.rs_bodies.specs.declared.dialects.Dialect.TheVariants.{Talks, Acts}
 use Rattle.rs_bodies.specs.declared.places.Place.{Place}
 use Rattle.rs_bodies.specs.declared.places.Place.TheVariants as place
 use Rattle.rs_bodies.specs.declared.shapes.Walk.{Walk}
@@ -156,10 +156,6 @@ walk_ends dia p start labels h =
     let e = some_end p.places (walk_from dia p start labels) q.1 in
     record { small = leb-true (number_of_end p.places) (most dia) q.0; end = e.0; run = e.1; count = e.2; ended = e.3 }
 
-most_few : (dia : Dialect) → most dia ≤ MOST_TALKS
-most_few Talks = omega arith
-most_few Acts = omega arith
-
 abbrev numbering_by : List (List ℕ) → List (List ℕ) → ℕ → Numbering
 numbering_by roles labels last = record { names = record { roles = roles; labels = labels }; last = last }
 
@@ -172,7 +168,7 @@ names_sound roles labels few room =
 
 walked_body : (dia : Dialect) (p : Outline) (start labels : ℕ) → p.roles ≤ MOST_ROLES → labels ≤ MOST_LABELS → Walked dia p start labels → HasBody dia p.roles labels p.places start
 walked_body dia p start labels few room w =
-    let low : most dia ≤ MOST_TALKS = most_few dia in
+    let low : most dia ≤ MOST_TALKS = most_small dia in
     let under : number_of_end p.places ≤ most dia = w.small in
     let small : Small dia p = record { roles = few; last = under; few = omega arith } in
     let g : Grown dia p [] 0 (start_of_walk labels) w.end start = met_grown dia p [] 0 (walk_behind_head (suc (number_of_end p.places)) dia p 0) 0 start (start_of_walk labels) w.end small (visited_grown dia (suc (number_of_end p.places)) p [] 0 small) (omega arith) (omega arith) room (λ v lt e. absurd (omega arith)) (λ lt. absurd (omega arith)) w.run in

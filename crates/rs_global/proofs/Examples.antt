@@ -1,10 +1,8 @@
-use Rattle.std.proofs.Common.{◌≡◌, ◌≤◌, ℕ, inl, List, [], ◌∷◌, ◌++◌, false, refl, arith}
+use Rattle.std.proofs.Common.{◌≡◌, ℕ, inl, List, [], ◌∷◌, ◌++◌, false, refl, arith}
 use Rattle.std.specs.Prelude.{codes}
 use Rattle.rs_text.specs.Lexemes.{Lexeme, is_last}
 use Rattle.rs_text.specs.Lexing.{Lexed, next_lexeme}
 use Rattle.rs_text.specs.Signs.{Sign, rec_word, end_word, plain, arrow, dot, comma, open_brace, close_brace, open_paren, close_paren, finish}
-use Rattle.rs_text.specs.Faults.{kind_number}
-use Rattle.rs_text.specs.declared.faults.TextKind.{TextKind}
 use Rattle.rs_text.specs.declared.faults.TextKind.TheVariants as kind
 use Rattle.rs_text.specs.declared.faults.Wanted.TheVariants as wanted
 use Rattle.rs_global.specs.Faults.{FirstFault}
@@ -17,6 +15,7 @@ use Rattle.rs_bodies.specs.declared.dialects.Dialect.TheVariants.{Talks}
 use Rattle.rs_global.specs.Graph.{graph_of, names_of}
 use Rattle.rs_global.specs.Examples.{text, tree}
 use Rattle.rs_global.specs.Spells.{SpellsProtocol}
+use Rattle.rs_text.proofs.Judging.{one_least}
 use Rattle.rs_text.proofs.Nexts.{lexed_are}
 
 abbrev lexeme : Sign → ℕ → ℕ → Lexeme
@@ -73,11 +72,6 @@ spelt = record {
   graph_is = refl;
   goes_on = refl;
 }
-
--- every kind has a number of at least 1
-one_least : (k : TextKind) → 1 ≤ kind_number k
-one_least (kind.Expected w) = omega arith
-one_least _ = omega arith
 
 opening_no_end : (o : Opening Talks) (b : Body Talks) (rest : List Sign) → opening_signs Talks o ++ body_signs Talks b ≡ finish ∷ rest → ⊥
 opening_no_end (of_roles x y xs) b rest h = cc

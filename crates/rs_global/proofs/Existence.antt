@@ -12,7 +12,6 @@ use Rattle.rs_bodies.specs.Canonical.{HeadHasNames, HaveNames}
 use Rattle.rs_bodies.specs.Graph.{has_end}
 use Rattle.rs_bodies.specs.Places.{end_of, places_of_protocol}
 use Rattle.rs_bodies.specs.Trees.{Body}
-use Rattle.rs_bodies.proofs.CanonForms.{or_empty}
 use Rattle.rs_bodies.proofs.CanonWhole.{IsTreeOf, canon_of, canon_draws}
 use Rattle.rs_bodies.proofs.NumberedNames.{tree_named}
 use Rattle.rs_bodies.proofs.PlacesIn.{places_are}
@@ -21,6 +20,7 @@ use Rattle.rs_global.specs.Enough.{AreEnough}
 use Rattle.rs_global.specs.Graph.{numbering, graph_of}
 use Rattle.rs_global.specs.Spells.{Fits}
 use Rattle.rs_global.specs.Trees.{ProtocolTree, roles_of}
+use Rattle.rs_text.specs.NamePlaces.{text_or_none}
 use Rattle.rs_global.proofs.Places.{whole_are, is_talk}
 
 -- ---- the graph of a tree
@@ -58,7 +58,7 @@ rest_of (x ∷ xs) = xs
 
 -- the tree with these roles
 abbrev tree_with : List (List ℕ) → Body Talks → ProtocolTree
-tree_with roles body = record { first = or_empty (slice_get roles 0); second = or_empty (slice_get roles 1); further = rest_of (rest_of roles); body = body }
+tree_with roles body = record { first = text_or_none (slice_get roles 0); second = text_or_none (slice_get roles 1); further = rest_of (rest_of roles); body = body }
 
 pub roles_with : (roles : List (List ℕ)) (body : Body Talks) → 2 ≤ length roles → roles_of (tree_with roles body) ≡ roles
 roles_with [] body h = absurd (omega arith)

@@ -1,5 +1,5 @@
 -- A protocol by its places: what spells it spells them, and what stands at a number.
-use Rattle.std.proofs.Common.{◌≡◌, ℕ, zero, suc, List, [], ◌∷◌, ◌++◌, map, Bool, true, false, Some, option_map, refl, sym, ap, ◌∙◌, slice_get}
+use Rattle.std.proofs.Common.{◌≡◌, ℕ, List, [], ◌++◌, map, Bool, true, false, Some, option_map, refl, sym, ap, ◌∙◌, slice_get}
 use Rattle.std.proofs.lemmas.List.{map-append}
 use Rattle.std.proofs.lemmas.Option.{slice_get-map}
 use Rattle.rs_model.specs.Data.{Protocol_data}
@@ -7,7 +7,7 @@ use Rattle.rs_model.specs.declared.graph.Arm.{Arm}
 use Rattle.rs_model.specs.declared.graph.Node.{Node}
 use Rattle.rs_model.specs.declared.graph.Node.TheVariants.{Finished, Talk}
 use Rattle.rs_model.specs.declared.graph.Role.{Role}
-use Rattle.rs_text.proofs.Basics.{some_is}
+use Rattle.rs_text.proofs.Basics.{all_again, found_again}
 use Rattle.rs_bodies.specs.Canonical as bodies
 use Rattle.rs_bodies.specs.Dialects.{Turn, sends_to}
 use Rattle.rs_bodies.specs.declared.dialects.Dialect.TheVariants.{Talks}
@@ -75,22 +75,12 @@ back_again : (node : Node) → node_back (place_of_node node) ≡ node
 back_again Finished = refl
 back_again (Talk s r arms) = refl
 
-nodes_again : (nodes : List Node) → map node_back (points nodes) ≡ nodes
-nodes_again [] = refl
-nodes_again (Finished ∷ nodes) = ap (λ z. Finished ∷ z) (nodes_again nodes)
-nodes_again (Talk s r arms ∷ nodes) = ap (λ z. Talk s r arms ∷ z) (nodes_again nodes)
-
 pub same_nodes : (xs ys : List Node) → points xs ≡ points ys → xs ≡ ys
-same_nodes xs ys h = sym (nodes_again xs) ∙ ap (map node_back) h ∙ nodes_again ys
+same_nodes xs ys h = sym (all_again place_of_node node_back back_again xs) ∙ ap (map node_back) h ∙ all_again place_of_node node_back back_again ys
 
 -- the node of a place
 pub stands_as : (nodes : List Node) (n : ℕ) (x : Place) → slice_get (points nodes) n ≡ Some x → (slice_get nodes n ≡ Some (node_back x)) × (x ≡ place_of_node (node_back x))
-stands_as [] n x e = absurd (cc e)
-stands_as (node ∷ nodes) zero x e =
-    let same : place_of_node node ≡ x = some_is (place_of_node node) x e in
-    let is : node ≡ node_back x = sym (back_again node) ∙ ap node_back same in
-    (ap Some is, sym same ∙ ap place_of_node is)
-stands_as (node ∷ nodes) (suc n) x e = stands_as nodes n x e
+stands_as nodes n x e = found_again place_of_node node_back back_again nodes n x e
 
 pub record IsTalk (p : Protocol_data) (n : ℕ) (h : Head) (arms : List Arm) : Type 0 where
   pub sender : Role

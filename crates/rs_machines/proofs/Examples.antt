@@ -1,11 +1,9 @@
-use Rattle.std.proofs.Common.{◌≡◌, ◌≤◌, ℕ, inl, List, [], ◌∷◌, ◌++◌, false, refl, arith}
+use Rattle.std.proofs.Common.{◌≡◌, ℕ, inl, List, [], ◌∷◌, ◌++◌, false, refl}
 use Rattle.std.specs.Prelude.{codes}
 use Rattle.rs_model.specs.Data.{Names_data}
 use Rattle.rs_text.specs.Lexemes.{Lexeme, is_last}
 use Rattle.rs_text.specs.Lexing.{Lexed, next_lexeme}
 use Rattle.rs_text.specs.Signs.{Sign, rec_word, end_word, plain, bang, colon, dot, comma, open_brace, close_brace, open_paren, close_paren, finish}
-use Rattle.rs_text.specs.Faults.{kind_number}
-use Rattle.rs_text.specs.declared.faults.TextKind.{TextKind}
 use Rattle.rs_text.specs.declared.faults.TextKind.TheVariants as kind
 use Rattle.rs_text.specs.declared.faults.Wanted.TheVariants as wanted
 use Rattle.rs_machines.specs.Faults.{FirstFault}
@@ -18,6 +16,7 @@ use Rattle.rs_bodies.specs.declared.dialects.Dialect.TheVariants.{Acts}
 use Rattle.rs_machines.specs.Machines.{machine_of, names_of}
 use Rattle.rs_machines.specs.Examples.{text, old, tree}
 use Rattle.rs_machines.specs.Spells.{SpellsMachine}
+use Rattle.rs_text.proofs.Judging.{one_least}
 use Rattle.rs_text.proofs.Nexts.{lexed_are}
 
 abbrev lexeme : Sign → ℕ → ℕ → Lexeme
@@ -71,11 +70,6 @@ spelt = record {
   machine_is = refl;
   goes_on = refl;
 }
-
--- every kind has a number of at least 1
-one_least : (k : TextKind) → 1 ≤ kind_number k
-one_least (kind.Expected w) = omega arith
-one_least _ = omega arith
 
 opening_no_end : (o : Opening Acts) (b : Body Acts) (rest : List Sign) → opening_signs Acts o ++ body_signs Acts b ≡ finish ∷ rest → ⊥
 opening_no_end (of_role r) b rest h = cc

@@ -1,5 +1,5 @@
 -- A machine by its places: what spells it spells them, and what stands at a number.
-use Rattle.std.proofs.Common.{◌≡◌, ℕ, zero, suc, List, [], ◌∷◌, ◌++◌, map, Bool, true, false, Some, option_map, refl, sym, ap, ◌∙◌, slice_get}
+use Rattle.std.proofs.Common.{◌≡◌, ℕ, List, [], ◌++◌, map, Bool, true, false, Some, option_map, refl, sym, ap, ◌∙◌, slice_get}
 use Rattle.std.proofs.lemmas.List.{map-append}
 use Rattle.std.proofs.lemmas.Option.{slice_get-map}
 use Rattle.rs_model.specs.Data.{Machine_data, Names_data}
@@ -7,7 +7,7 @@ use Rattle.rs_model.specs.declared.graph.Arm.{Arm}
 use Rattle.rs_model.specs.declared.graph.Role.{Role}
 use Rattle.rs_model.specs.declared.machines.State.{State}
 use Rattle.rs_model.specs.declared.machines.State.TheVariants.{Done, Puts, Takes}
-use Rattle.rs_text.proofs.Basics.{some_is}
+use Rattle.rs_text.proofs.Basics.{all_again, found_again}
 use Rattle.rs_bodies.specs.Canonical as bodies
 use Rattle.rs_bodies.specs.Dialects.{Turn, with_mark}
 use Rattle.rs_bodies.specs.declared.dialects.Dialect.TheVariants.{Acts}
@@ -87,23 +87,12 @@ back_again Done = refl
 back_again (Puts p arms) = refl
 back_again (Takes p arms) = refl
 
-states_again : (states : List State) → map state_back (points states) ≡ states
-states_again [] = refl
-states_again (Done ∷ states) = ap (λ z. Done ∷ z) (states_again states)
-states_again (Puts p arms ∷ states) = ap (λ z. Puts p arms ∷ z) (states_again states)
-states_again (Takes p arms ∷ states) = ap (λ z. Takes p arms ∷ z) (states_again states)
-
 pub same_states : (xs ys : List State) → points xs ≡ points ys → xs ≡ ys
-same_states xs ys h = sym (states_again xs) ∙ ap (map state_back) h ∙ states_again ys
+same_states xs ys h = sym (all_again place_of_state state_back back_again xs) ∙ ap (map state_back) h ∙ all_again place_of_state state_back back_again ys
 
 -- the state of a place
 pub stands_as : (states : List State) (n : ℕ) (x : Place) → slice_get (points states) n ≡ Some x → (slice_get states n ≡ Some (state_back x)) × (x ≡ place_of_state (state_back x))
-stands_as [] n x e = absurd (cc e)
-stands_as (state ∷ states) zero x e =
-    let same : place_of_state state ≡ x = some_is (place_of_state state) x e in
-    let is : state ≡ state_back x = sym (back_again state) ∙ ap state_back same in
-    (ap Some is, sym same ∙ ap place_of_state is)
-stands_as (state ∷ states) (suc n) x e = stands_as states n x e
+stands_as states n x e = found_again place_of_state state_back back_again states n x e
 
 pub record IsAct (p : Machine_data) (n : ℕ) (h : Head) (arms : List Arm) : Type 0 where
   pub mark : Mark

@@ -1,5 +1,5 @@
 -- Small laws of tests, options and lists.
-use Rattle.std.proofs.Common.{Some, Bool, refl, true, false, inr, inl, arith, suc, nat_lt, slice_get, List, zero, ap, drop, length, subst, ◌≡◌, ◌≢◌, ℕ, ◌+◌, ◌<◌, [], ◌∷◌, ◌++◌, ◌&&◌, ◌||◌, ◌==◌, ◌∙◌}
+use Rattle.std.proofs.Common.{Some, Bool, refl, true, false, inr, inl, arith, suc, nat_lt, slice_get, List, zero, ap, drop, length, subst, ◌≡◌, ◌≢◌, ℕ, ◌+◌, ◌<◌, [], ◌∷◌, ◌++◌, ◌&&◌, ◌||◌, ◌==◌, ◌∙◌, map, sym}
 use Rattle.std.proofs.lemmas.Bool.Decides.{eqb_tells, leb_tells}
 use Rattle.std.specs.List.{list_any, list_all}
 use Rattle.rs_text.proofs.Gaps.{true_or_false}
@@ -94,3 +94,17 @@ pub one_of : {A : Type 0} → (test : A → Bool) (xs : List A) (i : ℕ) (x : A
 one_of {A} test [] i x h e = absurd (cc e)
 one_of {A} test (y ∷ xs) zero x h e = let same : Some y ≡ Some x = e in let k : y ≡ x = cc same in subst (λ z. test z ≡ true) k (both (test y) (list_all test xs) h).0
 one_of {A} test (y ∷ xs) (suc i) x h e = one_of test xs i x (both (test y) (list_all test xs) h).1 e
+
+-- ---- things that are seen as others, and found again by them
+
+pub all_again : {A B : Type 0} (seen : A → B) (back : B → A) → ((a : A) → back (seen a) ≡ a) → (xs : List A) → map back (map seen xs) ≡ xs
+all_again seen back h [] = refl
+all_again seen back h (x ∷ xs) = ap (λ z. z ∷ map back (map seen xs)) (h x) ∙ ap (λ z. x ∷ z) (all_again seen back h xs)
+
+pub found_again : {A B : Type 0} (seen : A → B) (back : B → A) → ((a : A) → back (seen a) ≡ a) → (xs : List A) (n : ℕ) (y : B) → slice_get (map seen xs) n ≡ Some y → (slice_get xs n ≡ Some (back y)) × (y ≡ seen (back y))
+found_again seen back h [] n y e = absurd (cc e)
+found_again seen back h (x ∷ xs) zero y e =
+    let same : seen x ≡ y = some_is (seen x) y e in
+    let is : x ≡ back y = sym (h x) ∙ ap back same in
+    (ap Some is, sym same ∙ ap seen is)
+found_again seen back h (x ∷ xs) (suc n) y e = found_again seen back h xs n y e

@@ -6,6 +6,7 @@ use Rattle.std.specs.Str.{bytes_eq}
 use Rattle.rs_text.specs.declared.tokens.FaultKind.{FaultKind}
 use Rattle.rs_text.specs.declared.faults.TextFault.{TextFault}
 use Rattle.rs_text.specs.declared.faults.TextKind.{TextKind}
+use Rattle.rs_text.specs.declared.faults.TextKind.TheVariants as kind
 use Rattle.rs_text.specs.Faults.{kind_number}
 use Rattle.rs_text.specs.FirstFaults.{FaultRule, IsWhole, IsClear, AllClear, FirstFaultBy, next_of}
 use Rattle.rs_text.specs.Lexemes.{Lexeme, signs_of, is_last}
@@ -192,6 +193,11 @@ pub found : {R : Type 0} {a : Automaton R} {rule : FaultRule} {At : List Sign �
     → ((t : Sign) → At [] t o) → Lexed bytes at ls → read_all a (Ok o) ls ≡ Err e → Found rule Left [] ls e.kind e.at (last_of a o (Ok o) ls)
 found j o bytes at [] e begins h f = absurd h
 found j o bytes at (l ∷ ls) e begins h f = finds j ls l [] o e bytes at h (begins l.sign) f
+
+-- every kind has a number of at least 1
+pub one_least : (k : TextKind) → 1 ≤ kind_number k
+one_least (kind.Expected w) = omega arith
+one_least _ = omega arith
 
 pub least_same : (k j : TextKind) → j ≡ k → kind_number k ≤ kind_number j
 least_same k j e = let n : kind_number j ≡ kind_number k = ap kind_number e in omega arith

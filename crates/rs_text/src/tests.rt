@@ -1,10 +1,11 @@
 ghost use Rattle.std.specs.Prelude.{◌≤◌, length};
 
 use crate::{
-    Binding, FaultKind, Kind, Lexer, NameTable, Stop, Text, TextFault, TextKind, Wanted, add,
-    bound_number, expected, fault, find, next_token, number, place, sound, unbind,
+    Binding, FaultKind, Kind, Lexer, MessagePlace, MessageStep, NameTable, Stop, Text, TextFault,
+    TextKind, Wanted, add, bound_number, expected, fault, feed_message, find, next_token, number,
+    place, sound, unbind,
 };
-use rs_model::{Name, Names, NoMemory};
+use rs_model::{Label, Name, Names, NoMemory, Sort};
 use std::alloc::Global;
 use std::test::Fail;
 
@@ -260,13 +261,13 @@ fn tells_why_a_reading_stops(rt: HostRuntime) -> Result<(), Fail> {
         kind: TextKind::TooDeep,
         at: 3,
     };
-    assert!(rt; fault(TextKind::TooDeep, 3) == Err(Stop::Fault(deep)));
+    assert!(rt; fault::<()>(TextKind::TooDeep, 3) == Err(Stop::Fault(deep)));
     assert!(rt; Stop::Fault(deep).told(7) == deep);
     let dot = TextFault {
         kind: TextKind::Expected(Wanted::Dot),
         at: 4,
     };
-    assert!(rt; expected(Wanted::Dot, 4) == Err(Stop::Fault(dot)));
+    assert!(rt; expected::<()>(Wanted::Dot, 4) == Err(Stop::Fault(dot)));
     Ok(())
 }
 
@@ -284,5 +285,84 @@ fn tokens_say_what_they_are(rt: HostRuntime) -> Result<(), Fail> {
     assert!(rt; faulty.kind() == Err(FaultKind::BadByte));
     assert_eq!(rt; faulty.from(), 14);
     assert_eq!(rt; faulty.until(), 14);
+    Ok(())
+}
+
+#[test]
+fn reads_a_message_token_by_token(rt: HostRuntime) -> Result<(), Fail> {
+    let text = b"end(nat)".as_slice();
+    let name = next_token(text, 0);
+    let open = next_token(text, name.until());
+    let sort = next_token(text, open.until());
+    let close = next_token(text, sort.until());
+    let label = Label(0);
+    let behind_label = Ok(MessageStep::GoesOn {
+        place: MessagePlace::Paren { label },
+    });
+    let unit = Ok(MessageStep::Ends {
+        label,
+        sort: Sort::Unit,
+    });
+    for (place, token, step) in [
+        (MessagePlace::Label, &name, behind_label),
+        (MessagePlace::Label, &open, expected(Wanted::Label, 3)),
+        (
+            MessagePlace::Paren { label },
+            &open,
+            Ok(MessageStep::GoesOn {
+                place: MessagePlace::Sort { label },
+            }),
+        ),
+        (
+            MessagePlace::Paren { label },
+            &sort,
+            expected(Wanted::OpenParen, 4),
+        ),
+        (
+            MessagePlace::Sort { label },
+            &sort,
+            Ok(MessageStep::GoesOn {
+                place: MessagePlace::Close {
+                    label,
+                    sort: Sort::Natural,
+                },
+            }),
+        ),
+        (MessagePlace::Sort { label }, &close, unit),
+        (
+            MessagePlace::Sort { label },
+            &name,
+            expected(Wanted::SortOrCloseParen, 0),
+        ),
+        (
+            MessagePlace::Close {
+                label,
+                sort: Sort::Natural,
+            },
+            &close,
+            Ok(MessageStep::Ends {
+                label,
+                sort: Sort::Natural,
+            }),
+        ),
+        (
+            MessagePlace::Close {
+                label,
+                sort: Sort::Natural,
+            },
+            &sort,
+            expected(Wanted::CloseParen, 4),
+        ),
+    ] {
+        let mut labels = NameTable::new(rt.alloc(), Vec::new(rt.alloc()));
+        let fed = feed_message(place, token, rt.alloc(), &mut labels);
+        assert!(rt; fed == step);
+    }
+    let mut labels = NameTable::new(rt.alloc(), Vec::new(rt.alloc()));
+    let new = feed_message(MessagePlace::Label, &name, rt.alloc(), &mut labels);
+    assert!(rt; new == behind_label);
+    let known = feed_message(MessagePlace::Label, &name, rt.alloc(), &mut labels);
+    assert!(rt; known == behind_label);
+    assert_eq!(rt; labels.len(), 1);
     Ok(())
 }
