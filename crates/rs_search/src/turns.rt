@@ -171,7 +171,7 @@ pub fn has_choice(any: bool, spots: usize) -> bool
 }
 
 /// The spot behind the act that is owed at the place.
-#[inline(never)]
+#[inline(always)]
 pub fn paid(alloc: Global, p: &Point, place: usize, arm: Arm) -> Result<Point, NoMemory>
     requires { place < length p.now.pending }
     ensures { IfOk result (λ r. r ≡ spot arm.next (without p.now.pending place) p.now.above) }
@@ -184,7 +184,7 @@ pub fn paid(alloc: Global, p: &Point, place: usize, arm: Arm) -> Result<Point, N
 }
 
 /// The spot behind arms that both send.
-#[inline(never)]
+#[inline(always)]
 pub fn both(alloc: Global, p: &Point, arm: Arm, their: Arm) -> Result<Point, NoMemory>
     ensures { IfOk result (λ r. r ≡ spot arm.next p.now.pending their.next) }
 {
@@ -217,7 +217,7 @@ pub fn owing_by(
 }
 
 // The machine stays where it is, and owes the act.
-#[inline(never)]
+#[inline(always)]
 fn owing(alloc: Global, p: &Point, act: Act, above: u32) -> Result<Point, NoMemory>
     ensures { IfOk result (λ r. r ≡ spot p.now.state (p.now.pending ++ act ∷ []) above) }
 {
