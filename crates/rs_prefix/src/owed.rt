@@ -26,7 +26,7 @@ impl Model for Pending {
 
 impl Pending {
     /// Nothing owed.
-    #[inline(always)]
+    #[inline(never)]
     pub fn new(alloc: Global) -> Pending
         ensures { result ≡ [] }
     {
@@ -36,7 +36,7 @@ impl Pending {
     }
 
     // One act owed, which needs no allocation.
-    #[inline(always)]
+    #[inline(never)]
     fn of_one(alloc: Global, act: Act) -> Pending
         ensures { result ≡ act ∷ [] }
     {
@@ -66,6 +66,13 @@ impl Pending {
         if self.acts.is_empty() {
             return Ok(Pending::of_one(alloc, act));
         }
+        self.longer(alloc, act)
+    }
+
+    #[inline(never)]
+    fn longer(&self, alloc: Global, act: Act) -> Result<Pending, NoMemory>
+        ensures { IfOk result (λ p. p ≡ self.now ++ act ∷ []) }
+    {
         let mut acts = SmallVec::with_capacity(alloc, self.acts.len().saturating_add(1))?;
         acts.extend_from_slice(self.acts.as_slice())?;
         acts.push(act)?;
@@ -81,6 +88,14 @@ impl Pending {
         if self.acts.len() == 1 {
             return Ok(Pending::new(alloc));
         }
+        self.shorter(alloc, place)
+    }
+
+    #[inline(never)]
+    fn shorter(&self, alloc: Global, place: usize) -> Result<Pending, NoMemory>
+        requires { place < length self.now }
+        ensures { IfOk result (λ p. p ≡ without self.now place) }
+    {
         let (before, rest) = self.acts.as_slice().split_at(place);
         let (_, behind) = rest.split_at(1);
         let mut acts = SmallVec::with_capacity(alloc, self.acts.len())?;

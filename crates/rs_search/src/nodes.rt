@@ -43,40 +43,40 @@ pub fn nodes_of(
     Ok(nodes)
 }
 
-// The node at a spot, which is moved into it.
+// The node at a spot; it and its nexts are moved into it.
 #[inline(always)]
-fn into_node(alloc: Global, point: Point, rank: u32, row: &Row) -> Result<DNode, NoMemory>
-    ensures { IfOk result (λ n. n ≡ node_of point rank row.now) }
+fn into_node(point: Point, rank: u32, next: Row) -> DNode
+    ensures { result ≡ node_of point rank next }
 {
     let Point {
         state,
         pending,
         above,
     } = point;
-    Ok(DNode {
+    DNode {
         state,
         pending,
         above,
         rank,
-        next: row.copy(alloc)?,
-    })
+        next,
+    }
 }
 
 /// The nodes at the spots, in their order.
 pub fn nodes_in_order(
     alloc: Global,
     points: Vec<Point>,
-    rows: &[Row],
+    rows: Vec<Row>,
     ranks: &[u32],
 ) -> Result<Vec<DNode>, NoMemory>
-    requires rows { length rows.now ≡ length points.items }
+    requires rows { length rows.items ≡ length points.items }
     requires ranks { length ranks.now ≡ length points.items }
-    ensures { IfOk result (λ v. AreNodes points.items (places_of 0 points.items) rows.now ranks.now (length points.items) v.items) }
+    ensures { IfOk result (λ v. AreNodes points.items (places_of 0 points.items) rows.items ranks.now (length points.items) v.items) }
 {
     let mut nodes = Vec::with_capacity(alloc, points.len())?;
-    for point in points {
-        let i = nodes.len();
-        let node = into_node(alloc, point, ranks[i], &rows[i])?;
+    for (point, row) in points.into_iter().zip(rows) {
+        let rank = ranks[nodes.len()];
+        let node = into_node(point, rank, row);
         nodes.reserve(1)?;
         nodes.push_reserved(node);
     }

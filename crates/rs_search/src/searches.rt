@@ -89,7 +89,7 @@ pub fn search_counted<L: Ledger>(
     match plain_ranks(alloc, &found) {
         Ok(Some(ranks)) => {
             let Candidates { points, rows, .. } = found;
-            match nodes_in_order(alloc, points, rows.as_slice(), ranks.as_slice()) {
+            match nodes_in_order(alloc, points, rows, ranks.as_slice()) {
                 Ok(nodes) => Ok(Derivation {
                     role: sub.role,
                     bound,

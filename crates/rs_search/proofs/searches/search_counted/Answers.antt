@@ -18,8 +18,7 @@ pub returns-in-Ok-nodes_in_order-clause-ok : goal.returns-in-Ok-nodes_in_order-c
 returns-in-Ok-nodes_in_order-clause-ok g c =
     let e = c.in-Ok.ensures in
     let n : AreNodes c.in-Ok.found.points.items (places_of 0 c.in-Ok.found.points.items) c.in-Ok.found.rows.items c.in-Ok-Some.ranks.items (length c.in-Ok.found.points.items) c.in-Ok-nodes_in_order.nodes.items =
-    subst (λ (z : List ℕ). AreNodes c.in-Ok.found.points.items (places_of 0 c.in-Ok.found.points.items) c.in-Ok.found.rows.items z (length c.in-Ok.found.points.items) c.in-Ok-nodes_in_order.nodes.items) c.as_slice-in-Ok-Some.ensures.value
-    (subst (λ (z : List (List ℕ)). AreNodes c.in-Ok.found.points.items (places_of 0 c.in-Ok.found.points.items) z c.as_slice-in-Ok-Some.result.now (length c.in-Ok.found.points.items) c.in-Ok-nodes_in_order.nodes.items) c.as_slice.ensures.value c.in-Ok-nodes_in_order.ensures) in
+    subst (λ (z : List ℕ). AreNodes c.in-Ok.found.points.items (places_of 0 c.in-Ok.found.points.items) c.in-Ok.found.rows.items z (length c.in-Ok.found.points.items) c.in-Ok-nodes_in_order.nodes.items) c.as_slice.ensures.value c.in-Ok-nodes_in_order.ensures in
     let w = forward_found c.args.sub.now c.args.above.now c.args.bound c.in-Ok.found.points.items c.in-Ok.found.rows.items c.in-Ok.found.keeps.items c.in-Ok-Some.ranks.items c.in-Ok-nodes_in_order.nodes.items c.in-Ok.found.choosing
     c.requires.theirs e.found e.few e.keeps e.choosing (subst (λ o. IfSome o (λ v. c.in-Ok.found.choosing ≡ false)) c.in-Ok-Some.field-0-is c.in-Ok-Some.ensures.choosing) (subst (λ o. IfSome o (λ v. AreForward c.in-Ok.found.keeps.items c.in-Ok.found.rows.items v.items 0)) c.in-Ok-Some.field-0-is c.in-Ok-Some.ensures.ranks) n in
     subst (λ (q : Role). IsCanonical c.args.sub.now c.args.above.now c.args.bound (record { role = q; bound = c.args.bound; nodes = c.in-Ok-nodes_in_order.nodes.items })) (sym (ap (λ (m : Machine_data). m.role) c.sub.view_is)) w
