@@ -1,8 +1,9 @@
 -- Numbers of items in chains.
-use Rattle.std.proofs.Common.{◌≡◌, ◌≢◌, inl, inr, ℕ, ◌<◌, ◌+◌, List, [], ◌∷◌, ◌++◌, length, get_or, set, replicate, refl, sym, ap, ◌∙◌, subst, arith, zero, suc, Some, slice_get, length-append}
+use Rattle.std.proofs.Common.{◌≡◌, ◌≢◌, inl, inr, ℕ, ◌<◌, ◌+◌, List, [], ◌∷◌, ◌++◌, length, get_or, set, replicate, refl, sym, ap, ◌∙◌, subst, arith, suc, Some, slice_get, length-append}
 use Rattle.std.proofs.lemmas.Bool.Decides.{eqb_tells}
 use Rattle.std.proofs.lemmas.List.{get_or-set_same, get_or-set_other}
 use Rattle.std.proofs.lemmas.Option.{none-some, same_Some}
+use Rattle.rs_model.proofs.Lists.{zero_at}
 use Rattle.rs_graph.proofs.Growth.{push_at, push_is, push_new}
 use Rattle.rs_graph.specs.Lists.{Among}
 use Rattle.rs_graph.proofs.Growth.{at_in}
@@ -28,16 +29,10 @@ pub no_chain : (links : List ℕ) (k n : ℕ) → k ≡ 0 → Chained links k n 
 no_chain links _ n q (Here _) = let bad : ⊥ = omega arith in bad
 no_chain links _ n q (Further m next _ e c) = let bad : ⊥ = omega arith in bad
 
-zero-at : (k n : ℕ) → get_or (replicate {A = ℕ} k 0) n 0 ≡ 0
-zero-at zero zero = refl
-zero-at zero (suc n) = refl
-zero-at (suc k) zero = refl
-zero-at (suc k) (suc n) = zero-at k n
-
 pub chained_none : {X : Type 0} (bucket : X → ℕ) (heads links : List ℕ) (size : ℕ) → heads ≡ replicate size 0 → links ≡ [] → AreChained bucket [] heads links
 chained_none bucket heads links size eh el = rw (eh, el) record {
   size = refl;
-  within = λ b. (let z = zero-at size b in omega arith);
+  within = λ b. (let z = zero_at size b in omega arith);
   falls = λ m next e. absurd (none-some next e);
   filed = λ n x e. absurd (none-some x e);
 }

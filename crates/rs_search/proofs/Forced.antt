@@ -1,7 +1,8 @@
 -- Where no candidate has a choice, what is discovered is the canonical derivation as it stands.
-use Rattle.std.proofs.Common.{◌≡◌, inl, inr, ℕ, ◌<◌, ◌≤◌, Bool, true, false, List, [], ◌∷◌, length, get_or, map, refl, sym, ap, ◌∙◌, subst, arith, zero, suc, Some, slice_get, replicate}
+use Rattle.std.proofs.Common.{◌≡◌, inl, inr, ℕ, ◌<◌, ◌≤◌, Bool, true, false, List, [], ◌∷◌, length, get_or, map, refl, sym, ap, ◌∙◌, subst, arith, Some, slice_get, replicate}
 use Rattle.std.proofs.lemmas.List.{length-replicate}
 use Rattle.std.proofs.lemmas.Option.{none-some, same_Some}
+use Rattle.rs_model.proofs.Lists.{zero_at}
 use Rattle.rs_model.specs.declared.limits.TheConstants.{MOST_CANDIDATES}
 use Rattle.rs_model.specs.Data.{Machine_data}
 use Rattle.rs_derive.specs.Data.{DNode_data}
@@ -33,12 +34,6 @@ pub record IsForced (sub above : Machine_data) (bound : ℕ) (found : List Spot)
   pub few : length found ≤ MOST_CANDIDATES
   pub forced : (n : ℕ) (x : Spot) → slice_get found n ≡ Some x → is_any sub above bound x ≡ true → length (nexts_within sub above bound x) ≡ 1
 
-zero-at : (k n : ℕ) → get_or (replicate {A = ℕ} k 0) n 0 ≡ 0
-zero-at zero zero = refl
-zero-at zero (suc n) = refl
-zero-at (suc k) zero = refl
-zero-at (suc k) (suc n) = zero-at k n
-
 first-move : (any : Bool) (row : List ℕ) → (any ≡ true → length row ≡ 1) → (0 < length (moves_of any row)) × (get_or (moves_of any row) 0 [] ≡ row)
 first-move false row h = ((let one : length (moves_of false row) ≡ 1 = refl in omega arith), refl)
 first-move true [] h = let l = h refl in let bad : ⊥ = omega arith in absurd bad
@@ -50,7 +45,7 @@ abbrev pub firsts_of : List Spot → List ℕ
 firsts_of found = replicate (length found) 0
 
 first-at : (found : List Spot) (n : ℕ) → at (firsts_of found) n ≡ 0
-first-at found n = zero-at (length found) n
+first-at found n = zero_at (length found) n
 
 -- the first move of a node, which leads to all of its row
 pub record FirstMove (sub above : Machine_data) (bound : ℕ) (found : List Spot) (rows : List (List ℕ)) (n : ℕ) : Type 0 where
