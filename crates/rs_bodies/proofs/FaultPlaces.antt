@@ -37,7 +37,7 @@ use Rattle.rs_bodies.specs.Scenes.{Scene, with_label, in_act, behind}
 use Rattle.rs_bodies.specs.Misplaced.{scene_at, scene_in, fault_of_depth, fault_of_label, fault_by, fault_of, fault_of_new_role, fault_of_role}
 use Rattle.rs_text.proofs.Leading.{Lands, Leads, lands_if, NotExpected, faulty_calm}
 use Rattle.rs_text.proofs.MessageLaws.{sort_seen}
-use Rattle.rs_text.specs.Messages.{sorted_by}
+use Rattle.rs_text.specs.Messages.{feed_sort_word}
 use Rattle.rs_text.specs.declared.messages.MessagePlace.TheVariants as place
 use Rattle.rs_bodies.proofs.FaultRuns.{met_lands, received_lands, head_lands, lone_leads, sort_leads, Follower, a_turn, a_broken, a_name, follower, by_name, named_lands, placed_length, label_lands, arm_passes, frame_at, restored_bound, passes, branches_pass}
 
@@ -178,8 +178,8 @@ brace_same end_word n s o e f = word_same (codes "end") s o e
 brace_same (plain l) n s o e f = word_same l s o e
 brace_same _ n s o e f = refl
 
-sorted_lands : (s : Sort) (act : ℕ) (label : Label) (at : ℕ) (r : Reader_data) (Q : Reader_data → Type 0) → Q (record r { mode = mode.InMessage act (place.Close label s) }) → Lands (in_message act (sorted_by (sort_named (sort_text s)) label at r.labels) r) Q
-sorted_lands s act label at r Q h = subst (λ (o : Option Sort). Lands (in_message act (sorted_by o label at r.labels) r) Q) (sym (sort_seen s)) h
+sorted_lands : (s : Sort) (act : ℕ) (label : Label) (at : ℕ) (r : Reader_data) (Q : Reader_data → Type 0) → Q (record r { mode = mode.InMessage act (place.Close label s) }) → Lands (in_message act (feed_sort_word (sort_named (sort_text s)) label at r.labels) r) Q
+sorted_lands s act label at r Q h = subst (λ (o : Option Sort). Lands (in_message act (feed_sort_word o label at r.labels) r) Q) (sym (sort_seen s)) h
 
 arm_cut_passes : (dia : Dialect) (arm : ArmCut) (act : ℕ) (r : Reader_data) (s : Scene) (u : Sign) → s.labels ≡ r.labels → Leads (feeding dia) (arm_cut_signs arm) u (ArmAgrees dia arm s u) (record r { mode = mode.InMessage act place.Label })
 arm_cut_passes dia at_label act r s u e = record { wanted = refl; faults = λ t n. label_same dia t n s (scene_of r) e; named = tt }

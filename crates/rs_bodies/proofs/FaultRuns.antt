@@ -35,7 +35,7 @@ use Rattle.rs_text.proofs.MessageLaws.{label_seen, word_fed, sort_seen, has_room
 use Rattle.rs_text.specs.declared.faults.TextFault.{TextFault}
 use Rattle.rs_text.specs.declared.faults.Wanted.TheVariants as wanted
 use Rattle.rs_text.specs.declared.messages.MessagePlace.TheVariants as place
-use Rattle.rs_text.specs.Messages.{Message, goes_on, ends, label_of_number, labelled_by, sorted_by, feed_label}
+use Rattle.rs_text.specs.Messages.{Message, goes_on, ends, label_of_number, feed_label_number, feed_sort_word, feed_label}
 use Rattle.rs_text.specs.Seen.{word_text}
 use Rattle.rs_bodies.specs.declared.reading.Mode.{Mode}
 
@@ -126,19 +126,19 @@ message_same act (Err e) r m = refl
 message_same act (Ok (goes_on labels p)) r m = refl
 message_same act (Ok (ends l s)) r m = refl
 
-label_fed : (dia : Dialect) (l : List ℕ) (act : ℕ) (at : ℕ) (n : Lexeme) (r : Reader_data) → feed_sign (feeding dia) (word_sign l) at n (record r { mode = mode.InMessage act place.Label }) ≡ in_message act (labelled_by (place_of l r.labels) l at r.labels) r
+label_fed : (dia : Dialect) (l : List ℕ) (act : ℕ) (at : ℕ) (n : Lexeme) (r : Reader_data) → feed_sign (feeding dia) (word_sign l) at n (record r { mode = mode.InMessage act place.Label }) ≡ in_message act (feed_label_number (place_of l r.labels) l at r.labels) r
 label_fed dia l act at n r =
     let here : Mode = mode.InMessage act place.Label in
     word_fed (feeding dia) (word_sign l) l at n (record r { mode = here }) (label_seen l)
     ∙ ap (λ z. in_message act (feed_label wanted.Label z at r.labels) (record r { mode = here })) (label_seen l)
-    ∙ message_same act (labelled_by (place_of l r.labels) l at r.labels) r here
+    ∙ message_same act (feed_label_number (place_of l r.labels) l at r.labels) r here
 
 -- the label of an arm is taken where there is room for it
 pub label_leads : (dia : Dialect) (E : TextKind → Type 0) (l : List ℕ) (act : ℕ) (at : ℕ) (n : Lexeme) (r : Reader_data) (Q : Reader_data → Type 0) → (has_room l r.labels ≡ false → E kind.TooManyLabels)
     → (has_room l r.labels ≡ true → (k : ℕ) → place_of l (names_with r.labels (l ∷ [])) ≡ Some k → Q (record r { labels = names_with r.labels (l ∷ []); mode = mode.InMessage act (place.Paren (label_of_number k)) }))
     → LandsOr E (feed_sign (feeding dia) (word_sign l) at n (record r { mode = mode.InMessage act place.Label })) Q
 label_leads dia E l act at n r Q f h = subst (λ (x : Fed). LandsOr E x Q) (sym (label_fed dia l act at n r))
-    (message_leads E act (labelled_by (place_of l r.labels) l at r.labels) r Q (labelled_lands E (λ m. LandsOr E (in_message act (Ok m) r) Q) (place_of l r.labels) l at r.labels refl f h))
+    (message_leads E act (feed_label_number (place_of l r.labels) l at r.labels) r Q (labelled_lands E (λ m. LandsOr E (in_message act (Ok m) r) Q) (place_of l r.labels) l at r.labels refl f h))
 
 pub label_lands : (dia : Dialect) (l : List ℕ) (act : ℕ) (at : ℕ) (n : Lexeme) (r : Reader_data) (Q : Reader_data → Type 0) → ((k : Label) → Q (record r { labels = names_with r.labels (l ∷ []); mode = mode.InMessage act (place.Paren k) }))
     → Lands (feed_sign (feeding dia) (word_sign l) at n (record r { mode = mode.InMessage act place.Label })) Q
@@ -149,7 +149,7 @@ pub sort_leads : (dia : Dialect) (E : TextKind → Type 0) (s : Option Sort) (ac
     → LeadsOr (feeding dia) E (open_paren ∷ (sort_signs s ++ close_paren ∷ ts)) u Q (record r { mode = mode.InMessage act (place.Paren label) })
 sort_leads dia E None act label r ts u Q h = λ a f n. λ a f n. h
 sort_leads dia E (Some s) act label r ts u Q h = λ a f n. λ a f n.
-    subst (λ (o : Option Sort). LandsOr E (in_message act (sorted_by o label a r.labels) (record r { mode = mode.InMessage act (place.Sort label) })) (λ d. LeadsOr (feeding dia) E (close_paren ∷ ts) u Q d)) (sym (sort_seen s)) (λ a f n. h)
+    subst (λ (o : Option Sort). LandsOr E (in_message act (feed_sort_word o label a r.labels) (record r { mode = mode.InMessage act (place.Sort label) })) (λ d. LeadsOr (feeding dia) E (close_paren ∷ ts) u Q d)) (sym (sort_seen s)) (λ a f n. h)
 
 pub dot_leads : (dia : Dialect) (E : TextKind → Type 0) (s : Option Sort) (act : ℕ) (label : Label) (r : Reader_data) (ts : List Sign) (u : Sign) (Q : Reader_data → Type 0) → LeadsOr (feeding dia) E ts u Q (record r { mode = mode.Body (link.OfArm act label (sort_or_unit s)) })
     → LeadsOr (feeding dia) E (open_paren ∷ ((sort_signs s ++ close_paren ∷ dot ∷ []) ++ ts)) u Q (record r { mode = mode.InMessage act (place.Paren label) })
@@ -161,15 +161,15 @@ pub arm_passes : (dia : Dialect) (l : List ℕ) (s : Option Sort) (act : ℕ) (r
 arm_passes dia l s act r ts u Q h = λ a f n. label_lands dia l act a _ r (λ d. Leads (feeding dia) (open_paren ∷ ((sort_signs s ++ close_paren ∷ dot ∷ []) ++ ts)) u Q d)
     (λ k. dot_leads dia NotExpected s act k (record r { labels = names_with r.labels (l ∷ []) }) ts u Q (h k (sort_or_unit s)))
 
-arms_fed : (act : ℕ) (t : Sign) (l : List ℕ) (at : ℕ) (r : Reader_data) → word_text t ≡ Some l → feed_arms Acts act t at r ≡ in_message act (labelled_by (place_of l r.labels) l at r.labels) r
+arms_fed : (act : ℕ) (t : Sign) (l : List ℕ) (at : ℕ) (r : Reader_data) → word_text t ≡ Some l → feed_arms Acts act t at r ≡ in_message act (feed_label_number (place_of l r.labels) l at r.labels) r
 arms_fed act open_brace l at r h = absurd (cc h)
 arms_fed act t l at r h = ap (λ z. in_message act (feed_label wanted.LabelOrBrace z at r.labels) r) h
 
 -- a single arm behind a head
-label_moves : (l : List ℕ) (act at : ℕ) (n : Lexeme) (r : Reader_data) → feed_sign (feeding Acts) (word_sign l) at n (record r { mode = mode.AtArms act }) ≡ in_message act (labelled_by (place_of l r.labels) l at r.labels) r
+label_moves : (l : List ℕ) (act at : ℕ) (n : Lexeme) (r : Reader_data) → feed_sign (feeding Acts) (word_sign l) at n (record r { mode = mode.AtArms act }) ≡ in_message act (feed_label_number (place_of l r.labels) l at r.labels) r
 label_moves l act at n r =
     word_fed (feeding Acts) (word_sign l) l at n (record r { mode = mode.AtArms act }) (label_seen l) ∙ arms_fed act (word_sign l) l at (record r { mode = mode.AtArms act }) (label_seen l)
-    ∙ message_same act (labelled_by (place_of l r.labels) l at r.labels) r (mode.AtArms act)
+    ∙ message_same act (feed_label_number (place_of l r.labels) l at r.labels) r (mode.AtArms act)
 
 pub lone_leads : (dia : Dialect) (E : TextKind → Type 0) (act : ℕ) (l : List ℕ) (ts : List Sign) (r : Reader_data) (u : Sign) (Q : Reader_data → Type 0) → LeadsOr (feeding dia) E (word_sign l ∷ ts) u Q (record r { mode = mode.InMessage act place.Label })
     → LeadsOr (feeding dia) E (lone_signs dia ++ (word_sign l ∷ ts)) u Q (record r { mode = mode.AtArms act })

@@ -26,7 +26,7 @@ use Rattle.rs_text.proofs.Naming.{among, not_among}
 use Rattle.rs_text.specs.Seen.{sort_named}
 use Rattle.rs_text.specs.declared.messages.MessagePlace.{MessagePlace}
 use Rattle.rs_text.specs.declared.messages.MessagePlace.TheVariants as place
-use Rattle.rs_text.specs.Messages.{goes_on, label_of_number, labelled_by, sorted_by, feed_sort}
+use Rattle.rs_text.specs.Messages.{goes_on, label_of_number, feed_label_number, feed_sort_word, feed_sort}
 use Rattle.rs_bodies.specs.Dialects.{turns, most}
 use Rattle.rs_bodies.specs.Data.{Reader_data}
 use Rattle.rs_bodies.specs.Trees.{ends_a_name}
@@ -137,10 +137,10 @@ room_step dia true act labels p w t at n r h = misplaced dia w (Some kind.TooMan
 room_step dia false act labels p w t at n r h = (h, refl)
 
 labelled_step : (dia : Dialect) (found : Option ℕ) (act : ℕ) (word : List ℕ) (w : Wanted) (t : Sign) (at : ℕ) (n : Lexeme) (r : Reader_data) → takes w t ≡ true → place_of word r.labels ≡ found
-    → Steps dia w (if is_among word r.labels then None else if nat_le 256 (length r.labels) then Some kind.TooManyLabels else None) t at n (in_message act (labelled_by found word at r.labels) r)
+    → Steps dia w (if is_among word r.labels then None else if nat_le 256 (length r.labels) then Some kind.TooManyLabels else None) t at n (in_message act (feed_label_number found word at r.labels) r)
 labelled_step dia (Some k) act word w t at n r h e = (h, ap (λ z. if z then None else if nat_le 256 (length r.labels) then Some kind.TooManyLabels else None) (among r.labels word 0 k e))
 labelled_step dia None act word w t at n r h e =
-    subst (λ (z : Bool). Steps dia w (if z then None else if nat_le 256 (length r.labels) then Some kind.TooManyLabels else None) t at n (in_message act (labelled_by None word at r.labels) r)) (sym (not_among r.labels word 0 e))
+    subst (λ (z : Bool). Steps dia w (if z then None else if nat_le 256 (length r.labels) then Some kind.TooManyLabels else None) t at n (in_message act (feed_label_number None word at r.labels) r)) (sym (not_among r.labels word 0 e))
     (room_step dia (nat_le 256 (length r.labels)) act (r.labels ++ word ∷ []) (place.Paren (label_of_number (length r.labels))) w t at n r h)
 
 label_step : (dia : Dialect) (act : ℕ) (t : Sign) (at : ℕ) (n : Lexeme) (r : Reader_data) → Steps dia wanted.Label (fault_seen dia (mode.InMessage act place.Label) t n.sign r) t at n (feed_at dia (mode.InMessage act place.Label) t at n r)
@@ -168,7 +168,7 @@ received_step : (dia : Dialect) (found : Option ℕ) (word : List ℕ) (from : L
 received_step dia None word from p at n r e room = misplaced dia wanted.Role (fault_of_role word r.roles) (plain word) at n kind.UnknownRole refl tt (ap (λ z. if z then None else Some kind.UnknownRole) (not_among r.roles word 0 e))
 received_step dia (Some k) word from p at n r e room = headed_if dia (nat_le (most dia) (length r.drafts)) (plain word) (fault_of_role word r.roles) at n (head.Talk p (record { 0 = k })) from r room refl (ap (λ z. if z then None else Some kind.UnknownRole) (among r.roles word 0 k e))
 
-sorted_step : (dia : Dialect) (found : Option Sort) (act : ℕ) (label : Label) (t : Sign) (at : ℕ) (n : Lexeme) (r : Reader_data) → takes wanted.SortOrCloseParen t ≡ is_some found → Steps dia wanted.SortOrCloseParen None t at n (in_message act (sorted_by found label at r.labels) r)
+sorted_step : (dia : Dialect) (found : Option Sort) (act : ℕ) (label : Label) (t : Sign) (at : ℕ) (n : Lexeme) (r : Reader_data) → takes wanted.SortOrCloseParen t ≡ is_some found → Steps dia wanted.SortOrCloseParen None t at n (in_message act (feed_sort_word found label at r.labels) r)
 sorted_step dia None act label t at n r h = unexpected dia wanted.SortOrCloseParen t at n h
 sorted_step dia (Some s) act label t at n r h = (h, refl)
 

@@ -20,7 +20,7 @@ use Rattle.rs_text.specs.Signs.{Sign, rec_word, end_word, plain, bang, question,
 use Rattle.rs_text.proofs.Leading.{LandsOr}
 use Rattle.rs_text.proofs.MessageLaws.{labelled_lands}
 use Rattle.rs_text.proofs.Naming.{grown_append}
-use Rattle.rs_text.specs.Messages.{Message, labelled_by, sorted_by, feed_label}
+use Rattle.rs_text.specs.Messages.{Message, feed_label_number, feed_sort_word, feed_label}
 use Rattle.rs_text.specs.declared.messages.MessagePlace.TheVariants as place
 use Rattle.rs_bodies.specs.Data.{Reader_data}
 use Rattle.rs_bodies.specs.Faults.{opens_arm, label_there, labels_among}
@@ -64,10 +64,10 @@ take_message : (act : ℕ) (x : Result Message TextFault) (r : Reader_data) (Q :
 take_message act (Ok m) r Q h = h
 take_message act (Err e) r Q h = tt
 
-take_labelled : (act : ℕ) (word : List ℕ) (at : ℕ) (r : Reader_data) → IfOk (in_message act (labelled_by (place_of word r.labels) word at r.labels) r) (λ d. (d.labels ≡ names_with r.labels (word ∷ [])) × (at_arm d.mode ≡ false) × (is_of_talks d.mode ≡ false) × (d.roles ≡ r.roles))
+take_labelled : (act : ℕ) (word : List ℕ) (at : ℕ) (r : Reader_data) → IfOk (in_message act (feed_label_number (place_of word r.labels) word at r.labels) r) (λ d. (d.labels ≡ names_with r.labels (word ∷ [])) × (at_arm d.mode ≡ false) × (is_of_talks d.mode ≡ false) × (d.roles ≡ r.roles))
 take_labelled act word at r =
     let Q : Reader_data → Type 0 = λ d. (d.labels ≡ names_with r.labels (word ∷ [])) × (at_arm d.mode ≡ false) × (is_of_talks d.mode ≡ false) × (d.roles ≡ r.roles) in
-    take_message act (labelled_by (place_of word r.labels) word at r.labels) r Q (labelled_lands (λ k. Unit {0}) (λ m. IfOk (in_message act (Ok m) r) Q) (place_of word r.labels) word at r.labels refl (λ full. tt) (λ room k e. (refl, refl, refl, refl)))
+    take_message act (feed_label_number (place_of word r.labels) word at r.labels) r Q (labelled_lands (λ k. Unit {0}) (λ m. IfOk (in_message act (Ok m) r) Q) (place_of word r.labels) word at r.labels refl (λ full. tt) (λ room k e. (refl, refl, refl, refl)))
 
 take_label : (act : ℕ) (w : Wanted) (t : Sign) (at : ℕ) (r : Reader_data) → IfOk (in_message act (feed_label w (word_text t) at r.labels) r) (TakesAt (mode.InMessage act place.Label) t r)
 take_label act w rec_word at r = take_labelled act (codes "rec") at r
@@ -116,7 +116,7 @@ take_next (f ∷ fs) comma at r = (refl, refl, refl, refl)
 take_next (f ∷ fs) close_brace at r = (refl, refl, refl, refl)
 take_next (f ∷ fs) _ at r = tt
 
-take_sorted : (found : Option Sort) (w : List ℕ) (act : ℕ) (l : Label) (at : ℕ) (r : Reader_data) → IfOk (in_message act (sorted_by found l at r.labels) r) (TakesAt (mode.InMessage act (place.Sort l)) (plain w) r)
+take_sorted : (found : Option Sort) (w : List ℕ) (act : ℕ) (l : Label) (at : ℕ) (r : Reader_data) → IfOk (in_message act (feed_sort_word found l at r.labels) r) (TakesAt (mode.InMessage act (place.Sort l)) (plain w) r)
 take_sorted None w act l at r = tt
 take_sorted (Some s) w act l at r = (refl, refl, refl, refl)
 

@@ -24,7 +24,7 @@ use Rattle.rs_text.specs.Seen.{plain_text, word_text, sort_named}
 use Rattle.rs_text.specs.Signs.{Sign, plain, open_paren, close_paren}
 use Rattle.rs_text.specs.declared.messages.MessagePlace.{MessagePlace}
 use Rattle.rs_text.specs.declared.messages.MessagePlace.TheVariants as place
-use Rattle.rs_text.specs.Messages.{goes_on, label_of_number, labelled_by, feed_label, feed_paren, sorted_by, feed_sort, feed_close}
+use Rattle.rs_text.specs.Messages.{goes_on, label_of_number, feed_label_number, feed_label, feed_paren, feed_sort_word, feed_sort, feed_close}
 use Rattle.rs_text.proofs.Naming.{among, not_among, place_of_new, place_stays, grown_append, grown_among, absent_by}
 use Rattle.rs_text.proofs.Basics.{both, or_first}
 use Rattle.rs_derivations.specs.declared.reading.Mode.{Mode}
@@ -246,7 +246,7 @@ label_room old p k at true d labels x r e = refl
 label_room old p k at false d labels x r e = ap good e
 
 label_told : (old : Names_data) (x : List ℕ) (b : ℕ) (ns : List NodeTree) (s : ℕ) (acts : List ActTree) (p : List ℕ) (k : Kind) (w : List ℕ) (at : ℕ) (o : Option ℕ) → place_of w (names_with old.labels (labels_of_nodes ns ++ labels_of_acts acts)) ≡ o
-    → in_message (role_named old p) k (labelled_by o w at (names_with old.labels (labels_of_nodes ns ++ labels_of_acts acts))) (stand old (in_nodes x b ns (in_act s acts (behind_mark p k)))) ≡ told old (Some (in_nodes x b ns (in_act s acts (behind_label p k w)))) (fault_of_label (names_with old.labels (labels_of_nodes ns ++ labels_of_acts acts)) (Some w)) wanted.Label at
+    → in_message (role_named old p) k (feed_label_number o w at (names_with old.labels (labels_of_nodes ns ++ labels_of_acts acts))) (stand old (in_nodes x b ns (in_act s acts (behind_mark p k)))) ≡ told old (Some (in_nodes x b ns (in_act s acts (behind_label p k w)))) (fault_of_label (names_with old.labels (labels_of_nodes ns ++ labels_of_acts acts)) (Some w)) wanted.Label at
 label_told old x b ns s acts p k w at (Some n) e =
     let labels : List (List ℕ) = names_with old.labels (labels_of_nodes ns ++ labels_of_acts acts) in
     let there : is_among w labels ≡ true = among labels w 0 n e in
@@ -348,7 +348,7 @@ paren_told old x b ns s acts p k l open_paren at = refl
 paren_told old x b ns s acts p k l _ at = refl
 
 sorted_told : (old : Names_data) (x : List ℕ) (b : ℕ) (ns : List NodeTree) (s : ℕ) (acts : List ActTree) (p : List ℕ) (k : Kind) (l : List ℕ) (at : ℕ) (o : Option Sort) → let r : Reader_data = stand old (in_nodes x b ns (in_act s acts (behind_paren p k l))) in
-    in_message (role_named old p) k (sorted_by o (label_there old ns acts l) at r.labels) r ≡ told old (option_map (grown_to x b ns) (sorted_step s acts p k l o)) None wanted.SortOrCloseParen at
+    in_message (role_named old p) k (feed_sort_word o (label_there old ns acts l) at r.labels) r ≡ told old (option_map (grown_to x b ns) (sorted_step s acts p k l o)) None wanted.SortOrCloseParen at
 sorted_told old x b ns s acts p k l at None = refl
 sorted_told old x b ns s acts p k l at (Some q) = refl
 

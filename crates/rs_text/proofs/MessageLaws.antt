@@ -16,7 +16,7 @@ use Rattle.rs_text.specs.declared.messages.MessagePlace.{MessagePlace}
 use Rattle.rs_text.specs.declared.messages.MessagePlace.TheVariants as place
 use Rattle.rs_text.specs.Arms.{sort_text}
 use Rattle.rs_text.specs.Lexemes.{Lexeme}
-use Rattle.rs_text.specs.Messages.{Message, goes_on, ends, Fed, label_of_number, labelled_by, feed_label, sorted_by, feed_message}
+use Rattle.rs_text.specs.Messages.{Message, goes_on, ends, Fed, label_of_number, feed_label_number, feed_label, feed_sort_word, feed_message}
 use Rattle.rs_text.specs.Names.{place_of, names_with, is_among, differ}
 use Rattle.rs_text.specs.Readings.{Automaton, feed_sign, fault}
 use Rattle.rs_text.specs.Seen.{word_text, sort_named}
@@ -66,7 +66,7 @@ below_if : (n : ℕ) (c : Bool) (k : TextKind) (at : ℕ) (x : Fed) → at ≤ n
 below_if n true k at x h g = h
 below_if n false k at x h g = g
 
-labelled_below : (n : ℕ) (o : Option ℕ) (w : List ℕ) (at : ℕ) (labels : List (List ℕ)) → at ≤ n → IfErr (labelled_by o w at labels) (Below n)
+labelled_below : (n : ℕ) (o : Option ℕ) (w : List ℕ) (at : ℕ) (labels : List (List ℕ)) → at ≤ n → IfErr (feed_label_number o w at labels) (Below n)
 labelled_below n (Some k) w at labels h = tt
 labelled_below n None w at labels h = below_if n (nat_le MOST_LABELS (length labels)) kind.TooManyLabels at _ h tt
 
@@ -75,7 +75,7 @@ pub label_below : (n : ℕ) (v : Wanted) (o : Option (List ℕ)) (at : ℕ) (lab
 label_below n v None at labels h = h
 label_below n v (Some w) at labels h = labelled_below n (place_of w labels) w at labels h
 
-sorted_below : (n : ℕ) (o : Option Sort) (l : Label) (at : ℕ) (labels : List (List ℕ)) → at ≤ n → IfErr (sorted_by o l at labels) (Below n)
+sorted_below : (n : ℕ) (o : Option Sort) (l : Label) (at : ℕ) (labels : List (List ℕ)) → at ≤ n → IfErr (feed_sort_word o l at labels) (Below n)
 sorted_below n None l at labels h = h
 sorted_below n (Some s) l at labels h = tt
 
@@ -101,7 +101,7 @@ room_if false E Q at m f h = h refl
 
 -- the label lands among the labels that were there with it, or there is no room
 pub labelled_lands : (E : TextKind → Type 0) (Q : Message → Type 0) (found : Option ℕ) (l : List ℕ) (at : ℕ) (labels : List (List ℕ)) → place_of l labels ≡ found → (has_room l labels ≡ false → E kind.TooManyLabels)
-    → (has_room l labels ≡ true → (k : ℕ) → place_of l (names_with labels (l ∷ [])) ≡ Some k → Q (goes_on (names_with labels (l ∷ [])) (place.Paren (label_of_number k)))) → LandsOr E (labelled_by found l at labels) Q
+    → (has_room l labels ≡ true → (k : ℕ) → place_of l (names_with labels (l ∷ [])) ≡ Some k → Q (goes_on (names_with labels (l ∷ [])) (place.Paren (label_of_number k)))) → LandsOr E (feed_label_number found l at labels) Q
 labelled_lands E Q (Some k) l at labels e f h =
     let same : names_with labels (l ∷ []) ≡ labels = grown_old labels l k e in
     let room : has_room l labels ≡ true = ap (λ z. z || nat_lt (length labels) MOST_LABELS) (among labels l 0 k e) in
@@ -144,7 +144,7 @@ new_good false old labels w at p e k g = record {
   words = new_all is_word labels w e g.words k;
 }
 
-labelled_good : (old labels : List (List ℕ)) (o : Option ℕ) (w : List ℕ) (at : ℕ) → place_of w labels ≡ o → is_word w ≡ true → GoodLabels old labels → IfOk (labelled_by o w at labels) (GoodBehind old labels)
+labelled_good : (old labels : List (List ℕ)) (o : Option ℕ) (w : List ℕ) (at : ℕ) → place_of w labels ≡ o → is_word w ≡ true → GoodLabels old labels → IfOk (feed_label_number o w at labels) (GoodBehind old labels)
 labelled_good old labels (Some k) w at e f g = g
 labelled_good old labels None w at e f g = new_good (nat_le MOST_LABELS (length labels)) old labels w at _ (not_among labels w 0 e) f g
 
@@ -156,7 +156,7 @@ named_good old labels v (Some w) at k g = labelled_good old labels (place_of w l
 pub label_good : (old labels : List (List ℕ)) (v : Wanted) (t : Sign) (at : ℕ) → IsNamed t → GoodLabels old labels → IfOk (feed_label v (word_text t) at labels) (GoodBehind old labels)
 label_good old labels v t at n g = named_good old labels v (word_text t) at (word_named t n) g
 
-sorted_good : (old labels : List (List ℕ)) (o : Option Sort) (l : Label) (at : ℕ) → GoodLabels old labels → IfOk (sorted_by o l at labels) (GoodBehind old labels)
+sorted_good : (old labels : List (List ℕ)) (o : Option Sort) (l : Label) (at : ℕ) → GoodLabels old labels → IfOk (feed_sort_word o l at labels) (GoodBehind old labels)
 sorted_good old labels None l at g = tt
 sorted_good old labels (Some s) l at g = g
 

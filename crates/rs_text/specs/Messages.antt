@@ -32,14 +32,14 @@ abbrev pub label_of_number : ℕ → Label
 label_of_number k = record { 0 = k }
 
 -- the label k, or a new one, where there is room for one more
-abbrev pub labelled_by : Option ℕ → List ℕ → ℕ → List (List ℕ) → Fed
-labelled_by (Some k) word at labels = Ok (goes_on labels (place.Paren (label_of_number k)))
-labelled_by None word at labels = if nat_le MOST_LABELS (length labels) then fault kind.TooManyLabels at else Ok (goes_on (labels ++ word ∷ []) (place.Paren (label_of_number (length labels))))
+abbrev pub feed_label_number : Option ℕ → List ℕ → ℕ → List (List ℕ) → Fed
+feed_label_number (Some k) word at labels = Ok (goes_on labels (place.Paren (label_of_number k)))
+feed_label_number None word at labels = if nat_le MOST_LABELS (length labels) then fault kind.TooManyLabels at else Ok (goes_on (labels ++ word ∷ []) (place.Paren (label_of_number (length labels))))
 
 -- the label
 abbrev pub feed_label : Wanted → Option (List ℕ) → ℕ → List (List ℕ) → Fed
 feed_label w None at labels = expected w at
-feed_label w (Some word) at labels = labelled_by (place_of word labels) word at labels
+feed_label w (Some word) at labels = feed_label_number (place_of word labels) word at labels
 
 -- the open parenthesis behind the label
 abbrev pub feed_paren : Label → Sign → ℕ → List (List ℕ) → Fed
@@ -47,14 +47,14 @@ feed_paren label open_paren at labels = Ok (goes_on labels (place.Sort label))
 feed_paren label _ at labels = expected wanted.OpenParen at
 
 -- the sort that a word names, where it names one
-abbrev pub sorted_by : Option Sort → Label → ℕ → List (List ℕ) → Fed
-sorted_by None label at labels = expected wanted.SortOrCloseParen at
-sorted_by (Some s) label at labels = Ok (goes_on labels (place.Close label s))
+abbrev pub feed_sort_word : Option Sort → Label → ℕ → List (List ℕ) → Fed
+feed_sort_word None label at labels = expected wanted.SortOrCloseParen at
+feed_sort_word (Some s) label at labels = Ok (goes_on labels (place.Close label s))
 
 -- the sort, or the close parenthesis where there is none
 abbrev pub feed_sort : Label → Sign → ℕ → List (List ℕ) → Fed
 feed_sort label close_paren at labels = Ok (ends label sort.Unit)
-feed_sort label (plain word) at labels = sorted_by (sort_named word) label at labels
+feed_sort label (plain word) at labels = feed_sort_word (sort_named word) label at labels
 feed_sort label _ at labels = expected wanted.SortOrCloseParen at
 
 -- the close parenthesis behind the sort

@@ -92,8 +92,8 @@ fn label_named(labels: &NameTable, word: &[u8]) -> Option<Label>
 
 fn new_label(word: &[u8], at: usize, alloc: Global, labels: &mut NameTable) -> Result<Label, Stop>
     requires room { length labels.old ≤ MOST_LABELS }
-    ensures ok { IfOk result (λ label. spec.labelled_by None word.now at labels.old ≡ Ok (spec.goes_on labels.new (MessagePlace.Paren label))) }
-    ensures err { IfErr result (λ e. Fails e (spec.labelled_by None word.now at labels.old)) }
+    ensures ok { IfOk result (λ label. spec.feed_label_number None word.now at labels.old ≡ Ok (spec.goes_on labels.new (MessagePlace.Paren label))) }
+    ensures err { IfErr result (λ e. Fails e (spec.feed_label_number None word.now at labels.old)) }
     ensures kept { OnErr result (labels.new ≡ labels.old) }
     ensures few { length labels.new ≤ MOST_LABELS }
 {
@@ -129,7 +129,7 @@ fn sort(label: Label, token: &TextToken) -> Result<MessageStep, Stop>
 }
 
 fn sort_word(label: Label, word: &[u8], at: usize) -> Result<MessageStep, Stop>
-    ensures { (labels : List (List ℕ)) → spec.Feeds result (spec.sorted_by (sort_named word.now) label at labels) labels labels }
+    ensures { (labels : List (List ℕ)) → spec.Feeds result (spec.feed_sort_word (sort_named word.now) label at labels) labels labels }
 {
     let Some(sort) = seen::sort(word) else {
         return expected(Wanted::SortOrCloseParen, at);
