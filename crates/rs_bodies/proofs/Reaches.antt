@@ -12,7 +12,7 @@ use Rattle.rs_bodies.specs.declared.places.Place.TheVariants as place
 use Rattle.rs_bodies.specs.declared.shapes.Trail.{Trail}
 use Rattle.rs_bodies.specs.declared.shapes.Walk.{Walk}
 use Rattle.rs_bodies.specs.Data.{Point_data}
-use Rattle.rs_bodies.specs.Shapes.{leads_to, place_leads, leads_from, number_of_end, walk_behind_next, or_none, walk_behind_arms, closed, nesting_within, deeper, are_more, is_fit, one_more, Outline, walk_behind_place, walk_behind_head, start_of_walk, is_whole, walk_from, reach_of, reaches_behind_arms, reaches_behind_place, there_reached, reaches_behind_places, AreReaches, IsTrailOf, outline}
+use Rattle.rs_bodies.specs.Shapes.{leads_to, place_leads, leads_from, number_of_end, walk_behind_next, or_none, walk_behind_arms, walk_where_closed, nesting_within, deeper, are_more, is_fit, one_more, Outline, walk_behind_place, walk_behind_head, start_of_walk, is_whole, walk_from, reach_of, reaches_behind_arms, reaches_behind_place, there_reached, reaches_behind_places, AreReaches, IsTrailOf, outline}
 
 set_reach : (reaches : List ℕ) (i n k : ℕ) → k < length reaches → reach_of (set reaches i n) k ≡ (if i == k then n else reach_of reaches k)
 set_reach reaches i n k lt = elim (eqb_tells i k) [
@@ -120,8 +120,8 @@ pub nested_is : (places : List Place) (trail : Trail) (depth n : ℕ) (arms : Li
 nested_is places trail depth n arms t lt = ap (λ z. deeper (are_more arms) (deeper z depth)) (sym (t.reaches n n (subst (λ (z : ℕ). n < z) (sym t.room) lt)))
 
 fit_met : (visit : ℕ → ℕ → Walk → Option Walk) (dia : Dialect) (o : Outline) (depth n : ℕ) (w : Walk) (p : Point_data) → is_fit dia o.roles (nesting_within o.places depth n p.arms) p ≡ true
-    → walk_behind_place visit dia o depth n w (Some (place.Point p)) ≡ or_none (closed o.places n) (walk_behind_arms (visit (nesting_within o.places depth n p.arms)) (number_of_end o.places) (suc n) p.arms (one_more w))
-fit_met visit dia o depth n w p fit = ap (λ z. if z then or_none (closed o.places n) (walk_behind_arms (visit (nesting_within o.places depth n p.arms)) (number_of_end o.places) (suc n) p.arms (one_more w)) else None) fit
+    → walk_behind_place visit dia o depth n w (Some (place.Point p)) ≡ or_none (walk_where_closed o.places n) (walk_behind_arms (visit (nesting_within o.places depth n p.arms)) (number_of_end o.places) (suc n) p.arms (one_more w))
+fit_met visit dia o depth n w p fit = ap (λ z. if z then or_none (walk_where_closed o.places n) (walk_behind_arms (visit (nesting_within o.places depth n p.arms)) (number_of_end o.places) (suc n) p.arms (one_more w)) else None) fit
 
 pub begun_is : (w : Walk) (k : ℕ) → k ≡ suc w.count → record w { count = k } ≡ one_more w
 begun_is w k e = ap (λ z. record w { count = z }) e
@@ -133,8 +133,8 @@ point_goes places trail fuel depth n inner next arms w begun v p r t lt same one
     let visit : ℕ → ℕ → Walk → Option Walk = λ inner next v. walk_behind_head fuel trail.dialect (outline places trail) inner next v in
     let nesting : inner ≡ nesting_within places depth n p.arms = deep ∙ ap (nesting_within places depth n) same in
     e ∙ ap (λ z. if z then None else Some v) (sym (t.reaches v.count n (subst (λ (z : ℕ). n < z) (sym t.room) lt)))
-    ∙ ap (or_none (closed places n)) (goes ∙ ap (λ z. walk_behind_arms (visit inner) (number_of_end places) z arms begun) one ∙ ap (λ z. walk_behind_arms (visit inner) (number_of_end places) (suc n) z begun) same ∙ ap (walk_behind_arms (visit inner) (number_of_end places) (suc n) p.arms) more)
-    ∙ ap (λ z. or_none (closed places n) (walk_behind_arms (visit z) (number_of_end places) (suc n) p.arms (one_more w))) nesting
+    ∙ ap (or_none (walk_where_closed places n)) (goes ∙ ap (λ z. walk_behind_arms (visit inner) (number_of_end places) z arms begun) one ∙ ap (λ z. walk_behind_arms (visit inner) (number_of_end places) (suc n) z begun) same ∙ ap (walk_behind_arms (visit inner) (number_of_end places) (suc n) p.arms) more)
+    ∙ ap (λ z. or_none (walk_where_closed places n) (walk_behind_arms (visit z) (number_of_end places) (suc n) p.arms (one_more w))) nesting
     ∙ sym (fit_met visit trail.dialect (outline places trail) depth n w p (subst (λ (z : ℕ). is_fit trail.dialect trail.roles z p ≡ true) nesting fit))
 
 pub walk_is : (places : List Place) (trail : Trail) (fuel start root labels : ℕ) (b : Bool) (o : Option Walk) → fuel ≡ suc trail.last → trail.last ≡ number_of_end places → start ≡ root → b ≡ is_whole places o → o ≡ walk_behind_next (walk_behind_head fuel trail.dialect (outline places trail) 0) (number_of_end places) 0 start (start_of_walk labels)

@@ -22,7 +22,7 @@ use Rattle.rs_bodies.specs.Graph.{labels_of, labels_of_arms, acts_in, acts_in_ar
 use Rattle.rs_bodies.specs.Places.{choice}
 use Rattle.rs_bodies.specs.Points.{head_of}
 use Rattle.rs_bodies.specs.Scenes.{Scene}
-use Rattle.rs_bodies.specs.Shapes.{place_leads, leads_from, number_of_end, walk_behind_label, walk_behind_next, or_none, walk_behind_arms, closed, deeper, are_more, is_none, nesting_within, is_known, is_fit, one_more, Outline, walk_behind_place, walk_behind_head}
+use Rattle.rs_bodies.specs.Shapes.{place_leads, leads_from, number_of_end, walk_behind_label, walk_behind_next, or_none, walk_behind_arms, walk_where_closed, deeper, are_more, is_none, nesting_within, is_known, is_fit, one_more, Outline, walk_behind_place, walk_behind_head}
 use Rattle.rs_bodies.specs.Trees.{Body, ends, again, binds, acts, offers, Branches, one, more}
 use Rattle.rs_bodies.proofs.Fitting.{Named, NamedArms, Recs, RecsArms, few_labels, fits_labels}
 use Rattle.rs_bodies.proofs.NamesLead.{Low, low_rec, low_up, Ins, ins_rec}
@@ -83,8 +83,8 @@ visit_goes : (dia : Dialect) (p : Outline) (f inner k : ℕ) (h : Head) (arms : 
     → walk_behind_arms (walk_behind_head f dia p (nesting_within p.places inner k arms)) (number_of_end p.places) (suc k) arms (one_more w) ≡ Some u → leads_from p.places u.count k ≡ false → walk_behind_head (suc f) dia p inner k w ≡ Some u
 visit_goes dia p f inner k h arms w u there fit goes free =
     ap (walk_behind_place (λ inner next v. walk_behind_head f dia p inner next v) dia p inner k w) there
-    ∙ ap (λ z. if z then or_none (closed p.places k) (walk_behind_arms (walk_behind_head f dia p (nesting_within p.places inner k arms)) (number_of_end p.places) (suc k) arms (one_more w)) else None) fit
-    ∙ ap (or_none (closed p.places k)) goes ∙ ap (λ z. if z then None else Some u) free
+    ∙ ap (λ z. if z then or_none (walk_where_closed p.places k) (walk_behind_arms (walk_behind_head f dia p (nesting_within p.places inner k arms)) (number_of_end p.places) (suc k) arms (one_more w)) else None) fit
+    ∙ ap (or_none (walk_where_closed p.places k)) goes ∙ ap (λ z. if z then None else Some u) free
 
 one_goes : (visit : ℕ → Walk → Option Walk) (last from : ℕ) (a : Arm) (arms : List Arm) (w v u : Walk) → walk_behind_label a.label.0 w ≡ Some v → walk_behind_next visit last from a.next v ≡ Some u → walk_behind_arms visit last from (a ∷ arms) w ≡ walk_behind_arms visit last from arms u
 one_goes visit last from a arms w v u l h = ap (or_none (λ v. or_none (walk_behind_arms visit last from arms) (walk_behind_next visit last from a.next v))) l ∙ ap (or_none (walk_behind_arms visit last from arms)) h

@@ -30,7 +30,7 @@ use Rattle.rs_bodies.specs.Fits.{is_guarded, has_room_for, head_fits, body_fits,
 use Rattle.rs_bodies.specs.Graph.{labels_of, labels_of_arms, acts_in, acts_in_arms, has_end, has_end_arms, Numbering, role_of, first_of, arm_of, arms_of}
 use Rattle.rs_bodies.specs.Places.{choice, name_of_place}
 use Rattle.rs_bodies.specs.Points.{head_of}
-use Rattle.rs_bodies.specs.Shapes.{leads_to, place_leads, leads_from, number_of_end, walk_behind_label, walk_behind_next, or_none, walk_behind_arms, closed, deeper, are_more, nesting_within, is_known, is_fit, one_more, Outline, walk_behind_place, walk_behind_head, to_end}
+use Rattle.rs_bodies.specs.Shapes.{leads_to, place_leads, leads_from, number_of_end, walk_behind_label, walk_behind_next, or_none, walk_behind_arms, walk_where_closed, deeper, are_more, nesting_within, is_known, is_fit, one_more, Outline, walk_behind_place, walk_behind_head, to_end}
 use Rattle.rs_bodies.specs.Trees.{Body, again, ends, Branches, one, more}
 use Rattle.rs_bodies.specs.Writable.{IsWordInTurn, AreWordsIn, AreWordsInArms}
 use Rattle.rs_bodies.proofs.PlacesIn.{places_in, places_in_arms}
@@ -469,7 +469,7 @@ point_grown : (dia : Dialect) (p : Outline) (bound : Bound) (depth : ℕ) (visit
     → walk_behind_place visit dia p depth w.count w (Some (choice x arms)) ≡ Some u → Grown dia p bound depth w u w.count
 point_grown dia p bound depth visit w u x [] small grows there lt room names h = elim (true_or_false (is_fit dia p.roles (nesting_within p.places depth w.count []) (record { head = x; arms = [] }))) [
   | inl e ↦ absurd (cc (both (is_known dia p.roles x && nat_le (nesting_within p.places depth w.count []) MOST_NESTING) false e).1)
-  | inr e ↦ absurd (not_some u (sym (if_false (is_fit dia p.roles (nesting_within p.places depth w.count []) (record { head = x; arms = [] })) (or_none (closed p.places w.count) (walk_behind_arms (visit (nesting_within p.places depth w.count [])) (number_of_end p.places) (suc w.count) [] (one_more w))) None e) ∙ h))
+  | inr e ↦ absurd (not_some u (sym (if_false (is_fit dia p.roles (nesting_within p.places depth w.count []) (record { head = x; arms = [] })) (or_none (walk_where_closed p.places w.count) (walk_behind_arms (visit (nesting_within p.places depth w.count [])) (number_of_end p.places) (suc w.count) [] (one_more w))) None e) ∙ h))
 ]
 point_grown dia p bound depth visit w u x (a ∷ arms) small grows there lt room names h =
     let n : ℕ = w.count in
@@ -483,8 +483,8 @@ point_grown dia p bound depth visit w u x (a ∷ arms) small grows there lt room
           let q2 = both (is_known dia p.roles x && nat_le inner MOST_NESTING) true e in
           let q1 = both (is_known dia p.roles x) (nat_le inner MOST_NESTING) q2.0 in
           let low : inner ≤ MOST_NESTING = leb-true inner MOST_NESTING q1.1 in
-          let h2 = sym (if_true (is_fit dia p.roles inner (record { head = x; arms = ours })) (or_none (closed p.places n) (walk_behind_arms (visit inner) (number_of_end p.places) (suc n) ours (one_more w))) None e) ∙ h in
-          let y = chained (closed p.places n) (walk_behind_arms (visit inner) (number_of_end p.places) (suc n) ours (one_more w)) u h2 in
+          let h2 = sym (if_true (is_fit dia p.roles inner (record { head = x; arms = ours })) (or_none (walk_where_closed p.places n) (walk_behind_arms (visit inner) (number_of_end p.places) (suc n) ours (one_more w))) None e) ∙ h in
+          let y = chained (walk_where_closed p.places n) (walk_behind_arms (visit inner) (number_of_end p.places) (suc n) ours (one_more w)) u h2 in
           let named : (v : ℕ) → v < suc n → leads_from p.places n v ≡ true → nearest_binding (name_of_place v) outer ≡ Some v =
           λ v le lead. opened_names c n v bound (omega arith) (omega arith) (λ ne. names v (omega arith) lead) (λ same. ap (λ z. leads_from p.places n z) (sym same) ∙ lead) in
           let g : GrownArms dia p outer inner (one_more w) y.0 ours =
@@ -495,7 +495,7 @@ point_grown dia p bound depth visit w u x (a ∷ arms) small grows there lt room
                 let same : y.0 ≡ u = some_is y.0 u (sym (if_false (leads_from p.places y.0.count n) None (Some y.0) f) ∙ y.2) in
                 subst (λ (z : Walk). Grown dia p bound depth w z n) same (head_grown dia p bound depth x a arms w y.0 small there q1.0 lt low f g))
           ])
-      | inr e ↦ absurd (not_some u (sym (if_false (is_fit dia p.roles inner (record { head = x; arms = ours })) (or_none (closed p.places n) (walk_behind_arms (visit inner) (number_of_end p.places) (suc n) ours (one_more w))) None e) ∙ h))
+      | inr e ↦ absurd (not_some u (sym (if_false (is_fit dia p.roles inner (record { head = x; arms = ours })) (or_none (walk_where_closed p.places n) (walk_behind_arms (visit inner) (number_of_end p.places) (suc n) ours (one_more w))) None e) ∙ h))
     ]
 
 place_grown : (dia : Dialect) (p : Outline) (bound : Bound) (depth : ℕ) (visit : ℕ → ℕ → Walk → Option Walk) (w u : Walk) (o : Option Place) → Small dia p → ((outer : Bound) (inner : ℕ) → inner ≤ MOST_NESTING → Grows dia p outer inner (visit inner)) → slice_get p.places w.count ≡ o → w.count < number_of_end p.places → w.labels ≤ MOST_LABELS → Bounded p bound w.count

@@ -68,8 +68,8 @@ walk_behind_arms visit last from [] w = Some w
 walk_behind_arms visit last from (a ∷ arms) w = or_none (λ v. or_none (walk_behind_arms visit last from arms) (walk_behind_next visit last from a.next v)) (walk_behind_label a.label.0 w)
 
 -- no later arm leads back to the head
-abbrev pub closed : List Place → ℕ → Walk → Option Walk
-closed places n w = if leads_from places w.count n then None else Some w
+abbrev pub walk_where_closed : List Place → ℕ → Walk → Option Walk
+walk_where_closed places n w = if leads_from places w.count n then None else Some w
 
 -- the nesting, one deeper where that is so
 abbrev pub deeper : Bool → ℕ → ℕ
@@ -116,7 +116,7 @@ abbrev pub walk_behind_place : (visit : ℕ → ℕ → Walk → Option Walk) �
 walk_behind_place visit dia o depth n w None = None
 walk_behind_place visit dia o depth n w (Some place.End) = None
 walk_behind_place visit dia o depth n w (Some (place.Point p)) =
-    if is_fit dia o.roles (nesting_within o.places depth n p.arms) p then or_none (closed o.places n) (walk_behind_arms (visit (nesting_within o.places depth n p.arms)) (number_of_end o.places) (suc n) p.arms (one_more w)) else None
+    if is_fit dia o.roles (nesting_within o.places depth n p.arms) p then or_none (walk_where_closed o.places n) (walk_behind_arms (visit (nesting_within o.places depth n p.arms)) (number_of_end o.places) (suc n) p.arms (one_more w)) else None
 
 -- head n and what stands behind its arms
 abbrev pub walk_behind_head : (fuel : ℕ) → Dialect → Outline → (depth n : ℕ) → Walk → Option Walk

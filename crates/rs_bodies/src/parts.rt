@@ -59,7 +59,7 @@ pub fn read_part(
     names.labels = reader.labels.into_names();
     match result {
         Ok(read) => Ok(read),
-        Err(stop) => Err(stop.told(at)),
+        Err(stop) => Err(stop.into_fault(at)),
     }
 }
 

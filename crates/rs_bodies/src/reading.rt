@@ -268,10 +268,10 @@ impl<'a> Reader<'a> {
             return expected(Wanted::Role, token.from());
         };
         let role = role_named(&self.roles, word);
-        self.played_by(role, token.from())
+        self.set_role(role, token.from())
     }
 
-    fn played_by(&mut self, role: Option<Role>, at: usize) -> Result<(), Stop>
+    fn set_role(&mut self, role: Option<Role>, at: usize) -> Result<(), Stop>
         ensures { spec.Feeds result (spec.role_by (option_map (λ role. role.0) role) at self.old) self.old self.new }
     {
         let Some(role) = role else {
@@ -294,7 +294,7 @@ impl<'a> Reader<'a> {
         }
     }
 
-    fn met_by(
+    fn begin_head(
         &mut self,
         dialect: Dialect,
         from: Link,
@@ -313,7 +313,7 @@ impl<'a> Reader<'a> {
         Ok(())
     }
 
-    fn named(&mut self, from: Link, act: Option<u32>, at: usize) -> Result<(), Stop>
+    fn lead_back(&mut self, from: Link, act: Option<u32>, at: usize) -> Result<(), Stop>
         ensures { spec.Feeds result (spec.feed_bound_name act from at self.old) self.old self.new }
     {
         let Some(act) = act else {
@@ -630,10 +630,10 @@ impl<'a> Reader<'a> {
     {
         if is_turn(dialect, next) {
             let first = role_named(&self.roles, word);
-            self.met_by(dialect, from, first, at)
+            self.begin_head(dialect, from, first, at)
         } else {
             let act = bound_number(self.bound.as_slice(), word);
-            self.named(from, act, at)
+            self.lead_back(from, act, at)
         }
     }
 

@@ -93,7 +93,7 @@ fn difference(a: i64, b: i64) -> i64
 
 impl RingMember {
     /// What it is when the number has come.
-    fn told(self, number: i64) -> RingMember
+    fn with_number(self, number: i64) -> RingMember
         ensures { result ≡ ring_told self number }
     {
         RingMember {
@@ -105,7 +105,7 @@ impl RingMember {
 
 impl ButterflyMember {
     /// What it is when the number has come.
-    fn told(self, number: i64) -> ButterflyMember
+    fn with_number(self, number: i64) -> ButterflyMember
         ensures { result ≡ butterfly_told self number }
     {
         let held = if self.bits % 2 == 0 {
@@ -144,10 +144,11 @@ impl Actor for DemoActor {
                 kernel.piece = Some(inverse_bytes(alloc, bytes.as_slice())?);
             }
             (DemoActor::Sink(sink), Value::Octets(piece)) => sink.append(piece.as_slice())?,
-            (DemoActor::RingMember(member), Value::Whole(number)) => *member = member.told(*number),
-            (DemoActor::ButterflyMember(member), Value::Whole(number)) => *member = member.told(
+            (DemoActor::RingMember(member), Value::Whole(number)) => *member = member.with_number(
                 *number,
             ),
+            (DemoActor::ButterflyMember(member), Value::Whole(number)) => *member =
+                member.with_number(*number),
             _ => {}
         }
         Ok(())

@@ -55,7 +55,7 @@ pub fn read_derivation(
     };
     match result {
         Ok(until) => Ok((derivation, until)),
-        Err(stop) => Err(stop.told(at)),
+        Err(stop) => Err(stop.into_fault(at)),
     }
 }
 

@@ -104,7 +104,7 @@ fn no_node(alloc: Global) -> DNode
     }
 }
 
-fn made(peer: Role, kind: Kind, label: Label, sort: Sort) -> Act
+fn act_of(peer: Role, kind: Kind, label: Label, sort: Sort) -> Act
     ensures { result ≡ act_of_kind kind peer label sort }
 {
     match kind {
@@ -307,10 +307,10 @@ impl<'a> Reader<'a> {
             return expected(Wanted::Role, token.from());
         };
         let role = role_named(self.roles, word);
-        self.played_by(role, token.from())
+        self.set_role(role, token.from())
     }
 
-    fn played_by(&mut self, role: Option<Role>, at: usize) -> Result<(), Stop>
+    fn set_role(&mut self, role: Option<Role>, at: usize) -> Result<(), Stop>
         ensures { spec.Feeds result (spec.feed_derivation_role (option_map (λ role. role.0) role) at self.old) self.old self.new }
     {
         let Some(role) = role else {
@@ -376,10 +376,10 @@ impl<'a> Reader<'a> {
             return self.pass(right, wanted, Mode::AtAbove, token.from());
         };
         let peer = role_named(self.roles, word);
-        self.met_by(peer, token.from())
+        self.begin_pending(peer, token.from())
     }
 
-    fn met_by(&mut self, peer: Option<Role>, at: usize) -> Result<(), Stop>
+    fn begin_pending(&mut self, peer: Option<Role>, at: usize) -> Result<(), Stop>
         ensures { spec.Feeds result (spec.feed_peer (option_map (λ role. role.0) peer) at self.old) self.old self.new }
     {
         let Some(peer) = peer else {
@@ -427,7 +427,7 @@ impl<'a> Reader<'a> {
         ensures err { IfErr result (λ e. e ≡ Stop.Memory) }
         ensures kept { OnErr result (names_read self.new ≡ names_read self.old) }
     {
-        self.node.pending.push(made(peer, kind, label, sort))?;
+        self.node.pending.push(act_of(peer, kind, label, sort))?;
         self.mode = Mode::BehindAct;
         Ok(())
     }

@@ -44,7 +44,7 @@ pub fn read_protocol(
     let roles = names.roles.len() as u8;
     match graph(alloc, roles, spelling) {
         Ok(protocol) => Ok((names, protocol, until)),
-        Err(_) => Err(Stop::Memory.told(at)),
+        Err(_) => Err(Stop::Memory.into_fault(at)),
     }
 }
 

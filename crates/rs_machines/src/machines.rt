@@ -46,7 +46,7 @@ pub fn read_machine(
     let (spelling, until) = read_part(alloc, Dialect::Acts, bytes, at, names)?;
     match machine(alloc, spelling) {
         Ok(machine) => Ok((machine, until)),
-        Err(_) => Err(Stop::Memory.told(at)),
+        Err(_) => Err(Stop::Memory.into_fault(at)),
     }
 }
 

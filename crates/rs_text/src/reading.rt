@@ -16,7 +16,7 @@ pub enum Stop {
 
 impl Stop {
     /// The fault that is told of a reading that began at the offset `at`: a refusal of memory stands there.
-    pub fn told(self, at: usize) -> TextFault
+    pub fn into_fault(self, at: usize) -> TextFault
         ensures { result ≡ spec.fault_of_stop self at }
     {
         match self {

@@ -249,7 +249,7 @@ fn nearest_binding_counts(rt: HostRuntime) -> Result<(), Fail> {
 
 #[test]
 fn tells_why_a_reading_stops(rt: HostRuntime) -> Result<(), Fail> {
-    let memory = Stop::from(NoMemory).told(7);
+    let memory = Stop::from(NoMemory).into_fault(7);
     assert!(rt;
         memory
             == TextFault {
@@ -262,7 +262,7 @@ fn tells_why_a_reading_stops(rt: HostRuntime) -> Result<(), Fail> {
         at: 3,
     };
     assert!(rt; fault::<()>(TextKind::TooDeep, 3) == Err(Stop::Fault(deep)));
-    assert!(rt; Stop::Fault(deep).told(7) == deep);
+    assert!(rt; Stop::Fault(deep).into_fault(7) == deep);
     let dot = TextFault {
         kind: TextKind::Expected(Wanted::Dot),
         at: 4,

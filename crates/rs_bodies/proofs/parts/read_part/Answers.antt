@@ -15,13 +15,13 @@ returns-in-Ok-clause-ok c =
 pub returns-clause-err : goal.returns-clause-err
 returns-clause-err c =
     let first : c.new-reader.result ≡ start_of_part c.args.dialect c.args.names.now = begins_with c.args.dialect c.new-reader.result c.args.names.now _ _ c.new-reader.ensures (search rules) (search rules) in
-    refused (judges c.args.dialect c.args.names.now) (start_of_part c.args.dialect c.args.names.now) (begins c.args.dialect c.args.names.now) c.in-Err.stop c.args.bytes.now c.args.at c.told.result c.told.ensures c.requires.at (subst (λ z. StopsBy (feeding c.args.dialect) c.in-Err.stop z c.args.bytes.now c.args.at) first c.in-Err.ensures.err)
+    refused (judges c.args.dialect c.args.names.now) (start_of_part c.args.dialect c.args.names.now) (begins c.args.dialect c.args.names.now) c.in-Err.stop c.args.bytes.now c.args.at c.into_fault.result c.into_fault.ensures c.requires.at (subst (λ z. StopsBy (feeding c.args.dialect) c.in-Err.stop z c.args.bytes.now c.args.at) first c.in-Err.ensures.err)
 
 pub returns-clause-left : goal.returns-clause-left
 returns-clause-left c =
     let first : c.new-reader.result ≡ start_of_part c.args.dialect c.args.names.now = begins_with c.args.dialect c.new-reader.result c.args.names.now _ _ c.new-reader.ensures (search rules) (search rules) in
-    left c.args.dialect c.in-Err.stop c.args.names.now _ c.new-reader.result c.read_with-result.new.reader c.args.bytes.now c.args.at c.told.result c.told.ensures first c.requires.at c.in-Err.ensures.err c.in-Err.ensures.left (search rules)
+    left c.args.dialect c.in-Err.stop c.args.names.now _ c.new-reader.result c.read_with-result.new.reader c.args.bytes.now c.args.at c.into_fault.result c.into_fault.ensures first c.requires.at c.in-Err.ensures.err c.in-Err.ensures.left (search rules)
     c.requires.first c.in-Err.ensures.kept
 
 pub returns-clause-place : goal.returns-clause-place
-returns-clause-place c = told_within (feeding c.args.dialect) (stays_below c.args.dialect) c.in-Err.stop c.new-reader.result c.args.bytes.now c.args.at c.told.result c.told.ensures c.requires.at c.in-Err.ensures.err
+returns-clause-place c = told_within (feeding c.args.dialect) (stays_below c.args.dialect) c.in-Err.stop c.new-reader.result c.args.bytes.now c.args.at c.into_fault.result c.into_fault.ensures c.requires.at c.in-Err.ensures.err

@@ -18,7 +18,7 @@ returns-in-Ok-clause-printable c = spelt_printable c.args.names.now _ c.args.byt
 pub returns-clause-err : goal.returns-clause-err
 returns-clause-err c =
     let first : c.new-reader.result ≡ start_of_derivation c.args.names.now = begins_with c.new-reader.result c.args.names.now _ _ c.new-reader.ensures (search rules) (search rules) in
-    refused (judges c.args.names.now) (start_of_derivation c.args.names.now) (begins c.args.names.now c.requires.labels) c.in-Err.stop c.args.bytes.now c.args.at c.told.result c.told.ensures c.requires.at (subst (λ z. StopsBy feeding c.in-Err.stop z c.args.bytes.now c.args.at) first c.in-Err.ensures.err)
+    refused (judges c.args.names.now) (start_of_derivation c.args.names.now) (begins c.args.names.now c.requires.labels) c.in-Err.stop c.args.bytes.now c.args.at c.into_fault.result c.into_fault.ensures c.requires.at (subst (λ z. StopsBy feeding c.in-Err.stop z c.args.bytes.now c.args.at) first c.in-Err.ensures.err)
 
 pub returns-clause-place : goal.returns-clause-place
-returns-clause-place c = told_within feeding stays_below c.in-Err.stop c.new-reader.result c.args.bytes.now c.args.at c.told.result c.told.ensures c.requires.at c.in-Err.ensures.err
+returns-clause-place c = told_within feeding stays_below c.in-Err.stop c.new-reader.result c.args.bytes.now c.args.at c.into_fault.result c.into_fault.ensures c.requires.at c.in-Err.ensures.err

@@ -10,5 +10,5 @@ returns-in-Ok-clause-ok c = spells c.args.bytes.now c.args.at c.args.names.now _
 
 pub returns-in-Err-clause-left : goal.returns-in-Err-clause-left
 returns-in-Err-clause-left c =
-    let memory : c.told.result.kind ≡ kind.NoMemory = ap (λ (z : TextFault). z.kind) c.told.ensures in
-    spelt_leaves c.args.bytes.now c.args.at c.args.names.now c.read_part.new.names c.in_ok-spelling.spelling c.in_ok-spelling.until c.told.result.kind c.told.result.at memory c.in_ok-spelling.ensures.ok
+    let memory : c.into_fault.result.kind ≡ kind.NoMemory = ap (λ (z : TextFault). z.kind) c.into_fault.ensures in
+    spelt_leaves c.args.bytes.now c.args.at c.args.names.now c.read_part.new.names c.in_ok-spelling.spelling c.in_ok-spelling.until c.into_fault.result.kind c.into_fault.result.at memory c.in_ok-spelling.ensures.ok
