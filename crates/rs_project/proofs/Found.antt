@@ -1,6 +1,7 @@
 -- The search for fronts, front by front.
 use Rattle.std.proofs.Common.{◌≡◌, ◌≢◌, ◌⊎◌, ◌++◌, inl, inr, ℕ, suc, ◌+◌, ◌-◌, ◌<◌, true, List, [], ◌∷◌, length, set, get_or, Result, Ok, Err, Some, slice_get, refl, sym, ap, ◌∙◌, subst, subst₂, arith}
-use Rattle.std.specs.Prelude.{IfOk, OnErr}
+use Rattle.std.specs.List.{All}
+use Rattle.std.specs.Prelude.{IfErr, IfOk, OnErr}
 use Rattle.std.proofs.lemmas.Bool.Decides.{eqb_tells}
 use Rattle.std.proofs.lemmas.Option.{none-some}
 use Rattle.std.proofs.lemmas.List.{get_or-set_same, get_or-set_other}
@@ -21,39 +22,60 @@ use Rattle.rs_project.proofs.Meetings.{meets-some}
 use Rattle.rs_project.proofs.Numbers.{found-adds, keeps-adds}
 use Rattle.rs_project.proofs.Steps.{front-root, working-begin}
 
--- what is met from a run's end is met from where it begins
-pub from-start : (pr : Protocol_data) (role : Role) (start end : ℕ) (f : Front_data) → StandsFor pr role start end → IsFrontFrom pr role (end ∷ []) f → IsFrontFrom pr role (start ∷ []) f
-from-start pr role start end f s is = record {
+pub some-among : (xs : List ℕ) → xs ≢ [] → (x : ℕ) × Among xs x
+some-among [] some = absurd (some refl)
+some-among (x ∷ xs) some = (x, inl refl)
+
+-- what is met from the end of all runs is met from where they begin
+pub from-starts : (pr : Protocol_data) (role : Role) (starts : List ℕ) (first end : ℕ) (f : Front_data) → Among starts first → ((s : ℕ) → Among starts s → StandsFor pr role s end) → IsFrontFrom pr role (end ∷ []) f
+    → IsFrontFrom pr role starts f
+from-starts pr role starts first end f some stand is = record {
   rising = is.rising;
   talks = λ t. (
     (λ h. (let m = (is.talks t).0 h in elim m.among [
-      | inl e ↦ (let P : ℕ → Type 0 = λ z. MeetsFirst pr role z t in record { start = start; among = inl refl; meets = (s.meets t).1 (subst P (sym e) m.meets) })
+      | inl e ↦ (let P : ℕ → Type 0 = λ z. MeetsFirst pr role z t in record { start = first; among = some; meets = ((stand first some).meets t).1 (subst P (sym e) m.meets) })
       | inr bad ↦ absurd bad
     ])),
-    (λ m. elim m.among [
-      | inl e ↦ (let P : ℕ → Type 0 = λ z. MeetsFirst pr role z t in (is.talks t).1 record { start = end; among = inl refl; meets = (s.meets t).0 (subst P (sym e) m.meets) })
-      | inr bad ↦ absurd bad
-    ]),
+    (λ m. (is.talks t).1 record { start = end; among = inl refl; meets = ((stand m.start m.among).meets t).0 m.meets }),
   );
   ends = (
     (λ e. (let m = is.ends.0 e in elim m.among [
-      | inl k ↦ (let P : ℕ → Type 0 = λ z. MeetsTheEnd pr role z in record { start = start; among = inl refl; ends = s.ends.1 (subst P (sym k) m.ends) })
+      | inl k ↦ (let P : ℕ → Type 0 = λ z. MeetsTheEnd pr role z in record { start = first; among = some; ends = (stand first some).ends.1 (subst P (sym k) m.ends) })
       | inr bad ↦ absurd bad
     ])),
-    (λ m. elim m.among [
-      | inl k ↦ (let P : ℕ → Type 0 = λ z. MeetsTheEnd pr role z in is.ends.1 record { start = end; among = inl refl; ends = s.ends.0 (subst P (sym k) m.ends) })
-      | inr bad ↦ absurd bad
-    ]),
+    (λ m. is.ends.1 record { start = end; among = inl refl; ends = (stand m.start m.among).ends.0 m.ends }),
   );
 }
+
+pub from-start : (pr : Protocol_data) (role : Role) (start end : ℕ) (f : Front_data) → StandsFor pr role start end → IsFrontFrom pr role (end ∷ []) f → IsFrontFrom pr role (start ∷ []) f
+from-start pr role start end f s is = from-starts pr role (start ∷ []) start end f (inl refl) (λ x m. only x m) is
+  where
+    only : (x : ℕ) → Among (start ∷ []) x → StandsFor pr role x end
+    only x (inl e) = let P : ℕ → Type 0 = λ z. StandsFor pr role z end in subst P e s
+    only x (inr bad) = absurd bad
+
+from-all : (pr : Protocol_data) (role : Role) (starts : List ℕ) (end : ℕ) (f : Front_data) → starts ≢ [] → All (λ s. StandsFor pr role s end) starts → IsFrontFrom pr role (end ∷ []) f → IsFrontFrom pr role starts f
+from-all pr role starts end f some all is =
+    let first = some-among starts some in
+    from-starts pr role starts first.0 end f first.1 (λ s m. (let at = contains starts s m in let P : ℕ → Type 0 = λ z. StandsFor pr role z end in subst P at.2 (all at.0 s at.1))) is
+
+-- .. so is its number
+pub finds-all : (pr : Protocol_data) (role : Role) (old : List Front_data) (starts : List ℕ) (end : ℕ) (new : List Front_data) (r : Result ℕ ProjFault) → starts ≢ [] → All (λ s. StandsFor pr role s end) starts
+    → IfOk r (λ n. FindsFrom pr role old (end ∷ []) new n) → IfOk r (λ n. FindsFrom pr role old starts new n)
+finds-all pr role old starts end new (Ok n) some all h = record { front = h.front; is = from-all pr role starts end h.front some all h.is; adds = h.adds }
+finds-all pr role old starts end new (Err e) some all h = tt
+
+pub fault-all : (pr : Protocol_data) (role : Role) (old : List Front_data) (starts : List ℕ) (end : ℕ) (r : Result ℕ ProjFault) → starts ≢ [] → All (λ s. StandsFor pr role s end) starts
+    → IfErr r (λ e. FaultFrom pr role old (end ∷ []) e) → IfErr r (λ e. FaultFrom pr role old starts e)
+fault-all pr role old starts end (Ok n) some all h = tt
+fault-all pr role old starts end (Err (Unmergeable r a b)) some all h = absurd h
+fault-all pr role old starts end (Err (Unreached r n)) some all h = absurd h
+fault-all pr role old starts end (Err (TooManyStates r)) some all h = (h.0, record { front = h.1.front; is = from-all pr role starts end h.1.front some all h.1.is; many = h.1.many; new = h.1.new })
+fault-all pr role old starts end (Err NoMemory) some all h = tt
 
 -- a run that ends at a talk of the role
 pub lone-from : (pr : Protocol_data) (role : Role) (start end : ℕ) → Involves pr role end → StandsFor pr role start end → IsFrontFrom pr role (start ∷ []) (lone_front end)
 lone-from pr role start end i s = lone-front pr role (start ∷ []) start end (lone_front end) refl refl (meets-only pr role start end i s)
-
-pub some-among : (xs : List ℕ) → xs ≢ [] → (x : ℕ) × Among xs x
-some-among [] some = absurd (some refl)
-some-among (x ∷ xs) some = (x, inl refl)
 
 -- a front from starts is found
 pub search-adds : (search : Search_data) (new : List Front_data) (numbers starts : List ℕ) (s : ℕ) (f : Front_data) (n : ℕ) → IsSearch search numbers → Among starts s

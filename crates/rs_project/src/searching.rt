@@ -1,7 +1,8 @@
-ghost use Rattle.std.specs.Prelude.{◌≡◌, ◌≢◌, ◌<◌, ◌≤◌, ◌∷◌, [], length, IfOk, IfErr, OnErr};
+ghost use Rattle.std.specs.Prelude.{◌≡◌, ◌≢◌, ◌<◌, ◌≤◌, ◌∷◌, [], length, IfOk, IfErr, IfSome, OnErr};
 ghost use Rattle.std.specs.List.{All};
 ghost use Rattle.rs_model.specs.declared.limits.TheConstants.{MOST_STATES};
 ghost use Rattle.rs_project.specs.Filing.{lone_front};
+ghost use Rattle.rs_project.specs.Marks.{StandsFor};
 ghost use Rattle.rs_project.specs.Working.{AddsFront, AreFound, FaultFrom, FindsFrom, IsFrontFrom, FrontIsNew, NumberFault};
 
 use crate::ProjFault;
@@ -88,10 +89,10 @@ impl<'a> Search<'a> {
         ensures ok { IfOk result (λ n. FindsFrom self.old.survey.protocol self.old.survey.role self.old.fronts starts.now self.new.fronts n) }
         ensures err { IfErr result (λ e. FaultFrom self.old.survey.protocol self.old.survey.role self.old.fronts starts.now e) }
     {
-        if let [start] = starts {
-            return self.find_from(alloc, *start);
-        }
         let survey = self.survey;
+        if let Some(end) = one_end(survey, starts) {
+            return self.find_from(alloc, end);
+        }
         let front = front_of_many(alloc, survey, &mut self.marks, starts)?;
         number_of(survey.role, &mut self.fronts, front)
     }
@@ -120,7 +121,25 @@ impl<'a> Search<'a> {
     }
 }
 
-// What the role meets first from more than one start.
+// The node at which the runs from all starts end, where they end at one.
+fn one_end(survey: &Survey, starts: &[u32]) -> Option<u32>
+    requires starts { All (λ s. s < length survey.now.protocol.nodes) starts.now }
+    ensures within { IfSome result (λ end. end < length survey.now.protocol.nodes) }
+    ensures stand { IfSome result (λ end. All (λ s. StandsFor survey.now.protocol survey.now.role s end) starts.now) }
+{
+    if starts.is_empty() {
+        return None;
+    }
+    let end = run_end(survey, starts[0]);
+    for start in starts {
+        if run_end(survey, *start) != end {
+            return None;
+        }
+    }
+    Some(end)
+}
+
+// What the role meets first from starts whose runs end at different nodes.
 fn front_of_many(
     alloc: Global,
     survey: &Survey,
