@@ -49,6 +49,16 @@ impl Row {
         }
     }
 
+    /// One number, which needs no allocation.
+    #[inline(always)]
+    pub fn of_one(alloc: Global, n: u32) -> Row
+        ensures { result ≡ n ∷ [] }
+    {
+        let mut numbers = SmallVec::new(alloc);
+        numbers.push_reserved(n);
+        Row { numbers }
+    }
+
     /// The numbers.
     #[inline(always)]
     pub fn as_slice(&self) -> &[u32]

@@ -24,6 +24,7 @@ impl Model for Pending {
     ghost view = { λ p. p.acts.items };
 }
 
+// Lists are made out of line: a caller that has it inline copies the unused places one by one.
 impl Pending {
     /// Nothing owed.
     #[inline(never)]
@@ -66,11 +67,11 @@ impl Pending {
         if self.acts.is_empty() {
             return Ok(Pending::of_one(alloc, act));
         }
-        self.longer(alloc, act)
+        self.longer_copy(alloc, act)
     }
 
     #[inline(never)]
-    fn longer(&self, alloc: Global, act: Act) -> Result<Pending, NoMemory>
+    fn longer_copy(&self, alloc: Global, act: Act) -> Result<Pending, NoMemory>
         ensures { IfOk result (λ p. p ≡ self.now ++ act ∷ []) }
     {
         let mut acts = SmallVec::with_capacity(alloc, self.acts.len().saturating_add(1))?;
@@ -88,11 +89,11 @@ impl Pending {
         if self.acts.len() == 1 {
             return Ok(Pending::new(alloc));
         }
-        self.shorter(alloc, place)
+        self.shorter_copy(alloc, place)
     }
 
     #[inline(never)]
-    fn shorter(&self, alloc: Global, place: usize) -> Result<Pending, NoMemory>
+    fn shorter_copy(&self, alloc: Global, place: usize) -> Result<Pending, NoMemory>
         requires { place < length self.now }
         ensures { IfOk result (λ p. p ≡ without self.now place) }
     {

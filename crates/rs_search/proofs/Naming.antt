@@ -152,6 +152,3 @@ pub grown_both : (pending : List Act) (theirs : List Arm) (old cur new : List Sp
 grown_both pending theirs old cur new xs i d lab o lt eo h n =
     grown_arms (λ a. both_at pending a (arm_of theirs a.label)) old cur new xs i (get_or xs i d) (arm_at xs i d lt)
     (subst (λ (z : Option Arm). Grown cur (both_at pending (get_or xs i d) z) new) eo h) n
-
-pub one_short : (old new : List Spot) (x : Spot) (row : List ℕ) → AreNamed old (x ∷ []) new row → length row ≤ 1
-one_short old new x row n = let e = names_length new row (x ∷ []) n.names in omega arith

@@ -141,7 +141,8 @@ fn file(index: &mut Index, bucket: usize, n: u32) -> Result<(), Fault>
     ensures err { IfErr result (λ e. e ≡ Memory) }
 {
     let head = index.heads[bucket];
-    index.links.push(head)?;
+    index.links.reserve(1)?;
+    index.links.push_reserved(head);
     index.heads[bucket] = n + 1;
     Ok(())
 }
@@ -239,10 +240,9 @@ fn name_paid(
     ensures chained { OnOk result (AreChained (bucket_of (length index.old.heads.items)) found.new.items index.new.heads.items index.new.links.items) }
     ensures size { OnOk result (length index.new.heads.items ≡ length index.old.heads.items) }
 {
-    let mut row = Row::new(alloc);
     let spot = paid(alloc, &found[k], place, arm)?;
-    name(found, index, &mut row, spot, limit)?;
-    Ok(row)
+    let n = number_of(found, index, spot, limit)?;
+    Ok(Row::of_one(alloc, n))
 }
 
 // The numbers of the spots behind arms by which the projection has sent or received.
@@ -448,11 +448,18 @@ fn either(a: bool, b: bool) -> bool
     a || b
 }
 
-// For how many candidates there is room at once: one for each state of either machine.
-fn first_room(sub: &Machine, above: &Machine) -> usize
+// How many states both machines have, as far as these are few.
+fn state_count(sub: &Machine, above: &Machine) -> usize
     ensures { result ≤ 4000 }
 {
     sub.states.len().min(2_000) + above.states.len().min(2_000)
+}
+
+// For how many candidates there is room at once: one for each state of either machine, and a few at least.
+fn first_room(sub: &Machine, above: &Machine) -> usize
+    ensures { result ≤ 4000 }
+{
+    state_count(sub, above).max(16)
 }
 
 // How many buckets there are: one for two pairs of states, as far as these are few, and some for each state.
@@ -461,7 +468,7 @@ fn bucket_count(sub: &Machine, above: &Machine) -> usize
     ensures few { result < 2 ^ 32 }
 {
     let pairs = sub.states.len().min(2_000) * above.states.len().min(2_000);
-    pairs.min(65_536) / 2 + first_room(sub, above) * 4 + 1
+    pairs.min(65_536) / 2 + state_count(sub, above) * 4 + 1
 }
 
 // An index without numbers, with room for some.

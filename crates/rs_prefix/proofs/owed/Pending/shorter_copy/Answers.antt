@@ -1,6 +1,6 @@
 use Rattle.std.proofs.Common.{rules, ◌≡◌, ◌∙◌, ◌+◌, List, ◌++◌, take, drop, refl, ap, drop-drop}
 use Rattle.rs_model.specs.declared.machines.Act.{Act}
-use Rattle.rs_prefix.proofs.owed.Pending.shorter.Goals as goal
+use Rattle.rs_prefix.proofs.owed.Pending.shorter_copy.Goals as goal
 
 pub returns : goal.returns
 returns c =
