@@ -132,7 +132,12 @@ fn rule_fault(
     };
     match rule {
         Rule::Stops => spare_fault(source, 0, node.next.as_slice()),
-        Rule::Pays { place, arm } => one_fault(nodes, source, node, paid(node, place, arm)),
+        Rule::Pays { place, arm } => one_fault(
+            nodes,
+            source,
+            node,
+            target_behind_payment(node, place, arm),
+        ),
         Rule::SendsBoth => both_fault(nodes, source, node, arms, theirs),
         Rule::Guesses { peer } => guess_fault(nodes, source, node, peer, theirs),
         Rule::Follows { peer } => follow_fault(nodes, source, node, peer, theirs),
@@ -140,7 +145,7 @@ fn rule_fault(
 }
 
 // Where making the act at the place leads, by that arm.
-fn paid(node: &DNode, place: usize, arm: Arm) -> Target
+fn target_behind_payment(node: &DNode, place: usize, arm: Arm) -> Target
     ensures state { result.state ≡ arm.next }
     ensures change { result.change ≡ Without place }
     ensures above { result.above ≡ node.now.above }

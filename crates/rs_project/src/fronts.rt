@@ -57,7 +57,7 @@ pub fn marked_front(
 {
     marks.spread(survey.protocol, &survey.passing, starts)?;
     let numbers = marks.as_slice();
-    let talks = flagged(alloc, numbers, &survey.involved)?;
+    let talks = flagged_numbers(alloc, numbers, &survey.involved)?;
     let ends = has_unflagged(numbers, &survey.awaited);
     Ok(Front {
         talks: in_order(talks),
@@ -66,7 +66,7 @@ pub fn marked_front(
 }
 
 // Those of the numbers whose flag stands.
-fn flagged(alloc: Global, numbers: &[u32], flags: &[bool]) -> Result<Vec<u32>, NoMemory>
+fn flagged_numbers(alloc: Global, numbers: &[u32], flags: &[bool]) -> Result<Vec<u32>, NoMemory>
     requires { All (λ n. n < length flags.now) numbers.now }
     ensures { IfOk result (λ v. v.items ≡ filter (λ n. slice_index_or flags.now n false) numbers.now) }
 {

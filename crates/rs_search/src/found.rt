@@ -17,7 +17,7 @@ ghost use Rattle.rs_search.specs.Turns.{nexts_within, owing_by, spots_by};
 ghost use Rattle.rs_search.specs.Turns.{is_any, is_choosing, is_cut, is_keeping};
 ghost use Rattle.rs_search.specs.declared.found.Fault.TheVariants.{TooLarge, Memory};
 
-use crate::turns::{Point, arms_in, both, has_choice, owing_by, paid, turn_within};
+use crate::turns::{Point, arms_in, both, has_choice, owing_by, point_behind_payment, turn_within};
 use rs_derive::{Rule, arm_of};
 use rs_graph::Row;
 use rs_model::{Act, Arm, Machine, NoMemory, Role};
@@ -240,7 +240,7 @@ fn name_paid(
     ensures chained { OnOk result (AreChained (bucket_of (length index.old.heads.items)) found.new.items index.new.heads.items index.new.links.items) }
     ensures size { OnOk result (length index.new.heads.items ≡ length index.old.heads.items) }
 {
-    let spot = paid(alloc, &found[k], place, arm)?;
+    let spot = point_behind_payment(alloc, &found[k], place, arm)?;
     let n = number_of(found, index, spot, limit)?;
     Ok(Row::of_one(alloc, n))
 }

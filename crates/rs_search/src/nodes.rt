@@ -84,7 +84,7 @@ pub fn nodes_in_order(
 }
 
 /// The nexts of each item whose edges keep their head; nothing for the others.
-pub fn kept_of(
+pub fn kept_rows(
     alloc: Global,
     keeps: &[bool],
     items: &[u32],

@@ -15,7 +15,7 @@ use crate::SearchFault;
 use crate::forward::forward_ranks;
 use crate::found::{Candidates, Fault};
 use crate::itself::search_itself;
-use crate::nodes::{kept_of, nodes_in_order, nodes_of};
+use crate::nodes::{kept_rows, nodes_in_order, nodes_of};
 use crate::survey::{candidates_of, explore};
 use rs_derive::Derivation;
 use rs_graph::{RankFault, Steps, number_all, rank_rows};
@@ -149,7 +149,7 @@ fn search_among<L: Ledger>(
     };
     let items = numbers.items.as_slice();
     let nexts = numbers.nexts.as_slice();
-    let kept = match kept_of(alloc, survey.found.keeps.as_slice(), items, nexts) {
+    let kept = match kept_rows(alloc, survey.found.keeps.as_slice(), items, nexts) {
         Ok(kept) => kept,
         Err(_) => return Err(SearchFault::NoMemory),
     };

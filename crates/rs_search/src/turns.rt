@@ -172,7 +172,12 @@ pub fn has_choice(any: bool, spots: usize) -> bool
 
 /// The spot behind the act that is owed at the place.
 #[inline(always)]
-pub fn paid(alloc: Global, p: &Point, place: usize, arm: Arm) -> Result<Point, NoMemory>
+pub fn point_behind_payment(
+    alloc: Global,
+    p: &Point,
+    place: usize,
+    arm: Arm,
+) -> Result<Point, NoMemory>
     requires { place < length p.now.pending }
     ensures { IfOk result (λ r. r ≡ spot arm.next (without p.now.pending place) p.now.above) }
 {

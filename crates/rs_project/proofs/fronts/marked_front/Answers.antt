@@ -4,8 +4,8 @@ use Rattle.rs_project.specs.Marks.{IsTrueSurvey, IsSpread, Survey_data}
 use Rattle.rs_project.proofs.Walks.{front-listed, listed-within}
 use Rattle.rs_project.proofs.fronts.marked_front.Goals as goal
 
-pub flagged-requires : goal.flagged-requires
-flagged-requires c =
+pub flagged_numbers-requires : goal.flagged_numbers-requires
+flagged_numbers-requires c =
     let flags : c.deref-2.result.now ≡ c.args.survey.now.involved = c.deref-2.ensures.value ∙ ap (λ (z : Survey_data). z.involved) c.survey.view_is in
     let P : List ℕ → Type 0 = λ z. All (λ n. n < length c.deref-2.result.now) z in
     subst P (sym c.as_slice-numbers.ensures.is)

@@ -16,8 +16,8 @@ use Rattle.rs_search.proofs.Costing.{whole_cost}
 use Rattle.rs_search.proofs.Verdicts.{pictures}
 use Rattle.rs_search.proofs.searches.search_among.Goals as goal
 
-pub kept_of-requires-clause-within : goal.kept_of-requires-clause-within
-kept_of-requires-clause-within g c = λ n m.
+pub kept_rows-requires-clause-within : goal.kept_rows-requires-clause-within
+kept_rows-requires-clause-within g c = λ n m.
     let s = c.in-Ok.survey in let e = c.in-Ok.ensures in
     let pic = pictures c.args.sub.now c.args.above.now c.args.bound s.found.points.items s.found.rows.items s.found.anys.items s.graph e.found e.anys e.built in
     let w = all_within c.args.sub.now c.args.above.now c.args.bound s.found.points.items s.graph c.as_slice-current.result.now c.in-Ok-number_all.numbers.items.items c.as_slice-items.result.now pic c.in-Ok-number_all.ensures.stay c.as_slice-items.ensures.value n m in
@@ -28,23 +28,23 @@ pub rank_rows-requires-clause-few : goal.rank_rows-requires-clause-few
 rank_rows-requires-clause-few g c = λ n.
     let s = c.in-Ok.survey in let e = c.in-Ok.ensures in let d = c.in-Ok-number_all in
     let f = nexts_few s.found.anys.items s.found.rows.items s.graph c.as_slice-current.result.now d.numbers.items.items d.numbers.nexts.items MOST_CANDIDATES e.built e.short d.ensures.found in
-    let a = same_kept c.as_slice.result.now c.as_slice.result.now d.numbers.items.items c.as_slice-items.result.now d.numbers.nexts.items c.as_slice-nexts.result.now c.in-Ok-kept_of.kept.items refl c.as_slice-items.ensures.value c.as_slice-nexts.ensures.value c.in-Ok-kept_of.ensures in
-    let k = kept_few c.as_slice.result.now d.numbers.items.items d.numbers.nexts.items c.in-Ok-kept_of.kept.items 65537 a d.ensures.found.all f n in
-    let l : length (slice_index_or c.as_slice-2.result.now n []) ≡ length (slice_index_or c.in-Ok-kept_of.kept.items n []) = ap (λ (z : List (List ℕ)). length (slice_index_or z n [])) c.as_slice-2.ensures.value in
+    let a = same_kept c.as_slice.result.now c.as_slice.result.now d.numbers.items.items c.as_slice-items.result.now d.numbers.nexts.items c.as_slice-nexts.result.now c.in-Ok-kept_rows.kept.items refl c.as_slice-items.ensures.value c.as_slice-nexts.ensures.value c.in-Ok-kept_rows.ensures in
+    let k = kept_few c.as_slice.result.now d.numbers.items.items d.numbers.nexts.items c.in-Ok-kept_rows.kept.items 65537 a d.ensures.found.all f n in
+    let l : length (slice_index_or c.as_slice-2.result.now n []) ≡ length (slice_index_or c.in-Ok-kept_rows.kept.items n []) = ap (λ (z : List (List ℕ)). length (slice_index_or z n [])) c.as_slice-2.ensures.value in
     omega arith
 
 pub rank_rows-requires-clause-within : goal.rank_rows-requires-clause-within
 rank_rows-requires-clause-within g c =
     let d = c.in-Ok-number_all in
-    let a = same_kept c.as_slice.result.now c.as_slice.result.now d.numbers.items.items c.as_slice-items.result.now d.numbers.nexts.items c.as_slice-nexts.result.now c.in-Ok-kept_of.kept.items refl c.as_slice-items.ensures.value c.as_slice-nexts.ensures.value c.in-Ok-kept_of.ensures in
+    let a = same_kept c.as_slice.result.now c.as_slice.result.now d.numbers.items.items c.as_slice-items.result.now d.numbers.nexts.items c.as_slice-nexts.result.now c.in-Ok-kept_rows.kept.items refl c.as_slice-items.ensures.value c.as_slice-nexts.ensures.value c.in-Ok-kept_rows.ensures in
     subst (λ (z : List (List ℕ)). (n r : ℕ) → Edge z n r → r < length z) (sym c.as_slice-2.ensures.value)
-    (kept_within _ c.as_slice.result.now d.numbers.items.items d.numbers.nexts.items c.in-Ok-kept_of.kept.items d.ensures.found a)
+    (kept_within _ c.as_slice.result.now d.numbers.items.items d.numbers.nexts.items c.in-Ok-kept_rows.kept.items d.ensures.found a)
 
 pub returns-in-Err-OnCycle-clause-err : goal.returns-in-Err-OnCycle-clause-err
 returns-in-Err-OnCycle-clause-err g c =
     let s = c.in-Ok.survey in let e = c.in-Ok.ensures in let d = c.in-Ok-number_all in
-    let a = same_kept (map (is_keeping c.args.sub.now c.args.above.now c.args.bound) s.found.points.items) c.as_slice.result.now d.numbers.items.items c.as_slice-items.result.now d.numbers.nexts.items c.as_slice-nexts.result.now c.in-Ok-kept_of.kept.items
-    (c.as_slice.ensures.value ∙ e.keeps) c.as_slice-items.ensures.value c.as_slice-nexts.ensures.value c.in-Ok-kept_of.ensures in
+    let a = same_kept (map (is_keeping c.args.sub.now c.args.above.now c.args.bound) s.found.points.items) c.as_slice.result.now d.numbers.items.items c.as_slice-items.result.now d.numbers.nexts.items c.as_slice-nexts.result.now c.in-Ok-kept_rows.kept.items
+    (c.as_slice.ensures.value ∙ e.keeps) c.as_slice-items.ensures.value c.as_slice-nexts.ensures.value c.in-Ok-kept_rows.ensures in
     let y : Unranks c.as_slice-2.result.now c.in-Err-OnCycle.field-0 = c.in-Err-OnCycle.ensures.cycle in
     let w = forgets c.args.sub.now c.args.above.now c.args.bound (record {
       found = s.found.points.items;
@@ -64,9 +64,9 @@ returns-in-Err-OnCycle-clause-err g c =
       numbers = d.ensures.found;
       stay = d.ensures.stay;
       made = unranked_are s.found.points.items d.numbers.items.items d.numbers.nexts.items d.ensures.found.all;
-    }) c.in-Ok-kept_of.kept.items c.in-Err-OnCycle.node a in
+    }) c.in-Ok-kept_rows.kept.items c.in-Err-OnCycle.node a in
     let y' : Unranks c.as_slice-2.result.now (OnCycle c.in-Err-OnCycle.node) = subst (λ (f : RankFault). Unranks c.as_slice-2.result.now f) c.in-Err-OnCycle.field-0-is y in
-    let z : IsLeastOnCycle (Edge c.in-Ok-kept_of.kept.items) c.in-Err-OnCycle.node = subst (λ (rows : List (List ℕ)). IsLeastOnCycle (Edge rows) c.in-Err-OnCycle.node) c.as_slice-2.ensures.value y' in
+    let z : IsLeastOnCycle (Edge c.in-Ok-kept_rows.kept.items) c.in-Err-OnCycle.node = subst (λ (rows : List (List ℕ)). IsLeastOnCycle (Edge rows) c.in-Err-OnCycle.node) c.as_slice-2.ensures.value y' in
     subst (λ (k : ℕ). IsForgets c.args.sub.now c.args.above.now c.args.bound k) (sym c.in-Err-OnCycle.node-is) (w z)
 
 pub nodes_of-requires-clause-within : goal.nodes_of-requires-clause-within
@@ -79,13 +79,13 @@ nodes_of-requires-clause-within g c = λ n m.
 
 pub nodes_of-requires-clause-ranks : goal.nodes_of-requires-clause-ranks
 nodes_of-requires-clause-ranks g c =
-    ap (λ (z : List ℕ). length z) c.as_slice-3.ensures.value ∙ c.in-Ok-rank_rows.ensures.size ∙ ap (λ (z : List (List ℕ)). length z) c.as_slice-2.ensures.value ∙ c.in-Ok-kept_of.ensures.size
+    ap (λ (z : List ℕ). length z) c.as_slice-3.ensures.value ∙ c.in-Ok-rank_rows.ensures.size ∙ ap (λ (z : List (List ℕ)). length z) c.as_slice-2.ensures.value ∙ c.in-Ok-kept_rows.ensures.size
 
 pub returns-in-Ok-nodes_of-clause-ok : goal.returns-in-Ok-nodes_of-clause-ok
 returns-in-Ok-nodes_of-clause-ok g c =
     let s = c.in-Ok.survey in let e = c.in-Ok.ensures in let d = c.in-Ok-number_all in
-    let a = same_kept (map (is_keeping c.args.sub.now c.args.above.now c.args.bound) s.found.points.items) c.as_slice.result.now d.numbers.items.items c.as_slice-items.result.now d.numbers.nexts.items c.as_slice-nexts.result.now c.in-Ok-kept_of.kept.items
-    (c.as_slice.ensures.value ∙ e.keeps) c.as_slice-items.ensures.value c.as_slice-nexts.ensures.value c.in-Ok-kept_of.ensures in
+    let a = same_kept (map (is_keeping c.args.sub.now c.args.above.now c.args.bound) s.found.points.items) c.as_slice.result.now d.numbers.items.items c.as_slice-items.result.now d.numbers.nexts.items c.as_slice-nexts.result.now c.in-Ok-kept_rows.kept.items
+    (c.as_slice.ensures.value ∙ e.keeps) c.as_slice-items.ensures.value c.as_slice-nexts.ensures.value c.in-Ok-kept_rows.ensures in
     let r = c.in-Ok-rank_rows.ensures.ranks in
     let w = is_found c.args.sub.now c.args.above.now c.args.bound (record {
       found = s.found.points.items;
@@ -106,7 +106,7 @@ returns-in-Ok-nodes_of-clause-ok g c =
       stay = d.ensures.stay;
       made = same_nodes s.found.points.items c.as_slice-points.result.now d.numbers.items.items c.as_slice-items.result.now d.numbers.nexts.items c.as_slice-nexts.result.now c.in-Ok-rank_rows.ranks.items c.as_slice-3.result.now c.in-Ok-nodes_of.nodes.items
           c.as_slice-points.ensures.value c.as_slice-items.ensures.value c.as_slice-nexts.ensures.value c.as_slice-3.ensures.value c.in-Ok-nodes_of.ensures;
-    }) c.in-Ok-kept_of.kept.items a in
+    }) c.in-Ok-kept_rows.kept.items a in
     let r' = subst (λ (rows : List (List ℕ)). (i : ℕ) → IsRank (Edge rows) i (slice_index_or c.in-Ok-rank_rows.ranks.items i 0)) c.as_slice-2.ensures.value r in
     subst (λ (q : Role). IsCanonical c.args.sub.now c.args.above.now c.args.bound (record { role = q; bound = c.args.bound; nodes = c.in-Ok-nodes_of.nodes.items })) (sym (ap (λ (m : Machine_data). m.role) c.sub.view_is)) (w r')
 

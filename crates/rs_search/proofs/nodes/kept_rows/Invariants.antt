@@ -1,5 +1,5 @@
 use Rattle.rs_search.specs.Nodes.{AreKept}
-use Rattle.rs_search.proofs.nodes.kept_of.Given as goal
+use Rattle.rs_search.proofs.nodes.kept_rows.Given as goal
 
 abbrev pub invariant-loop-i : goal.invariant-loop-i
 invariant-loop-i l = AreKept l.keeps l.items l.nexts l.i l.kept.items

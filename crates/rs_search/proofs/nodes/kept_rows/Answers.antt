@@ -2,7 +2,7 @@ use Rattle.std.proofs.Common.{slice_index_or, false, refl, sym, arith}
 use Rattle.rs_graph.proofs.Buckets.{place_in}
 use Rattle.rs_graph.proofs.Growth.{reads_at}
 use Rattle.rs_search.proofs.Noding.{kept_none, kept_on}
-use Rattle.rs_search.proofs.nodes.kept_of.Goals as goal
+use Rattle.rs_search.proofs.nodes.kept_rows.Goals as goal
 
 pub loop-i-init : goal.loop-i-init
 loop-i-init c = rw c.new-kept.ensures.items (kept_none c.args.keeps.now c.args.items.now c.args.nexts.now)
