@@ -34,6 +34,7 @@ pub enum MessageStep {
 }
 
 /// Takes one token of a message. A label that is new is put behind the others.
+#[inline(always)]
 pub fn feed_message(
     place: MessagePlace,
     token: &TextToken,
@@ -104,6 +105,7 @@ fn new_label(word: &[u8], at: usize, alloc: Global, labels: &mut NameTable) -> R
     Ok(Label(place as u16))
 }
 
+#[inline(always)]
 fn open_paren(label: Label, token: &TextToken) -> Result<MessageStep, Stop>
     ensures { (labels : List (List ℕ)) → spec.Feeds result (spec.feed_paren label token.now.sign token.now.from labels) labels labels }
 {
@@ -115,6 +117,7 @@ fn open_paren(label: Label, token: &TextToken) -> Result<MessageStep, Stop>
     }
 }
 
+#[inline(always)]
 fn sort(label: Label, token: &TextToken) -> Result<MessageStep, Stop>
     ensures { (labels : List (List ℕ)) → spec.Feeds result (spec.feed_sort label token.now.sign token.now.from labels) labels labels }
 {
@@ -139,6 +142,7 @@ fn sort_word(label: Label, word: &[u8], at: usize) -> Result<MessageStep, Stop>
     })
 }
 
+#[inline(always)]
 fn close_paren(label: Label, sort: Sort, token: &TextToken) -> Result<MessageStep, Stop>
     ensures { (labels : List (List ℕ)) → spec.Feeds result (spec.feed_close label sort token.now.sign token.now.from labels) labels labels }
 {
