@@ -3,6 +3,7 @@ use Rattle.std.proofs.Common.{◌≡◌, ◌⊎◌, ℕ, zero, suc, ◌≤◌, L
 use Rattle.std.proofs.Math.Nat.{le-max_left, le-max_right, max-eq_left, max-eq_right}
 use Rattle.std.proofs.lemmas.Bool.{cases_order}
 use Rattle.std.proofs.lemmas.Option.{none-some, same_Some}
+use Rattle.std.proofs.lemmas.List.{drop_all}
 use Rattle.rs_derive.specs.Figures.{IsGreatest, greatest}
 
 at_least : (xs : List ℕ) (m : ℕ) → m ≤ greatest xs m
@@ -39,12 +40,6 @@ is (x ∷ xs) =
       most = most (x ∷ xs) 0;
       is = inr (⊎_elim (λ e. (zero, ap Some (sym (e ∙ z)))) (λ r. (suc r.0, r.1)) (here xs (max 0 x)));
     }
-
-drop_all : {A : Type 0} (n : ℕ) (xs : List A) → length xs ≤ n → drop n xs ≡ []
-drop_all zero [] h = refl
-drop_all zero (x ∷ xs) h = absurd (omega arith)
-drop_all (suc n) [] h = refl
-drop_all (suc n) (x ∷ xs) h = drop_all n xs (omega arith)
 
 pub at_end : {A : Type 0} (f : A → ℕ) (xs : List A) (n m : ℕ) → greatest (map f (drop n xs)) m ≡ greatest (map f xs) 0 → length xs ≤ n → IsGreatest (map f xs) m
 at_end f xs n m e h =

@@ -3,6 +3,7 @@ use Rattle.std.proofs.Common.{◌≡◌, ◌≢◌, ◌⊎◌, ℕ, zero, suc, �
 use Rattle.std.proofs.Math.Nat.{min-le_left, min-le_right, min-eq_left, min-eq_right}
 use Rattle.std.proofs.lemmas.Bool.{cases_order, eqb-true, eq-eqb, false≢true}
 use Rattle.std.proofs.lemmas.Option.{none-some, same_Some, slice_get-get_or}
+use Rattle.std.proofs.lemmas.List.{drop_all}
 use Rattle.rs_model.specs.declared.graph.Arm.{Arm}
 use Rattle.rs_model.specs.FirstFailed.{or_later}
 use Rattle.rs_derive.specs.Checks.{edge_at, edge_fault, nexts_fault, fault_of_count}
@@ -83,17 +84,11 @@ differ f nodes keeps rank i (x ∷ xs) [] (suc p) k a b e ne = absurd (omega ari
 differ f nodes keeps rank i (x ∷ xs) (j ∷ js) (suc p) k a b e ne =
     differ f nodes keeps rank i xs js p k (omega arith) (omega arith) (⊎_elim (λ h. inl (omega arith)) (λ h. inr (omega arith)) e) (λ q. ne (ap suc q))
 
-gone : {A : Type 0} (p : ℕ) (xs : List A) → length xs ≤ p → drop p xs ≡ []
-gone zero [] h = refl
-gone zero (x ∷ xs) h = absurd (omega arith)
-gone (suc p) [] h = refl
-gone (suc p) (x ∷ xs) h = gone p xs (omega arith)
-
 agree : (f : Arm → List Spot) (nodes : List DNode_data) (keeps : Bool) (rank i : ℕ) (arms : List Arm) (nexts : List ℕ) (p k : ℕ)
     → length arms ≤ p → length nexts ≤ p → None ≡ nexts_fault nodes keeps rank i (map f (drop p arms)) (drop p nexts) k
 agree f nodes keeps rank i arms nexts p k a b =
-    ap (λ xs. nexts_fault nodes keeps rank i (map f xs) [] k) (sym (gone p arms a))
-    ∙ ap (λ js. nexts_fault nodes keeps rank i (map f (drop p arms)) js k) (sym (gone p nexts b))
+    ap (λ xs. nexts_fault nodes keeps rank i (map f xs) [] k) (sym (drop_all p arms a))
+    ∙ ap (λ js. nexts_fault nodes keeps rank i (map f (drop p arms)) js k) (sym (drop_all p nexts b))
 
 same : {n m : ℕ} → n ≡ m → eqb n m ≡ true
 same k = eq-eqb _ _ k
