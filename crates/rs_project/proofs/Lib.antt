@@ -6,6 +6,7 @@ pub mod Walks
 pub mod Surveys
 pub mod Cycles
 pub mod Peels
+pub mod Rows
 pub mod Runs
 pub mod Lone
 pub mod Routes

@@ -7,18 +7,10 @@ use Rattle.rs_model.specs.Data.{Protocol_data}
 use Rattle.rs_model.specs.declared.graph.Node.{Node}
 use Rattle.rs_model.specs.declared.graph.Role.{Role}
 use Rattle.rs_project.specs.Graph.{PathStep, LeadsTo, IsPath, PassesBy, AllPassBy, IsUnreached}
-use Rattle.rs_project.specs.Marks.{IsOn, HasUnreached, IsLeft, IsLive, IsSurvey, Survey_data, leads_on}
+use Rattle.rs_project.specs.Marks.{IsOn, HasUnreached, IsSurvey, Survey_data, leads_on}
 use Rattle.rs_project.proofs.Cycles.{passes-unreached}
 use Rattle.rs_project.proofs.Spread.{step_of, path-snoc}
 use Rattle.rs_project.proofs.Surveys.{leads-on-by}
-
-pub left-live : (pr : Protocol_data) (role : Role) (flags : List Bool) → IsLive pr role flags → IsLeft pr role flags
-left-live pr role flags live = record {
-  size = live.size;
-  reached = live.reached;
-  passing = live.passing;
-  whole = λ n u. live.whole n u.reached (passes-unreached pr role n u);
-}
 
 around-snoc : (pr : Protocol_data) (role : Role) (ss : List PathStep) (h a : ℕ) → AllPassBy pr role ss → PassesBy pr role h → AllPassBy pr role (ss ++ (step_of h a ∷ []))
 around-snoc pr role [] h a all one = (one, tt)
@@ -66,15 +58,6 @@ unreached-less pr role flags n node is ends has = record {
         absurd (cc (on, ends)))
     | inr p ↦ get_or-set_other flags n m false false p.1 ∙ has.whole m u
   ];
-}
-
-pub left-less : (pr : Protocol_data) (role : Role) (flags : List Bool) (n : ℕ) (node : Node) → slice_get pr.nodes n ≡ Some node → leads_on flags node ≡ false → IsLeft pr role flags
-    → IsLeft pr role (set flags n false)
-left-less pr role flags n node is ends left = record {
-  size = length-set flags n false ∙ left.size;
-  reached = λ m h. left.reached m (off-before flags n m h);
-  passing = λ m h. left.passing m (off-before flags n m h);
-  whole = (unreached-less pr role flags n node is ends (record { size = left.size; whole = left.whole })).whole;
 }
 
 -- the passing nodes have all unreached ones among them

@@ -134,12 +134,11 @@ pub record IsLive (protocol : Protocol_data) (role : Role) (flags : List Bool) :
   pub passing : (n : ℕ) → IsOn flags n → PassesBy protocol role n
   pub whole : (n : ℕ) → IsReached protocol n → PassesBy protocol role n → IsOn flags n
 
--- the flags are those of nodes that are reached from the root and pass by the role, all unreached ones among them
-pub record IsLeft (protocol : Protocol_data) (role : Role) (flags : List Bool) : Type 0 where
-  pub size : length flags ≡ length protocol.nodes
-  pub reached : (n : ℕ) → IsOn flags n → IsReached protocol n
-  pub passing : (n : ℕ) → IsOn flags n → PassesBy protocol role n
-  pub whole : (n : ℕ) → IsUnreached protocol role n → IsOn flags n
+-- the rows of the first so many nodes: where a node is flagged, its row has the numbers behind its arms
+pub record AreRows (protocol : Protocol_data) (flags : List Bool) (count : ℕ) (rows : List (List ℕ)) : Type 0 where
+  pub size : length rows ≡ count
+  pub each : (n : ℕ) (node : Node) → n < count → slice_get protocol.nodes n ≡ Some node
+      → slice_index_or rows n [] ≡ (if slice_index_or flags n false then nexts_of_node node else [])
 
 -- all unreached nodes are flagged
 pub record HasUnreached (protocol : Protocol_data) (role : Role) (flags : List Bool) : Type 0 where

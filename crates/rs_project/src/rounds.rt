@@ -1,13 +1,14 @@
-ghost use Rattle.std.specs.Prelude.{◌≡◌, ◌<◌, ◌≤◌, ◌&&◌, ℕ, true, false, length, replicate, slice_index_or, IfOk, MatchOption};
-ghost use Rattle.rs_project.specs.Graph.{IsReached, IsUnreached, PassesBy};
-ghost use Rattle.rs_project.specs.Marks.{IsLeft, IsLive, nexts_of_node};
+ghost use Rattle.std.specs.Prelude.{◌≡◌, ◌<◌, ◌≤◌, ◌&&◌, ℕ, [], false, length, slice_index_or, if◌then◌else◌, IfOk, MatchOption};
+ghost use Rattle.rs_project.specs.Graph.{IsUnreached};
+ghost use Rattle.rs_project.specs.Marks.{AreRows, IsLive, nexts_of_node};
 ghost use Rattle.rs_project.specs.Numbered.{nexts_of};
 ghost use Rattle.rs_project.specs.Refusals.{NoneUnreached};
 
-use crate::peeling::{peel, sweep};
+use crate::peeling::sweep;
 use crate::spreading::spread;
 use crate::surveying::Survey;
-use rs_model::{Arm, NoMemory, Node};
+use rs_graph::{Row, least_on_cycle};
+use rs_model::{Arm, NoMemory, Node, Protocol};
 use std::alloc::Global;
 
 /// The least node that the session may reach and then go round for ever, with the role left waiting.
@@ -17,14 +18,9 @@ pub fn first_unreached(alloc: Global, survey: &Survey) -> Result<Option<u32>, No
     if !may_go_round(alloc, survey)? {
         return Ok(None);
     }
-    let left = left_nodes(alloc, survey)?;
-    for number in 0..survey.involved.len() {
-        let unreached = is_unreached(alloc, survey, &left, number as u32)?;
-        if unreached {
-            return Ok(Some(number as u32));
-        }
-    }
-    Ok(None)
+    let live = live_nodes(alloc, survey)?;
+    let rows = rows_of(alloc, survey.protocol, &live)?;
+    least_on_cycle(alloc, &rows, &[])
 }
 
 // Whether some nodes that pass by the role are left by two sweeps: the second one sees what the first did to the nodes to
@@ -37,32 +33,6 @@ fn may_go_round(alloc: Global, survey: &Survey) -> Result<bool, NoMemory>
         return Ok(false);
     }
     Ok(sweep(survey.protocol, &mut left))
-}
-
-fn is_unreached(
-    alloc: Global,
-    survey: &Survey,
-    left: &[bool],
-    number: u32,
-) -> Result<bool, NoMemory>
-    requires left { IsLeft survey.now.protocol survey.now.role left.now }
-    requires node { number < length survey.now.protocol.nodes }
-    ensures sound { IfOk result (λ b. b ≡ true → IsUnreached survey.now.protocol survey.now.role number) }
-    ensures whole { IfOk result (λ b. b ≡ false → IsUnreached survey.now.protocol survey.now.role number → ⊥) }
-{
-    if !left[number as usize] {
-        return Ok(false);
-    }
-    goes_round(alloc, survey, number)
-}
-
-// Nodes that pass by the role and are reached from the root, without those from which one can't go on so for ever.
-fn left_nodes(alloc: Global, survey: &Survey) -> Result<Vec<bool>, NoMemory>
-    ensures { IfOk result (λ v. IsLeft survey.now.protocol survey.now.role v.items) }
-{
-    let mut left = live_nodes(alloc, survey)?;
-    peel(alloc, survey.protocol, &mut left)?;
-    Ok(left)
 }
 
 // The nodes that pass by the role and are reached from the root.
@@ -88,34 +58,36 @@ fn common(alloc: Global, ours: &[bool], theirs: &[bool]) -> Result<Vec<bool>, No
     Ok(both)
 }
 
-// Whether one can come from the node, which is reached and passes by the role, back to it through nodes that pass by the role.
-fn goes_round(alloc: Global, survey: &Survey, number: u32) -> Result<bool, NoMemory>
-    requires reached { IsReached survey.now.protocol number }
-    requires passing { PassesBy survey.now.protocol survey.now.role number }
-    ensures sound { IfOk result (λ b. b ≡ true → IsUnreached survey.now.protocol survey.now.role number) }
-    ensures whole { IfOk result (λ b. b ≡ false → IsUnreached survey.now.protocol survey.now.role number → ⊥) }
+// A row for each node, with the numbers behind its arms where it is flagged.
+fn rows_of(alloc: Global, protocol: &Protocol, flags: &[bool]) -> Result<Vec<Row>, NoMemory>
+    requires { length flags.now ≡ length protocol.now.nodes }
+    ensures { IfOk result (λ v. AreRows protocol.now flags.now (length protocol.now.nodes) v.items) }
 {
-    let protocol = survey.protocol;
-    let starts = starts_from(alloc, &protocol.nodes[number as usize])?;
-    let marks = spread(alloc, protocol, &survey.passing, &starts)?;
-    Ok(marks[number as usize])
+    let mut rows = Vec::new(alloc);
+    for number in 0..flags.len() {
+        rows.push(row_of(alloc, &protocol.nodes[number], flags[number])?)?;
+    }
+    Ok(rows)
 }
 
-fn starts_from(alloc: Global, node: &Node) -> Result<Vec<u32>, NoMemory>
-    ensures { IfOk result (λ v. v.items ≡ nexts_of_node node.now) }
+fn row_of(alloc: Global, node: &Node, flagged: bool) -> Result<Row, NoMemory>
+    ensures { IfOk result (λ r. r ≡ if flagged then nexts_of_node node.now else []) }
 {
+    if !flagged {
+        return Ok(Row::new(alloc));
+    }
     match node {
-        Node::Finished => Ok(Vec::new(alloc)),
+        Node::Finished => Ok(Row::new(alloc)),
         Node::Talk { arms, .. } => nexts(alloc, arms.as_slice()),
     }
 }
 
-fn nexts(alloc: Global, arms: &[Arm]) -> Result<Vec<u32>, NoMemory>
-    ensures { IfOk result (λ v. v.items ≡ nexts_of arms.now) }
+fn nexts(alloc: Global, arms: &[Arm]) -> Result<Row, NoMemory>
+    ensures { IfOk result (λ r. r ≡ nexts_of arms.now) }
 {
-    let mut starts = Vec::new(alloc);
+    let mut row = Row::new(alloc);
     for arm in arms {
-        starts.push(arm.next)?;
+        row.push(arm.next)?;
     }
-    Ok(starts)
+    Ok(row)
 }

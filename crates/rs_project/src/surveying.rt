@@ -195,8 +195,8 @@ fn ends_of_runs(alloc: Global, protocol: &Protocol, passing: &[bool]) -> Result<
     Ok(ends)
 }
 
-/// The numbers of so many nodes, in order.
-pub fn numbers(alloc: Global, count: usize) -> Result<Vec<u32>, NoMemory>
+// The numbers of so many nodes, in order.
+fn numbers(alloc: Global, count: usize) -> Result<Vec<u32>, NoMemory>
     requires { count < 2 ^ 32 }
     ensures size { IfOk result (λ v. length v.items ≡ count) }
     ensures each { IfOk result (λ v. (n : ℕ) → n < count → slice_index_or v.items n 0 ≡ n) }

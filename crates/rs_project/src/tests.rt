@@ -170,13 +170,16 @@ fn back_into_runs(rt: HostRuntime) -> Result<(), Fail> {
     Ok(())
 }
 
+fn unreached(node: u32) -> ProjFault {
+    ProjFault::Unreached {
+        role: Role(0),
+        node,
+    }
+}
+
 #[test]
 fn refusals(rt: HostRuntime) -> Result<(), Fail> {
     let alloc = rt.alloc();
-    let unreached = ProjFault::Unreached {
-        role: Role(0),
-        node: 0,
-    };
     let clash = ProjFault::Unmergeable {
         role: Role(2),
         a: 1,
@@ -188,13 +191,51 @@ fn refusals(rt: HostRuntime) -> Result<(), Fail> {
         b: None,
     };
     let table = [
-        (0, "1>2:0u0,1u1 1>0:2u2 end", unreached),
+        (0, "1>2:0u0,1u1 1>0:2u2 end", unreached(0)),
+        (
+            0,
+            "1>2:0u2 1>2:0u1,1u3 1>2:0u2,1u1 1>0:0u4 end",
+            unreached(1),
+        ),
+        (
+            0,
+            "1>2:0u3 2>1:0u3 2>1:0u4 1>2:0u1,1u2 1>0:0u5 end",
+            unreached(1),
+        ),
         (2, "0>1:0u1,1u2 2>0:2u3 2>0:3u3 end", clash),
         (2, "0>1:0u1,1u2 0>2:2u2 end", end),
     ];
     for (role, signs, fault) in table {
         let protocol = protocol(alloc, signs)?;
         assert!(rt; projected(alloc, &protocol, role).err() == Some(fault));
+    }
+    Ok(())
+}
+
+// So many messages from role 1 to role 2, and then a round of one more, behind which role 0 has one.
+fn round_behind(alloc: Global, before: u16) -> Result<Protocol, NoMemory> {
+    let before = u32::from(before);
+    let mut nodes = Vec::new(alloc);
+    for i in 0..before {
+        nodes.push(message(alloc, 2, &[arm(0, b'u', i + 1)])?)?;
+    }
+    nodes.push(message(alloc, 2, &[arm(1, b'u', before), arm(2, b'u', before + 1)])?)?;
+    nodes.push(message(alloc, 0, &[arm(3, b'u', before + 2)])?)?;
+    nodes.push(Node::Finished)?;
+    Ok(Protocol {
+        roles: 3,
+        nodes,
+        root: 0,
+    })
+}
+
+#[test]
+fn unreached_behind_a_run(rt: HostRuntime) -> Result<(), Fail> {
+    let alloc = rt.alloc();
+    for before in [0, 1, 100, 2000] {
+        let protocol = round_behind(alloc, before)?;
+        let fault = unreached(u32::from(before));
+        assert!(rt; projected(alloc, &protocol, 0).err() == Some(fault));
     }
     Ok(())
 }

@@ -3,4 +3,4 @@ use Rattle.rs_project.specs.Numbered.{nexts_of}
 use Rattle.rs_project.proofs.rounds.nexts.Given as goal
 
 abbrev pub invariant-loop-arm : goal.invariant-loop-arm
-invariant-loop-arm l = l.starts.items ≡ nexts_of (take l.arm-index l.arms)
+invariant-loop-arm l = l.row ≡ nexts_of (take l.arm-index l.arms)
