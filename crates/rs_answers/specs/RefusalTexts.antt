@@ -44,7 +44,7 @@ too_small capacity room = line_of_answer (codes "room too small: ring ") (joined
 
 -- the text is at fault
 abbrev pub malformed_answer : List ℕ → Answer_data
-malformed_answer what = line_of_answer (codes "malformed_answer ") what verdict.Malformed
+malformed_answer what = line_of_answer (codes "malformed ") what verdict.Malformed
 
 -- the protocol has no projection onto the role
 abbrev pub unprojectable : List ℕ → List ℕ → Answer_data
@@ -52,7 +52,7 @@ unprojectable role what = line_of_answer (codes "unprojectable\n") (joined_texts
 
 -- the role's machine is refused
 abbrev pub refused_answer : List ℕ → List ℕ → Answer_data
-refused_answer role what = line_of_answer (codes "refused_answer\n") (joined_texts (role ∷ codes ": " ∷ what ∷ [])) verdict.Refused
+refused_answer role what = line_of_answer (codes "refused\n") (joined_texts (role ∷ codes ": " ∷ what ∷ [])) verdict.Refused
 
 -- `L:C` and what is said: line and column of the offset
 abbrev pub text_at_place : List ℕ → ℕ → List ℕ → Answer_data
