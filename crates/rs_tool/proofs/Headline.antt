@@ -61,7 +61,7 @@ refusing-is-no-run verdict.Malformed h e = e
 refusing-is-no-run verdict.Unprojectable h e = e
 refusing-is-no-run verdict.TooLarge h e = e
 refusing-is-no-run verdict.Stopped h e = h
-refusing-is-no-run verdict.Full h e = e
+refusing-is-no-run verdict.Full h e = h
 refusing-is-no-run verdict.RoomTooSmall h e = e
 
 pub fault-is-no-run : (bytes : List ℕ) (k : TextKind) (at : ℕ) → IsNoRun (fault_answer bytes k at)
