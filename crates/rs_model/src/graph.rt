@@ -59,6 +59,16 @@ impl Arms {
         }
     }
 
+    /// One arm, which needs no allocation.
+    #[inline]
+    pub fn of_one(alloc: Global, arm: Arm) -> Arms
+        ensures { result ≡ arm ∷ [] }
+    {
+        let mut items = SmallVec::new(alloc);
+        items.push_reserved(arm);
+        Arms { items }
+    }
+
     /// Appends an arm; where memory is refused nothing changes.
     pub fn push(&mut self, arm: Arm) -> Result<(), NoMemory>
         ensures ok { OnOk result (self.new ≡ self.old ++ arm ∷ []) }
@@ -78,9 +88,12 @@ impl Arms {
     pub fn copy(&self, alloc: Global) -> Result<Arms, NoMemory>
         ensures { IfOk result (λ a. a ≡ self.now) }
     {
-        Ok(Arms {
-            items: SmallVec::from_slice(alloc, self.as_slice())?,
-        })
+        match self.as_slice() {
+            [arm] => Ok(Arms::of_one(alloc, *arm)),
+            arms => Ok(Arms {
+                items: SmallVec::from_slice(alloc, arms)?,
+            }),
+        }
     }
 
     /// Whether the arms are equal, one by one and in order.
