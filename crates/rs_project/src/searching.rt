@@ -9,9 +9,9 @@ use crate::ProjFault;
 use crate::filing::{Fronts, make_room, number_at, set_number};
 use crate::fronts::{Front, marked_front};
 use crate::spreading::Marks;
-use crate::straight::{lone_front, run_end, straight_front};
+use crate::straight::{run_end, straight_front};
 use crate::surveying::Survey;
-use rs_model::{MOST_STATES, NoMemory, Role};
+use rs_model::{NoMemory, Role};
 use std::alloc::Global;
 use std::marker::Model;
 
@@ -169,8 +169,21 @@ fn number_of_lone(
     if let Some(known) = fronts.number_of_lone(talk) {
         return Ok(known);
     }
-    let front = lone_front(alloc, talk)?;
-    add_new(role, fronts, front)
+    add_new_lone(alloc, role, fronts, talk)
+}
+
+fn add_new_lone(alloc: Global, role: Role, fronts: &mut Fronts, talk: u32) -> Result<u32, ProjFault>
+    requires { FrontIsNew fronts.old (lone_front talk) }
+    ensures ok { IfOk result (λ n. AddsFront fronts.old (lone_front talk) fronts.new n) }
+    ensures err { IfErr result (λ e. NumberFault role fronts.old (lone_front talk) e) }
+    ensures same { OnErr result (fronts.new ≡ fronts.old) }
+{
+    if fronts.is_full() {
+        return Err(ProjFault::TooManyStates { role });
+    }
+    let number = fronts.len();
+    fronts.add_lone(alloc, talk)?;
+    Ok(number as u32)
 }
 
 // The number of a front, which is added where it is new.
@@ -191,10 +204,10 @@ fn add_new(role: Role, fronts: &mut Fronts, front: Front) -> Result<u32, ProjFau
     ensures err { IfErr result (λ e. NumberFault role fronts.old front e) }
     ensures same { OnErr result (fronts.new ≡ fronts.old) }
 {
-    let number = fronts.len();
-    if number == MOST_STATES {
+    if fronts.is_full() {
         return Err(ProjFault::TooManyStates { role });
     }
+    let number = fronts.len();
     fronts.add(front)?;
     Ok(number as u32)
 }
