@@ -85,15 +85,24 @@ impl Arms {
     }
 
     /// The same arms in memory of their own.
+    #[inline]
     pub fn copy(&self, alloc: Global) -> Result<Arms, NoMemory>
         ensures { IfOk result (λ a. a ≡ self.now) }
     {
         match self.as_slice() {
             [arm] => Ok(Arms::of_one(alloc, *arm)),
-            arms => Ok(Arms {
-                items: SmallVec::from_slice(alloc, arms)?,
-            }),
+            arms => Arms::of(alloc, arms),
         }
+    }
+
+    // Apart from `copy`, so that the copy of one arm is made in place.
+    #[inline(never)]
+    fn of(alloc: Global, arms: &[Arm]) -> Result<Arms, NoMemory>
+        ensures { IfOk result (λ a. a ≡ arms.now) }
+    {
+        Ok(Arms {
+            items: SmallVec::from_slice(alloc, arms)?,
+        })
     }
 
     /// Whether the arms are equal, one by one and in order.
