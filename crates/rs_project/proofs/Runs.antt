@@ -14,6 +14,9 @@ use Rattle.rs_project.specs.Numbered.{nexts_of}
 use Rattle.rs_project.proofs.Cycles.{next-within}
 use Rattle.rs_project.proofs.Spread.{among-leads, leads-among, step_of}
 
+pub stands-itself : (pr : Protocol_data) (role : Role) (n : ℕ) → StandsFor pr role n n
+stands-itself pr role n = record { meets = λ t. ((λ m. m), (λ m. m)); ends = ((λ e. e), (λ e. e)) }
+
 pub stands-via : (pr : Protocol_data) (role : Role) (n mid end : ℕ) → StandsFor pr role n mid → StandsFor pr role mid end → StandsFor pr role n end
 stands-via pr role n mid end a b = record {
   meets = λ t. ((λ m. (b.meets t).0 ((a.meets t).0 m)), (λ m. (a.meets t).1 ((b.meets t).1 m)));

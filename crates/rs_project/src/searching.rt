@@ -98,6 +98,7 @@ impl<'a> Search<'a> {
     }
 
     /// The number of what the role meets first from the start, which is added where it is new.
+    #[inline(always)]
     pub fn find_from(&mut self, alloc: Global, start: u32) -> Result<u32, ProjFault>
         requires start { start < length self.old.survey.protocol.nodes }
         ensures survey { self.new.survey ≡ self.old.survey }
@@ -109,6 +110,18 @@ impl<'a> Search<'a> {
         if survey.involved[end as usize] {
             return number_of_lone(alloc, survey.role, &mut self.fronts, end);
         }
+        self.find_idle(alloc, end)
+    }
+
+    // The number of what the role meets first from a node that is no talk of the role.
+    #[inline(never)]
+    fn find_idle(&mut self, alloc: Global, end: u32) -> Result<u32, ProjFault>
+        requires end { end < length self.old.survey.protocol.nodes }
+        ensures survey { self.new.survey ≡ self.old.survey }
+        ensures ok { IfOk result (λ n. FindsFrom self.old.survey.protocol self.old.survey.role self.old.fronts (end ∷ []) self.new.fronts n) }
+        ensures err { IfErr result (λ e. FaultFrom self.old.survey.protocol self.old.survey.role self.old.fronts (end ∷ []) e) }
+    {
+        let survey = self.survey;
         let known = number_at(&self.numbers, end);
         if known > 0 {
             return Ok(known - 1);
