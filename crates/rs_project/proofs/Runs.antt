@@ -70,6 +70,13 @@ first-next : (arms : List Arm) → arms ≢ [] → (next : ℕ) × Among (nexts_
 first-next [] some = absurd (some refl)
 first-next (a ∷ arms) some = (a.next, inl refl)
 
+pub own-ends : (pr : Protocol_data) (role : Role) (ends : List ℕ) → length ends ≡ length pr.nodes → ((n : ℕ) → n < length pr.nodes → get_or ends n 0 ≡ n) → AreRunEnds pr role ends
+own-ends pr role ends size each = record {
+  size = size;
+  within = λ n h. (let e = each n h in omega (arith, e, h));
+  stands = λ n h. (let P : ℕ → Type 0 = λ z. StandsFor pr role n z in subst P (sym (each n h)) (stands-itself pr role n));
+}
+
 set-end : (pr : Protocol_data) (role : Role) (ends : List ℕ) (n end : ℕ) → end < length pr.nodes → StandsFor pr role n end → AreRunEnds pr role ends → AreRunEnds pr role (set ends n end)
 set-end pr role ends n end within stands runs = record {
   size = length-set ends n end ∙ runs.size;

@@ -169,6 +169,7 @@ fn front_of_many(
 }
 
 // The number of the front of this talk alone, which is added where it is new.
+#[inline(always)]
 fn number_of_lone(
     alloc: Global,
     role: Role,
