@@ -1,4 +1,4 @@
-use Rattle.std.proofs.Common.{arith, ◌≡◌, ◌∷◌, [], List, length, map, Some, get_or, slice_get, ap, subst, ◌∙◌, ◌≤◌, ◌<◌}
+use Rattle.std.proofs.Common.{arith, ◌≡◌, List, length, map, Some, get_or, slice_get, ap, subst, ◌∙◌, ◌≤◌, ◌<◌}
 use Rattle.rs_model.specs.declared.graph.Arm.{Arm}
 use Rattle.rs_model.specs.declared.values.Sort.TheVariants.{Unit as unit}
 use Rattle.rs_model.specs.Data.{Protocol_data}

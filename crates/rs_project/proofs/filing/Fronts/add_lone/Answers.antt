@@ -1,4 +1,4 @@
-use Rattle.std.proofs.Common.{rules, arith, ◌≡◌, ℕ, suc, ◌+◌, List, [], ◌∷◌, ◌++◌, length, length-append, Some, ap, ◌∙◌}
+use Rattle.std.proofs.Common.{rules, arith, ◌≡◌, suc, ◌+◌, List, [], ◌∷◌, ◌++◌, length, length-append, Some, ap, ◌∙◌}
 use Rattle.rs_project.specs.Data.{Front_data}
 use Rattle.rs_project.proofs.Buckets.{filed-lone}
 use Rattle.rs_project.proofs.Singles.{lone-on, lone-same}

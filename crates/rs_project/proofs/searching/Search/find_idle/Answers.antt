@@ -1,4 +1,4 @@
-use Rattle.std.proofs.Common.{◌∷◌, ◌-◌, ◌<◌, [], inl, ℕ, List, Err, length, get_or, refl, arith, ap, subst, sym, ◌∙◌}
+use Rattle.std.proofs.Common.{◌∷◌, ◌-◌, ◌<◌, [], inl, ℕ, List, Err, get_or, refl, arith, ap, subst, sym, ◌∙◌}
 use Rattle.rs_project.specs.Marks.{Survey_data}
 use Rattle.rs_project.specs.Working.{FaultFrom, FindsFrom, IsSearch, Search_data}
 use Rattle.rs_project.proofs.Behind.{fault-from}
