@@ -59,6 +59,16 @@ impl Arms {
         }
     }
 
+    /// One arm, which needs no allocation.
+    #[inline]
+    pub fn of_one(alloc: Global, arm: Arm) -> Arms
+        ensures { result ≡ arm ∷ [] }
+    {
+        let mut items = SmallVec::new(alloc);
+        items.push_reserved(arm);
+        Arms { items }
+    }
+
     /// Appends an arm; where memory is refused nothing changes.
     pub fn push(&mut self, arm: Arm) -> Result<(), NoMemory>
         ensures ok { OnOk result (self.new ≡ self.old ++ arm ∷ []) }
@@ -75,11 +85,23 @@ impl Arms {
     }
 
     /// The same arms in memory of their own.
+    #[inline]
     pub fn copy(&self, alloc: Global) -> Result<Arms, NoMemory>
         ensures { IfOk result (λ a. a ≡ self.now) }
     {
+        match self.as_slice() {
+            [arm] => Ok(Arms::of_one(alloc, *arm)),
+            arms => Arms::of(alloc, arms),
+        }
+    }
+
+    // Apart from `copy`, so that the copy of one arm is made in place.
+    #[inline(never)]
+    fn of(alloc: Global, arms: &[Arm]) -> Result<Arms, NoMemory>
+        ensures { IfOk result (λ a. a ≡ arms.now) }
+    {
         Ok(Arms {
-            items: SmallVec::from_slice(alloc, self.as_slice())?,
+            items: SmallVec::from_slice(alloc, arms)?,
         })
     }
 

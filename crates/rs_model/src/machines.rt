@@ -81,7 +81,7 @@ impl Machine {
     pub fn copy(&self, alloc: Global) -> Result<Machine, NoMemory>
         ensures { IfOk result (λ m. m ≡ self.now) }
     {
-        let mut states = Vec::new(alloc);
+        let mut states = Vec::with_capacity(alloc, self.states.len())?;
         for state in &self.states {
             states.push(state.copy(alloc)?)?;
         }

@@ -1,5 +1,5 @@
 -- The choices of one talk alone, and where they lead.
-use Rattle.std.proofs.Common.{◌≡◌, ◌≢◌, ◌⊎◌, inl, inr, ℕ, zero, suc, ◌<◌, Bool, true, false, List, [], ◌∷◌, ◌++◌, length, map, Some, slice_get, refl, sym, ap, ◌∙◌, subst, arith, if◌then◌else◌, ◌==◌, ◌||◌, append-nil}
+use Rattle.std.proofs.Common.{◌≡◌, ◌≢◌, ◌⊎◌, inl, inr, ℕ, zero, suc, ◌<◌, ◌≤◌, Bool, true, false, List, [], ◌∷◌, ◌++◌, length, map, Some, slice_get, get_or, refl, sym, ap, ◌∙◌, subst, arith, if◌then◌else◌, ◌==◌, ◌||◌, append-nil}
 use Rattle.std.specs.List.{All, flat_map, list_any}
 use Rattle.std.proofs.lemmas.Bool.Decides.{eqb_tells}
 use Rattle.std.proofs.lemmas.Option.{none-some, same_Some}
@@ -112,3 +112,14 @@ no-talks (x ∷ xs) e = elim (eqb_tells (length (x ∷ xs)) 0) [
   | inl p ↦ (let q = p.1 in absurd (omega (arith, q)))
   | inr p ↦ (let q = p.0 in absurd (cc (e, q)))
 ]
+
+-- a list of one arm
+
+pub first-arm : (arms : List Arm) (d : Arm) → 1 ≤ length arms → slice_get arms 0 ≡ Some (get_or arms 0 d)
+first-arm [] d some = absurd (let bad : ⊥ = omega (arith, some) in bad)
+first-arm (a ∷ arms) d some = refl
+
+pub only-arm : (arms : List Arm) (d : Arm) → 1 ≤ length arms → length arms < 2 → get_or arms 0 d ∷ [] ≡ arms
+only-arm [] d some few = absurd (let bad : ⊥ = omega (arith, some) in bad)
+only-arm (a ∷ []) d some few = refl
+only-arm (a ∷ b ∷ arms) d some few = absurd (let bad : ⊥ = omega (arith, few) in bad)

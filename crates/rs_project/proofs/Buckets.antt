@@ -4,7 +4,7 @@ use Rattle.std.proofs.lemmas.List.{get_or-set_same, get_or-set_other, length-set
 use Rattle.std.proofs.lemmas.Bool.Decides.{eqb_tells}
 use Rattle.std.proofs.lemmas.Option.{none-some, same_Some}
 use Rattle.rs_project.specs.Data.{Front_data}
-use Rattle.rs_project.specs.Filing.{FrontsAreFiled, IsChained, First, Later, bucket_on}
+use Rattle.rs_project.specs.Filing.{FrontsAreFiled, IsChained, IsShared, First, Later, bucket_on, lone_front}
 use Rattle.rs_project.specs.Working.{FrontIsNew}
 
 pub kept-at : {X : Type 0} (xs : List X) (y : X) (i : ℕ) (x : X) → slice_get xs i ≡ Some x → slice_get (xs ++ (y ∷ [])) i ≡ Some x
@@ -54,7 +54,7 @@ none-filed fs heads links ef eh el = rw (ef, eh, el) record {
   size = refl;
   within = λ b. (let z = zero-at 251 b in omega arith);
   falls = λ m next e. absurd (none-some next e);
-  filed = λ n f e. absurd (none-some f e);
+  filed = λ n f e shared. absurd (none-some f e);
 }
 
 pub filed-on : (fs fs' : List Front_data) (heads links heads' links' : List ℕ) (f : Front_data) (b head n : ℕ) → b ≡ bucket_on 0 f.talks → b < 251 → n ≡ length fs → head ≡ get_or heads b 0
@@ -75,8 +75,8 @@ filed-on fs fs' heads links heads' links' f b head n eb lt en eh ef el es a =
         | inl old ↦ a.falls m next old
         | inr new ↦ (let w = a.within b in let q = new.0 in let r = new.1 in omega arith)
       ];
-      filed = λ m x e. elim (either-at fs f m x e) [
-        | inl old ↦ (let c = grown links head (get_or heads (bucket_on 0 x.talks) 0) m (a.filed m x old) in elim (eqb_tells (bucket_on 0 x.talks) b) [
+      filed = λ m x e shared. elim (either-at fs f m x e) [
+        | inl old ↦ (let c = grown links head (get_or heads (bucket_on 0 x.talks) 0) m (a.filed m x old shared) in elim (eqb_tells (bucket_on 0 x.talks) b) [
           | inl q ↦ (let h : get_or (set heads b (n + 1)) (bucket_on 0 x.talks) 0 ≡ suc (length fs) = ap (λ (z : ℕ). get_or (set heads b (n + 1)) z 0) q.1 ∙ here in
               let g : slice_get (links ++ (head ∷ [])) (length fs) ≡ Some head = subst (λ (z : ℕ). slice_get (links ++ (head ∷ [])) z ≡ Some head) s (new-at links head) in
               let d : IsChained (links ++ (head ∷ [])) head m = subst (λ (z : ℕ). IsChained (links ++ (head ∷ [])) z m) (ap (λ (z : ℕ). get_or heads z 0) q.1 ∙ sym eh) c in
@@ -89,7 +89,25 @@ filed-on fs fs' heads links heads' links' f b head n eb lt en eh ef el es a =
       ];
     }
 
-pub looked-all : (fs : List Front_data) (heads links : List ℕ) (f : Front_data) (head : ℕ) (o : Option ℕ) → FrontsAreFiled fs heads links → head ≡ get_or heads (bucket_on 0 f.talks) 0
+pub filed-lone : (fs fs' : List Front_data) (heads links links' : List ℕ) (f : Front_data) (talk : ℕ) → f ≡ lone_front talk → fs' ≡ fs ++ (f ∷ []) → links' ≡ links ++ (0 ∷ [])
+    → FrontsAreFiled fs heads links → FrontsAreFiled fs' heads links'
+filed-lone fs fs' heads links links' f talk lone ef el a =
+    let l = length-append fs (f ∷ []) in let s = a.size in
+    rw (ef, el) record {
+      buckets = a.buckets;
+      size = (let k = length-append links (0 ∷ []) in omega arith);
+      within = λ b. (let w = a.within b in omega arith);
+      falls = λ m next e. elim (either-at links 0 m next e) [
+        | inl old ↦ a.falls m next old
+        | inr new ↦ (let r = new.1 in omega arith)
+      ];
+      filed = λ m x e shared. elim (either-at fs f m x e) [
+        | inl old ↦ grown links 0 (get_or heads (bucket_on 0 x.talks) 0) m (a.filed m x old shared)
+        | inr new ↦ absurd (shared talk (sym new.1 ∙ lone))
+      ];
+    }
+
+pub looked-all : (fs : List Front_data) (heads links : List ℕ) (f : Front_data) (head : ℕ) (o : Option ℕ) → IsShared f → FrontsAreFiled fs heads links → head ≡ get_or heads (bucket_on 0 f.talks) 0
     → MatchOption o ((n : ℕ) → IsChained links head n → slice_get fs n ≡ Some f → ⊥) (λ n. slice_get fs n ≡ Some f) → MatchOption o (FrontIsNew fs f) (λ n. slice_get fs n ≡ Some f)
-looked-all fs heads links f head (Some n) filed is found = found
-looked-all fs heads links f head None filed is none = λ k e. none k (subst (λ (z : ℕ). IsChained links z k) (sym is) (filed.filed k f e)) e
+looked-all fs heads links f head (Some n) shared filed is found = found
+looked-all fs heads links f head None shared filed is none = λ k e. none k (subst (λ (z : ℕ). IsChained links z k) (sym is) (filed.filed k f e shared)) e

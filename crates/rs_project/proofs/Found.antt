@@ -73,6 +73,20 @@ fault-all pr role old starts end (Err (Unreached r n)) some all h = absurd h
 fault-all pr role old starts end (Err (TooManyStates r)) some all h = (h.0, record { front = h.1.front; is = from-all pr role starts end h.1.front some all h.1.is; many = h.1.many; new = h.1.new })
 fault-all pr role old starts end (Err NoMemory) some all h = tt
 
+-- .. from one start
+pub finds-run : (pr : Protocol_data) (role : Role) (old : List Front_data) (start end : ℕ) (new : List Front_data) (r : Result ℕ ProjFault) → StandsFor pr role start end
+    → IfOk r (λ n. FindsFrom pr role old (end ∷ []) new n) → IfOk r (λ n. FindsFrom pr role old (start ∷ []) new n)
+finds-run pr role old start end new (Ok n) s h = record { front = h.front; is = from-start pr role start end h.front s h.is; adds = h.adds }
+finds-run pr role old start end new (Err e) s h = tt
+
+pub fault-run : (pr : Protocol_data) (role : Role) (old : List Front_data) (start end : ℕ) (r : Result ℕ ProjFault) → StandsFor pr role start end
+    → IfErr r (λ e. FaultFrom pr role old (end ∷ []) e) → IfErr r (λ e. FaultFrom pr role old (start ∷ []) e)
+fault-run pr role old start end (Ok n) s h = tt
+fault-run pr role old start end (Err (Unmergeable r a b)) s h = absurd h
+fault-run pr role old start end (Err (Unreached r n)) s h = absurd h
+fault-run pr role old start end (Err (TooManyStates r)) s h = (h.0, record { front = h.1.front; is = from-start pr role start end h.1.front s h.1.is; many = h.1.many; new = h.1.new })
+fault-run pr role old start end (Err NoMemory) s h = tt
+
 -- a run that ends at a talk of the role
 pub lone-from : (pr : Protocol_data) (role : Role) (start end : ℕ) → Involves pr role end → StandsFor pr role start end → IsFrontFrom pr role (start ∷ []) (lone_front end)
 lone-from pr role start end i s = lone-front pr role (start ∷ []) start end (lone_front end) refl refl (meets-only pr role start end i s)

@@ -179,7 +179,7 @@ survey-any pr role =
     let s = settle pr (count_of_lowered involved) involved (omega arith) size in
     let z = s.size in (
       record { protocol = pr; role = role; involved = involved; awaited = s.flags'; passing = without s.flags' involved; run_ends = [] },
-      is-survey pr role involved s.flags' (without s.flags' involved) [] refl s.size (without-size s.flags' involved ∙ s.size ∙ sym size) s.sound s.has s.settled
+      is-survey pr role involved s.flags' (without s.flags' involved) [] refl s.size (without-size s.flags' involved ∙ s.size ∙ sym size) (s.sound role) s.has s.settled
           (without-each s.flags' involved (s.size ∙ sym size)),
     )
 

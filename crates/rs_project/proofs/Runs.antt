@@ -14,6 +14,9 @@ use Rattle.rs_project.specs.Numbered.{nexts_of}
 use Rattle.rs_project.proofs.Cycles.{next-within}
 use Rattle.rs_project.proofs.Spread.{among-leads, leads-among, step_of}
 
+pub stands-itself : (pr : Protocol_data) (role : Role) (n : ℕ) → StandsFor pr role n n
+stands-itself pr role n = record { meets = λ t. ((λ m. m), (λ m. m)); ends = ((λ e. e), (λ e. e)) }
+
 pub stands-via : (pr : Protocol_data) (role : Role) (n mid end : ℕ) → StandsFor pr role n mid → StandsFor pr role mid end → StandsFor pr role n end
 stands-via pr role n mid end a b = record {
   meets = λ t. ((λ m. (b.meets t).0 ((a.meets t).0 m)), (λ m. (a.meets t).1 ((b.meets t).1 m)));
@@ -66,6 +69,13 @@ same-end ends end (a ∷ arms) h next m =
 first-next : (arms : List Arm) → arms ≢ [] → (next : ℕ) × Among (nexts_of arms) next
 first-next [] some = absurd (some refl)
 first-next (a ∷ arms) some = (a.next, inl refl)
+
+pub own-ends : (pr : Protocol_data) (role : Role) (ends : List ℕ) → length ends ≡ length pr.nodes → ((n : ℕ) → n < length pr.nodes → get_or ends n 0 ≡ n) → AreRunEnds pr role ends
+own-ends pr role ends size each = record {
+  size = size;
+  within = λ n h. (let e = each n h in omega (arith, e, h));
+  stands = λ n h. (let P : ℕ → Type 0 = λ z. StandsFor pr role n z in subst P (sym (each n h)) (stands-itself pr role n));
+}
 
 set-end : (pr : Protocol_data) (role : Role) (ends : List ℕ) (n end : ℕ) → end < length pr.nodes → StandsFor pr role n end → AreRunEnds pr role ends → AreRunEnds pr role (set ends n end)
 set-end pr role ends n end within stands runs = record {

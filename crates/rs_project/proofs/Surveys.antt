@@ -1,15 +1,16 @@
 -- What is known of the nodes of a protocol for one role.
-use Rattle.std.proofs.Common.{◌≡◌, ◌⊎◌, ◌↔◌, inl, inr, ℕ, zero, suc, ◌<◌, Bool, true, false, not, ◌&&◌, ◌||◌, ◌==◌, List, [], ◌∷◌, length, set, get_or, map, Some, slice_get, refl, sym, ap, ◌∙◌, subst, arith, if◌then◌else◌}
+use Rattle.std.proofs.Common.{◌≡◌, ◌⊎◌, ◌↔◌, inl, inr, ℕ, zero, suc, ◌<◌, Bool, true, false, not, ◌&&◌, ◌||◌, ◌==◌, List, [], ◌∷◌, length, set, get_or, map, Some, slice_get, replicate, refl, sym, ap, ◌∙◌, subst, arith, if◌then◌else◌}
 use Rattle.std.proofs.lemmas.Bool.Decides.{eqb_tells}
+use Rattle.std.proofs.lemmas.List.{get_or-set_same, get_or-set_other}
 use Rattle.rs_model.specs.Data.{Protocol_data}
 use Rattle.rs_model.specs.declared.graph.Arm.{Arm}
 use Rattle.rs_model.specs.declared.graph.Node.{Node}
 use Rattle.rs_model.specs.declared.graph.Node.TheVariants.{Finished, Talk}
 use Rattle.rs_model.specs.declared.graph.Role.{Role}
-use Rattle.rs_project.specs.Graph.{PathStep, LeadsTo, IsPath, Involves, IsIdle}
-use Rattle.rs_project.specs.Marks.{Among, IsOn, IsAwaited, AllAwaited, HasFlags, IsSettled, IsSurvey, any_on, leads_on, involves_role}
+use Rattle.rs_project.specs.Graph.{PathStep, LeadsTo, IsPath, Involves, IsIdle, PassesBy}
+use Rattle.rs_project.specs.Marks.{Among, IsOn, IsAwaited, AllAwaited, AreMarked, AreRunEnds, HasFlags, IsSettled, IsSurvey, any_on, leads_on, involves_role}
 use Rattle.rs_project.specs.Numbered.{nexts_of}
-use Rattle.rs_project.proofs.Flags.{on-within, on-decide, set-only}
+use Rattle.rs_project.proofs.Flags.{on-within, on-decide, off-flag, none-on, set-itself, set-on, set-only}
 use Rattle.rs_project.proofs.Spread.{step_of, among-leads, leads-among}
 
 any-some : (flags : List Bool) (arms : List Arm) → any_on flags arms ≡ true → (next : ℕ) × Among (nexts_of arms) next × IsOn flags next
@@ -132,9 +133,56 @@ map-length : (f : Node → Bool) (nodes : List Node) → length (map f nodes) �
 map-length f [] = refl
 map-length f (x ∷ xs) = ap suc (map-length f xs)
 
+-- ---- nodes are marked as awaited, and those that don't involve the role as passing
+
+passing-set : (involved awaited passing : List Bool) (x : ℕ) → x < length awaited → x < length passing → get_or awaited x false ≡ false → HasFlags involved awaited
+    → ((n : ℕ) → n < length involved → get_or passing n false ≡ (get_or awaited n false && not (get_or involved n false)))
+    → (n : ℕ) → n < length involved → get_or (set passing x true) n false ≡ (get_or (set awaited x true) n false && not (get_or involved n false))
+passing-set involved awaited passing x wa wp off has are n h = elim (eqb_tells n x) [
+  | inl p ↦ (let own : get_or involved n false ≡ false = off-flag involved n (λ o. (let k = has n o in let q = ap (λ (z : ℕ). get_or awaited z false) p.1 ∙ off in absurd (cc (k, q)))) in
+      let a : get_or (set awaited x true) n false ≡ true = ap (λ (z : ℕ). get_or (set awaited x true) z false) p.1 ∙ get_or-set_same awaited x true false wa in
+      let b : get_or (set passing x true) n false ≡ true = ap (λ (z : ℕ). get_or (set passing x true) z false) p.1 ∙ get_or-set_same passing x true false wp in
+      b ∙ sym (ap (λ (z : Bool). z && not (get_or involved n false)) a ∙ ap (λ (z : Bool). not z) own))
+  | inr p ↦ get_or-set_other passing x n true false p.1 ∙ are n h ∙ ap (λ (z : Bool). z && not (get_or involved n false)) (sym (get_or-set_other awaited x n true false p.1))
+]
+
+pub marked-none : (pr : Protocol_data) (role : Role) (involved passing : List Bool) (ends : List ℕ) (k : ℕ) → involved ≡ map (λ n. involves_role role n) pr.nodes → passing ≡ replicate k false → AreRunEnds pr role ends
+    → AreMarked pr role involved involved passing ends
+marked-none pr role involved passing ends k ei ep runs = record {
+  talks = inv;
+  has = λ n h. h;
+  reaches = λ n o. involved-awaited pr role n ((inv n).0 o);
+  passes = λ n h. (let P : List Bool → Type 0 = λ z. get_or z n false ≡ false in subst P (sym ep) (off-flag (replicate k false) n (none-on k n)) ∙ never (get_or involved n false));
+  runs = runs;
+}
+  where
+    inv : (n : ℕ) → IsOn involved n ↔ Involves pr role n
+    inv n = let P : List Bool → Type 0 = λ z. IsOn z n ↔ Involves pr role n in subst P (sym ei) (involved-flags pr role n)
+
+    never : (b : Bool) → false ≡ (b && not b)
+    never true = refl
+    never false = refl
+
+pub marked-more : (pr : Protocol_data) (role : Role) (involved awaited passing : List Bool) (ends ends' : List ℕ) (x : ℕ) (node : Node) → x < length awaited → x < length passing → get_or awaited x false ≡ false
+    → slice_get pr.nodes x ≡ Some node → leads_on awaited node ≡ true → (PassesBy pr role x → AreRunEnds pr role ends → AreRunEnds pr role ends')
+    → AreMarked pr role involved awaited passing ends → AreMarked pr role involved (set awaited x true) (set passing x true) ends'
+marked-more pr role involved awaited passing ends ends' x node wa wp off is leads on m =
+    let all = awaited-set pr role awaited x node is leads m.reaches in
+    let here = all x (set-itself awaited x wa) in
+    record {
+      talks = m.talks;
+      has = λ n h. set-on awaited x n (m.has n h);
+      reaches = all;
+      passes = passing-set involved awaited passing x wa wp off m.has m.passes;
+      runs = on record {
+        uninvolved = λ i. (let k = m.has x ((m.talks x).1 i) in absurd (cc (k, off)));
+        awaited = λ idle. idle here.talk here.reached here.involved;
+      } m.runs;
+    }
+
 pub is-survey : (pr : Protocol_data) (role : Role) (involved awaited passing : List Bool) (ends : List ℕ) → involved ≡ map (λ k. involves_role role k) pr.nodes
     → length awaited ≡ length pr.nodes → length passing ≡ length involved
-    → ((r : Role) → AllAwaited pr r involved → AllAwaited pr r awaited) → HasFlags involved awaited → IsSettled pr awaited
+    → (AllAwaited pr role involved → AllAwaited pr role awaited) → HasFlags involved awaited → IsSettled pr awaited
     → ((n : ℕ) → n < length involved → get_or passing n false ≡ (get_or awaited n false && not (get_or involved n false)))
     → IsSurvey pr role record { protocol = pr; role = role; involved = involved; awaited = awaited; passing = passing; run_ends = ends }
 is-survey pr role involved awaited passing ends e asize psize sound has settled each = record {
@@ -165,7 +213,14 @@ is-survey pr role involved awaited passing ends e asize psize sound has settled 
     inv n = let P : List Bool → Type 0 = λ z. IsOn z n ↔ Involves pr role n in subst P (sym e) (involved-flags pr role n)
 
     aw : (n : ℕ) → IsOn awaited n → IsAwaited pr role n
-    aw n h = sound role (λ m o. involved-awaited pr role m ((inv m).0 o)) n h
+    aw n h = sound (λ m o. involved-awaited pr role m ((inv m).0 o)) n h
 
     idle : (n : ℕ) → (IsOn awaited n → ⊥) → IsIdle pr role n
     idle n none = λ talk path i. none (on-back pr awaited settled path.0 n talk path.1 (has talk ((inv talk).1 i)))
+
+pub marked-survey : (pr : Protocol_data) (role : Role) (involved awaited passing : List Bool) (ends : List ℕ) → involved ≡ map (λ k. involves_role role k) pr.nodes
+    → length awaited ≡ length pr.nodes → length passing ≡ length pr.nodes → IsSettled pr awaited → AreMarked pr role involved awaited passing ends
+    → IsSurvey pr role record { protocol = pr; role = role; involved = involved; awaited = awaited; passing = passing; run_ends = ends }
+marked-survey pr role involved awaited passing ends e asize psize settled m =
+    let isize : length involved ≡ length pr.nodes = ap (λ (z : List Bool). length z) e ∙ map-length (λ k. involves_role role k) pr.nodes in
+    is-survey pr role involved awaited passing ends e asize (psize ∙ sym isize) (λ all. m.reaches) m.has settled m.passes

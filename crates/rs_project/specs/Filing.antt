@@ -13,17 +13,21 @@ pub data IsChained (links : List ℕ) : ℕ → ℕ → Type 0 where
   First : (n : ℕ) → IsChained links (suc n) n
   Later : (m next n : ℕ) → slice_get links m ≡ Some next → IsChained links next n → IsChained links (suc m) n
 
--- there are 251 buckets; the number of each front stands in the chain that begins at the head of the bucket of its talks, and chains fall
+-- what a role may meet first where it is this talk alone
+abbrev pub lone_front : ℕ → Front_data
+lone_front talk = record { talks = talk ∷ []; ends = false }
+
+-- the front isn't that of one talk alone
+abbrev pub IsShared : Front_data → Type 0
+IsShared front = (talk : ℕ) → front ≡ lone_front talk → ⊥
+
+-- there are 251 buckets; the number of each front that isn't that of one talk alone stands in the chain that begins at the head of the bucket of its talks, and chains fall
 pub record FrontsAreFiled (fronts : List Front_data) (heads links : List ℕ) : Type 0 where
   pub buckets : length heads ≡ 251
   pub size : length links ≡ length fronts
   pub within : (b : ℕ) → slice_index_or heads b 0 ≤ length fronts
   pub falls : (m next : ℕ) → slice_get links m ≡ Some next → next ≤ m
-  pub filed : (n : ℕ) (f : Front_data) → slice_get fronts n ≡ Some f → IsChained links (slice_index_or heads (bucket_on 0 f.talks) 0) n
-
--- what a role may meet first where it is this talk alone
-abbrev pub lone_front : ℕ → Front_data
-lone_front talk = record { talks = talk ∷ []; ends = false }
+  pub filed : (n : ℕ) (f : Front_data) → slice_get fronts n ≡ Some f → IsShared f → IsChained links (slice_index_or heads (bucket_on 0 f.talks) 0) n
 
 -- the number of the front of each talk alone stands at the talk, as one more than it is; 0 where there is none
 pub record AreLone (fronts : List Front_data) (numbers : List ℕ) : Type 0 where

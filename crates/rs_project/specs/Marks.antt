@@ -1,5 +1,5 @@
 -- Steps: what the search over the graph keeps: flags of nodes.
-use Rattle.std.specs.Prelude.{◌≡◌, ◌≢◌, ◌⊎◌, ◌↔◌, ℕ, ◌<◌, ◌≤◌, ◌^◌, Bool, true, false, suc, List, [], ◌∷◌, ◌++◌, length, drop, slice_index_or, slice_set, if◌then◌else◌, ◌==◌, ◌||◌, Option, None, Some, slice_get}
+use Rattle.std.specs.Prelude.{◌≡◌, ◌≢◌, ◌⊎◌, ◌↔◌, ℕ, ◌<◌, ◌≤◌, ◌^◌, Bool, true, false, suc, List, [], ◌∷◌, ◌++◌, length, drop, slice_index_or, slice_set, if◌then◌else◌, ◌==◌, ◌||◌, ◌&&◌, not, Option, None, Some, slice_get}
 use Rattle.std.specs.List.{All, AllPairs}
 use Rattle.rs_model.specs.Data.{Protocol_data}
 use Rattle.rs_model.specs.declared.graph.Arm.{Arm}
@@ -145,10 +145,6 @@ pub record HasUnreached (protocol : Protocol_data) (role : Role) (flags : List B
   pub size : length flags ≡ length protocol.nodes
   pub whole : (n : ℕ) → IsUnreached protocol role n → IsOn flags n
 
--- only nodes are flagged that pass by the role
-abbrev pub AllPassing : Protocol_data → Role → List Bool → Type 0
-AllPassing protocol role flags = (n : ℕ) → IsOn flags n → PassesBy protocol role n
-
 -- the role meets from node n what it meets from the other one
 pub record StandsFor (protocol : Protocol_data) (role : Role) (n other : ℕ) : Type 0 where
   pub meets : (talk : ℕ) → MeetsFirst protocol role n talk ↔ MeetsFirst protocol role other talk
@@ -159,6 +155,15 @@ pub record AreRunEnds (protocol : Protocol_data) (role : Role) (ends : List ℕ)
   pub size : length ends ≡ length protocol.nodes
   pub within : (n : ℕ) → n < length protocol.nodes → slice_index_or ends n 0 < length protocol.nodes
   pub stands : (n : ℕ) → n < length protocol.nodes → StandsFor protocol role n (slice_index_or ends n 0)
+
+-- the flags tell which nodes involve the role, from some nodes it is known that a talk of it can be reached, those of them
+-- that don't involve it are passing, and runs were followed
+pub record AreMarked (protocol : Protocol_data) (role : Role) (involved awaited passing : List Bool) (ends : List ℕ) : Type 0 where
+  pub talks : (n : ℕ) → IsOn involved n ↔ Involves protocol role n
+  pub has : HasFlags involved awaited
+  pub reaches : AllAwaited protocol role awaited
+  pub passes : (n : ℕ) → n < length involved → slice_index_or passing n false ≡ (slice_index_or awaited n false && not (slice_index_or involved n false))
+  pub runs : AreRunEnds protocol role ends
 
 -- the arms lead to nodes whose runs all end at that node
 abbrev pub have_end : List ℕ → ℕ → List Arm → Bool

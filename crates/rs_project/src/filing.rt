@@ -1,18 +1,19 @@
-ghost use Rattle.std.specs.Prelude.{◌≡◌, ◌<◌, ◌≤◌, ◌++◌, ◌∷◌, [], ℕ, true, false, length, slice_get, slice_index_or, Some, IfOk, IfSome, OnOk, OnErr, MatchOption};
+ghost use Rattle.std.specs.Prelude.{◌≡◌, ◌==◌, ◌<◌, ◌≤◌, ◌++◌, ◌∷◌, [], ℕ, true, false, length, slice_get, slice_index_or, Some, IfOk, IfSome, OnOk, OnErr, MatchOption};
 ghost use Rattle.rs_model.specs.declared.limits.TheConstants.{MOST_STATES};
-ghost use Rattle.rs_project.specs.Filing.{IsChained, bucket_on, lone_front, with_number};
+ghost use Rattle.rs_project.specs.Filing.{IsChained, IsShared, bucket_on, lone_front, with_number};
 ghost use Rattle.rs_project.specs.Working.{FrontIsNew};
 
 use crate::fronts::Front;
-use rs_model::NoMemory;
+use crate::straight::lone_front;
+use rs_model::{MOST_STATES, NoMemory};
 use std::alloc::Global;
 use std::marker::Model;
 
 const BUCKETS: usize = 251;
 
 /// Fronts in the order in which they were found, with an index by which one is found again: of each bucket the head of a
-/// chain of numbers, and of each number the next of its chain. A front of one talk alone is found by the talk. Each is one
-/// more than the number; 0 is none.
+/// chain of numbers, and of each number the next of its chain. A front of one talk alone is found by the talk, and stands
+/// in no chain. Each is one more than the number; 0 is none.
 #[derive(Drop)]
 pub struct Fronts {
     items: Vec<Front>,
@@ -69,8 +70,25 @@ impl Fronts {
         self.items.len()
     }
 
+    /// Whether no more can be added.
+    pub fn is_full(&self) -> bool
+        ensures { result ≡ (length self.now == MOST_STATES) }
+    {
+        self.items.len() == MOST_STATES
+    }
+
     /// The number of the front, where it was found before.
     pub fn number_of(&self, front: &Front) -> Option<u32>
+        ensures { MatchOption result (FrontIsNew self.now front.now) (λ n. slice_get self.now n ≡ Some front.now) }
+    {
+        match front.lone_talk() {
+            Some(talk) => self.number_of_lone(talk),
+            None => self.number_of_shared(front),
+        }
+    }
+
+    fn number_of_shared(&self, front: &Front) -> Option<u32>
+        requires { IsShared front.now }
         ensures { MatchOption result (FrontIsNew self.now front.now) (λ n. slice_get self.now n ≡ Some front.now) }
     {
         let head = self.heads[bucket_of(&front.talks)];
@@ -107,6 +125,23 @@ impl Fronts {
         set_number(&mut self.lone, talk, number + 1);
         Ok(())
     }
+
+    /// Adds the front of this talk alone at the end.
+    pub fn add_lone(&mut self, alloc: Global, talk: u32) -> Result<(), NoMemory>
+        requires { length self.old < MOST_STATES }
+        ensures ok { OnOk result (self.new ≡ self.old ++ (lone_front talk ∷ [])) }
+        ensures err { OnErr result (self.new ≡ self.old) }
+    {
+        let front = lone_front(alloc, talk)?;
+        let number = self.items.len() as u32;
+        make_room(&mut self.lone, Some(talk))?;
+        self.items.reserve(1)?;
+        self.links.reserve(1)?;
+        self.items.push_reserved(front);
+        self.links.push_reserved(0);
+        set_number(&mut self.lone, Some(talk), number + 1);
+        Ok(())
+    }
 }
 
 /// What stands at the node.
@@ -127,11 +162,20 @@ pub fn make_room(numbers: &mut Vec<u32>, talk: Option<u32>) -> Result<(), NoMemo
     let Some(talk) = talk else {
         return Ok(());
     };
-    let talk = talk as usize;
-    if talk < numbers.len() {
+    if (talk as usize) < numbers.len() {
         return Ok(());
     }
-    numbers.resize(talk + 1, 0)?;
+    lengthen(numbers, talk as usize + 1)
+}
+
+// Rare, and apart from `make_room`, so that it stays small.
+#[inline(never)]
+fn lengthen(numbers: &mut Vec<u32>, count: usize) -> Result<(), NoMemory>
+    requires { length numbers.old.items ≤ count }
+    ensures same { (n : ℕ) → slice_index_or numbers.new.items n 0 ≡ slice_index_or numbers.old.items n 0 }
+    ensures room { OnOk result (length numbers.new.items ≡ count) }
+{
+    numbers.resize(count, 0)?;
     Ok(())
 }
 

@@ -1,9 +1,9 @@
-ghost use Rattle.std.specs.Prelude.{◌≡◌, ◌<◌, ◌∷◌, [], map, length, IfOk, IfErr};
-ghost use Rattle.std.specs.List.{All};
-ghost use Rattle.rs_project.specs.Marks.{arms_in};
+ghost use Rattle.std.specs.Prelude.{◌≡◌, ◌<◌, ◌∷◌, [], map, length, slice_get, IfOk, IfErr};
+ghost use Rattle.std.specs.List.{All, flat_map};
+ghost use Rattle.rs_project.specs.Marks.{IsSurvey, arms_in, labelled_nexts_of};
 ghost use Rattle.rs_project.specs.Numbered.{nexts_of};
 ghost use Rattle.rs_project.specs.Projection.{choice_of, merged_choices};
-ghost use Rattle.rs_project.specs.Working.{ArmsFault, Discovers};
+ghost use Rattle.rs_project.specs.Working.{AreFound, ArmsFault, Discovers};
 
 use crate::ProjFault;
 use crate::merging::{merged_arms, starts_behind};
@@ -13,6 +13,45 @@ use std::alloc::Global;
 
 /// The arms of the state that stands for this talk alone. Fronts that weren't found before are added.
 pub fn lone_arms(alloc: Global, search: &mut Search, talk: u32) -> Result<Arms, ProjFault>
+    requires talk { talk < length search.old.survey.protocol.nodes }
+    ensures survey { search.new.survey ≡ search.old.survey }
+    ensures ok { IfOk result (λ arms. Discovers search.old.survey.protocol search.old.survey.role search.old.fronts (talk ∷ []) (merged_choices search.old.survey.protocol (talk ∷ [])) search.new.fronts (nexts_of arms)) }
+    ensures choices { IfOk result (λ arms. map choice_of arms ≡ merged_choices search.old.survey.protocol (talk ∷ [])) }
+    ensures err { IfErr result (λ e. ArmsFault search.old.survey.protocol search.old.survey.role search.old.fronts (talk ∷ []) (merged_choices search.old.survey.protocol (talk ∷ [])) e) }
+{
+    let survey = search.survey();
+    let protocol = survey.protocol;
+    match arms_in(&protocol.nodes[talk as usize]) {
+        [choice] => only_arm(alloc, search, talk, *choice),
+        _ => several_arms(alloc, search, talk),
+    }
+}
+
+// .. where the talk has this choice alone.
+fn only_arm(alloc: Global, search: &mut Search, talk: u32, choice: Arm) -> Result<Arms, ProjFault>
+    requires next { choice.next < length search.old.survey.protocol.nodes }
+    requires starts { choice.next ∷ [] ≡ flat_map (λ t. labelled_nexts_of choice.label (slice_get search.old.survey.protocol.nodes t)) (talk ∷ []) }
+    requires choice { choice_of choice ∷ [] ≡ merged_choices search.old.survey.protocol (talk ∷ []) }
+    requires survey { IsSurvey search.old.survey.protocol search.old.survey.role search.old.survey }
+    requires found { AreFound search.old.survey.protocol search.old.survey.role search.old.fronts }
+    ensures survey { search.new.survey ≡ search.old.survey }
+    ensures ok { IfOk result (λ arms. Discovers search.old.survey.protocol search.old.survey.role search.old.fronts (talk ∷ []) (merged_choices search.old.survey.protocol (talk ∷ [])) search.new.fronts (nexts_of arms)) }
+    ensures choices { IfOk result (λ arms. map choice_of arms ≡ merged_choices search.old.survey.protocol (talk ∷ [])) }
+    ensures err { IfErr result (λ e. ArmsFault search.old.survey.protocol search.old.survey.role search.old.fronts (talk ∷ []) (merged_choices search.old.survey.protocol (talk ∷ [])) e) }
+{
+    let next = search.find_from(alloc, choice.next)?;
+    Ok(Arms::of_one(
+        alloc,
+        Arm {
+            label: choice.label,
+            sort: choice.sort,
+            next,
+        },
+    ))
+}
+
+// .. where it has any choices.
+fn several_arms(alloc: Global, search: &mut Search, talk: u32) -> Result<Arms, ProjFault>
     requires talk { talk < length search.old.survey.protocol.nodes }
     ensures survey { search.new.survey ≡ search.old.survey }
     ensures ok { IfOk result (λ arms. Discovers search.old.survey.protocol search.old.survey.role search.old.fronts (talk ∷ []) (merged_choices search.old.survey.protocol (talk ∷ [])) search.new.fronts (nexts_of arms)) }

@@ -9,9 +9,9 @@ use crate::ProjFault;
 use crate::filing::{Fronts, make_room, number_at, set_number};
 use crate::fronts::{Front, marked_front};
 use crate::spreading::Marks;
-use crate::straight::{lone_front, run_end, straight_front};
+use crate::straight::{run_end, straight_front};
 use crate::surveying::Survey;
-use rs_model::{MOST_STATES, NoMemory, Role};
+use rs_model::{NoMemory, Role};
 use std::alloc::Global;
 use std::marker::Model;
 
@@ -98,6 +98,7 @@ impl<'a> Search<'a> {
     }
 
     /// The number of what the role meets first from the start, which is added where it is new.
+    #[inline(always)]
     pub fn find_from(&mut self, alloc: Global, start: u32) -> Result<u32, ProjFault>
         requires start { start < length self.old.survey.protocol.nodes }
         ensures survey { self.new.survey ≡ self.old.survey }
@@ -109,6 +110,18 @@ impl<'a> Search<'a> {
         if survey.involved[end as usize] {
             return number_of_lone(alloc, survey.role, &mut self.fronts, end);
         }
+        self.find_idle(alloc, end)
+    }
+
+    // The number of what the role meets first from a node that is no talk of the role.
+    #[inline(never)]
+    fn find_idle(&mut self, alloc: Global, end: u32) -> Result<u32, ProjFault>
+        requires end { end < length self.old.survey.protocol.nodes }
+        ensures survey { self.new.survey ≡ self.old.survey }
+        ensures ok { IfOk result (λ n. FindsFrom self.old.survey.protocol self.old.survey.role self.old.fronts (end ∷ []) self.new.fronts n) }
+        ensures err { IfErr result (λ e. FaultFrom self.old.survey.protocol self.old.survey.role self.old.fronts (end ∷ []) e) }
+    {
+        let survey = self.survey;
         let known = number_at(&self.numbers, end);
         if known > 0 {
             return Ok(known - 1);
@@ -156,6 +169,7 @@ fn front_of_many(
 }
 
 // The number of the front of this talk alone, which is added where it is new.
+#[inline(always)]
 fn number_of_lone(
     alloc: Global,
     role: Role,
@@ -169,8 +183,21 @@ fn number_of_lone(
     if let Some(known) = fronts.number_of_lone(talk) {
         return Ok(known);
     }
-    let front = lone_front(alloc, talk)?;
-    add_new(role, fronts, front)
+    add_new_lone(alloc, role, fronts, talk)
+}
+
+fn add_new_lone(alloc: Global, role: Role, fronts: &mut Fronts, talk: u32) -> Result<u32, ProjFault>
+    requires { FrontIsNew fronts.old (lone_front talk) }
+    ensures ok { IfOk result (λ n. AddsFront fronts.old (lone_front talk) fronts.new n) }
+    ensures err { IfErr result (λ e. NumberFault role fronts.old (lone_front talk) e) }
+    ensures same { OnErr result (fronts.new ≡ fronts.old) }
+{
+    if fronts.is_full() {
+        return Err(ProjFault::TooManyStates { role });
+    }
+    let number = fronts.len();
+    fronts.add_lone(alloc, talk)?;
+    Ok(number as u32)
 }
 
 // The number of a front, which is added where it is new.
@@ -191,10 +218,10 @@ fn add_new(role: Role, fronts: &mut Fronts, front: Front) -> Result<u32, ProjFau
     ensures err { IfErr result (λ e. NumberFault role fronts.old front e) }
     ensures same { OnErr result (fronts.new ≡ fronts.old) }
 {
-    let number = fronts.len();
-    if number == MOST_STATES {
+    if fronts.is_full() {
         return Err(ProjFault::TooManyStates { role });
     }
+    let number = fronts.len();
     fronts.add(front)?;
     Ok(number as u32)
 }

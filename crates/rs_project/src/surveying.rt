@@ -1,8 +1,8 @@
-ghost use Rattle.std.specs.Prelude.{◌≡◌, ◌≢◌, ◌↔◌, ◌≤◌, ◌<◌, ◌^◌, ◌&&◌, ℕ, true, false, not, map, length, slice_index_or, slice_get, [], Some, IfOk, IfSome};
+ghost use Rattle.std.specs.Prelude.{◌≡◌, ◌≢◌, ◌↔◌, ◌≤◌, ◌<◌, ◌^◌, ℕ, Bool, List, true, false, map, length, slice_index_or, slice_get, [], Some, IfOk, IfSome};
 ghost use Rattle.rs_model.specs.declared.graph.Node.{Node};
 ghost use Rattle.rs_model.specs.declared.graph.Role.{Role};
 ghost use Rattle.rs_project.specs.Graph.{Involves, IsIdle, PassesBy};
-ghost use Rattle.rs_project.specs.Marks.{AllAwaited, AllPassing, AreRunEnds, HasEnd, HasFlags, IsOn, IsSettled, LeadsWithin, any_on, have_end, involves_role, leads_on, count_of_lowered};
+ghost use Rattle.rs_project.specs.Marks.{AreMarked, AreRunEnds, HasEnd, IsOn, IsSettled, LeadsWithin, any_on, have_end, involves_role, leads_on, count_of_lowered};
 ghost use Rattle.rs_wellformed.specs.WellFormed.{IsWellFormed};
 ghost use Rattle.std.specs.List.{All};
 
@@ -45,9 +45,9 @@ pub fn survey_of<'a>(
     ensures role { IfOk result (λ s. s.role ≡ role) }
 {
     let involved = involved_nodes(alloc, protocol, role)?;
-    let awaited = awaited_nodes(alloc, protocol, &involved)?;
-    let passing = passing_nodes(alloc, &involved, &awaited)?;
-    let run_ends = ends_of_runs(alloc, protocol, &passing)?;
+    let mut passing = vec![in alloc; false; protocol.nodes.len()]?;
+    let mut run_ends = numbers(alloc, protocol.nodes.len())?;
+    let awaited = awaited_nodes(alloc, protocol, &involved, &mut passing, &mut run_ends)?;
     Ok(Survey {
         protocol,
         role,
@@ -81,31 +81,44 @@ fn involves(node: &Node, role: Role) -> bool
     }
 }
 
-// From which nodes a talk of the role can be reached.
+// From which nodes a talk of the role can be reached. Those of them that don't involve the role are marked as passing, and
+// their runs are followed.
 fn awaited_nodes(
     alloc: Global,
     protocol: &Protocol,
     involved: &[bool],
+    passing: &mut Vec<bool>,
+    ends: &mut Vec<u32>,
 ) -> Result<Vec<bool>, NoMemory>
     requires well_formed { IsWellFormed protocol.now }
     requires size { length involved.now ≡ length protocol.now.nodes }
+    requires passing_size { length passing.old.items ≡ length protocol.now.nodes }
+    requires ends_size { length ends.old.items ≡ length protocol.now.nodes }
     ensures size { IfOk result (λ v. length v.items ≡ length protocol.now.nodes) }
-    ensures sound { IfOk result (λ v. (role : Role) → AllAwaited protocol.now role involved.now → AllAwaited protocol.now role v.items) }
-    ensures has { IfOk result (λ v. HasFlags involved.now v.items) }
+    ensures passing_size { length passing.new.items ≡ length protocol.now.nodes }
+    ensures marked { IfOk result (λ v. (role : Role) → AreMarked protocol.now role involved.now involved.now passing.old.items ends.old.items → AreMarked protocol.now role involved.now v.items passing.new.items ends.new.items) }
     ensures settled { IfOk result (λ v. IsSettled protocol.now v.items) }
 {
     let mut awaited = Vec::from_slice(alloc, involved)?;
-    while await_more(protocol, &mut awaited) {}
+    while await_more(protocol, &mut awaited, passing, ends) {}
     Ok(awaited)
 }
 
 // Marks nodes that lead to a marked one, from the last to the first; whether some were marked.
-fn await_more(protocol: &Protocol, awaited: &mut Vec<bool>) -> bool
+fn await_more(
+    protocol: &Protocol,
+    awaited: &mut Vec<bool>,
+    passing: &mut Vec<bool>,
+    ends: &mut Vec<u32>,
+) -> bool
     requires well_formed { IsWellFormed protocol.now }
     requires size { length awaited.old.items ≡ length protocol.now.nodes }
+    requires passing_size { length passing.old.items ≡ length protocol.now.nodes }
+    requires ends_size { length ends.old.items ≡ length protocol.now.nodes }
     ensures size { length awaited.new.items ≡ length protocol.now.nodes }
-    ensures sound { (role : Role) → AllAwaited protocol.now role awaited.old.items → AllAwaited protocol.now role awaited.new.items }
-    ensures has { HasFlags awaited.old.items awaited.new.items }
+    ensures passing_size { length passing.new.items ≡ length protocol.now.nodes }
+    ensures ends_size { length ends.new.items ≡ length protocol.now.nodes }
+    ensures marked { (role : Role) (involved : List Bool) → AreMarked protocol.now role involved awaited.old.items passing.old.items ends.old.items → AreMarked protocol.now role involved awaited.new.items passing.new.items ends.new.items }
     ensures less { result ≡ true → count_of_lowered awaited.new.items < count_of_lowered awaited.old.items }
     ensures settled { result ≡ false → IsSettled protocol.now awaited.new.items }
 {
@@ -113,7 +126,7 @@ fn await_more(protocol: &Protocol, awaited: &mut Vec<bool>) -> bool
     let mut left = protocol.nodes.len();
     while left > 0 {
         left -= 1;
-        if await_one(protocol, awaited, left) {
+        if await_one(protocol, awaited, passing, ends, left) {
             more = true;
         }
     }
@@ -121,13 +134,22 @@ fn await_more(protocol: &Protocol, awaited: &mut Vec<bool>) -> bool
 }
 
 // Marks the node where it isn't marked and leads to a marked one; whether it did.
-fn await_one(protocol: &Protocol, awaited: &mut Vec<bool>, number: usize) -> bool
+fn await_one(
+    protocol: &Protocol,
+    awaited: &mut Vec<bool>,
+    passing: &mut Vec<bool>,
+    ends: &mut Vec<u32>,
+    number: usize,
+) -> bool
     requires well_formed { IsWellFormed protocol.now }
     requires size { length awaited.old.items ≡ length protocol.now.nodes }
+    requires passing_size { length passing.old.items ≡ length protocol.now.nodes }
+    requires ends_size { length ends.old.items ≡ length protocol.now.nodes }
     requires node { number < length protocol.now.nodes }
     ensures size { length awaited.new.items ≡ length protocol.now.nodes }
-    ensures sound { (role : Role) → AllAwaited protocol.now role awaited.old.items → AllAwaited protocol.now role awaited.new.items }
-    ensures has { HasFlags awaited.old.items awaited.new.items }
+    ensures passing_size { length passing.new.items ≡ length protocol.now.nodes }
+    ensures ends_size { length ends.new.items ≡ length protocol.now.nodes }
+    ensures marked { (role : Role) (involved : List Bool) → AreMarked protocol.now role involved awaited.old.items passing.old.items ends.old.items → AreMarked protocol.now role involved awaited.new.items passing.new.items ends.new.items }
     ensures less { result ≡ true → count_of_lowered awaited.new.items < count_of_lowered awaited.old.items }
     ensures same { result ≡ false → awaited.new.items ≡ awaited.old.items }
     ensures settled { result ≡ false → (node : Node) → slice_get protocol.now.nodes number ≡ Some node → leads_on awaited.old.items node ≡ true → IsOn awaited.old.items number }
@@ -139,6 +161,8 @@ fn await_one(protocol: &Protocol, awaited: &mut Vec<bool>, number: usize) -> boo
         return false;
     }
     awaited[number] = true;
+    passing[number] = true;
+    go_on(protocol, ends, number);
     true
 }
 
@@ -165,36 +189,6 @@ fn has_next_on(arms: &[Arm], awaited: &[bool]) -> bool
     false
 }
 
-fn passing_nodes(alloc: Global, involved: &[bool], awaited: &[bool]) -> Result<Vec<bool>, NoMemory>
-    requires { length awaited.now ≡ length involved.now }
-    ensures size { IfOk result (λ v. length v.items ≡ length involved.now) }
-    ensures each { IfOk result (λ v. (n : ℕ) → n < length involved.now → slice_index_or v.items n false ≡ (slice_index_or awaited.now n false && not (slice_index_or involved.now n false))) }
-{
-    let mut passing = vec![in alloc; false; involved.len()]?;
-    for i in 0..involved.len() {
-        passing[i] = awaited[i] && !involved[i];
-    }
-    Ok(passing)
-}
-
-// Where the runs end. A run goes on from a node that passes by the role and whose arms all come to one end.
-fn ends_of_runs(alloc: Global, protocol: &Protocol, passing: &[bool]) -> Result<Vec<u32>, NoMemory>
-    requires well_formed { IsWellFormed protocol.now }
-    requires few { length protocol.now.nodes < 2 ^ 32 }
-    requires size { length passing.now ≡ length protocol.now.nodes }
-    ensures { IfOk result (λ v. (role : Role) → AllPassing protocol.now role passing.now → AreRunEnds protocol.now role v.items) }
-{
-    let mut ends = numbers(alloc, passing.len())?;
-    let mut left = passing.len();
-    while left > 0 {
-        left -= 1;
-        if passing[left] {
-            go_on(protocol, &mut ends, left);
-        }
-    }
-    Ok(ends)
-}
-
 // The numbers of so many nodes, in order.
 fn numbers(alloc: Global, count: usize) -> Result<Vec<u32>, NoMemory>
     requires { count < 2 ^ 32 }
@@ -208,7 +202,7 @@ fn numbers(alloc: Global, count: usize) -> Result<Vec<u32>, NoMemory>
     Ok(numbers)
 }
 
-// The run that begins at the node ends where those behind its arms do, if they do at one node.
+// The run that begins at a node that passes by the role ends where those behind its arms do, if they do at one node.
 fn go_on(protocol: &Protocol, ends: &mut Vec<u32>, number: usize)
     requires well_formed { IsWellFormed protocol.now }
     requires size { length ends.old.items ≡ length protocol.now.nodes }

@@ -1,13 +1,10 @@
-use Rattle.std.proofs.Common.{◌∷◌, ◌-◌, ◌<◌, [], inl, ℕ, List, Err, IfOk, IfErr, length, get_or, refl, arith, ap, subst, sym, ◌∙◌}
+use Rattle.std.proofs.Common.{◌∷◌, ◌<◌, [], inl, IfOk, IfErr, length, refl, ap, subst, arith}
 use Rattle.rs_project.specs.Filing.{lone_front}
-use Rattle.rs_project.specs.Marks.{IsOn, Survey_data}
-use Rattle.rs_project.specs.Working.{FaultFrom, FindsFrom, IsSearch, Search_data}
+use Rattle.rs_project.specs.Marks.{IsOn, StandsFor, Survey_data}
+use Rattle.rs_project.specs.Working.{FaultFrom, FindsFrom, Search_data}
 use Rattle.rs_project.proofs.Behind.{fault-from, finds-from}
-use Rattle.rs_project.proofs.Handed.{handed-on}
-use Rattle.rs_project.proofs.Lists.{at-short}
 use Rattle.rs_project.proofs.Lone.{flag-at}
-use Rattle.rs_project.proofs.Numbers.{stands-adds}
-use Rattle.rs_project.proofs.Found.{finds-known, from-start, lone-from, noted-at, same-numbers, search-adds, search-result}
+use Rattle.rs_project.proofs.Found.{fault-run, finds-run, lone-from, search-result}
 use Rattle.rs_project.proofs.searching.Search.find_from.Goals as goal
 
 pub invariant_of-self : goal.invariant_of-self
@@ -47,97 +44,14 @@ returns-then-index-clause-err c =
     subst P c.self.view_is
     (fault-from pr role c.survey.inside.role c.self.inside.fronts (c.args.start ∷ []) (lone_front end) c.number_of_lone.result (ap (λ (z : Survey_data). z.role) c.survey.view_is) front c.number_of_lone.ensures.err)
 
-pub returns-then-known-gt0-clause-ok : goal.returns-then-known-gt0-clause-ok
-returns-then-known-gt0-clause-ok c =
-    let S : Search_data = record { survey = c.self.inside.survey.now; fronts = c.self.inside.fronts } in
-    let pr = c.self.inside.survey.now.protocol in
-    let role = c.self.inside.survey.now.role in
-    let end = c.run_end-end.result in
-    let P : Search_data → Type 0 = λ z. FindsFrom z.survey.protocol z.survey.role z.fronts (c.args.start ∷ []) z.fronts (c.number_at-known.result - 1) in
-    let some : 0 < c.number_at-known.result = (let t = c.if-known-gt0.true in omega (arith, t)) in
-    subst P c.self.view_is
-    (finds-known S c.self.inside.numbers.items c.args.start end c.number_at-known.result c.self.invariant c.run_end-end.ensures.stands
-    (c.number_at-known.ensures ∙ ap (λ (z : List ℕ). get_or z end 0) c.deref.ensures.value) some)
-
-pub invariant_of-self-in_err-make_room : goal.invariant_of-self-in_err-make_room
-invariant_of-self-in_err-make_room c =
-    let S : Search_data = record { survey = c.self.inside.survey.now; fronts = c.self.inside.fronts } in
-    let pr = c.self.inside.survey.now.protocol in
-    let role = c.self.inside.survey.now.role in
-    let end = c.run_end-end.result in
-    let numbers = c.make_room.new.numbers.items in
-    let is = same-numbers S c.self.inside.numbers.items numbers c.make_room.ensures.same c.self.invariant in
-    is
-
-pub invariant_of-self-in_err-front : goal.invariant_of-self-in_err-front
-invariant_of-self-in_err-front c =
-    let S : Search_data = record { survey = c.self.inside.survey.now; fronts = c.self.inside.fronts } in
-    let pr = c.self.inside.survey.now.protocol in
-    let role = c.self.inside.survey.now.role in
-    let end = c.run_end-end.result in
-    let numbers = c.make_room.new.numbers.items in
-    let is = same-numbers S c.self.inside.numbers.items numbers c.make_room.ensures.same c.self.invariant in
-    is
-
-pub invariant_of-self-in_err-number : goal.invariant_of-self-in_err-number
-invariant_of-self-in_err-number c =
-    let S : Search_data = record { survey = c.self.inside.survey.now; fronts = c.self.inside.fronts } in
-    let pr = c.self.inside.survey.now.protocol in
-    let role = c.self.inside.survey.now.role in
-    let end = c.run_end-end.result in
-    let numbers = c.make_room.new.numbers.items in
-    let is = same-numbers S c.self.inside.numbers.items numbers c.make_room.ensures.same c.self.invariant in
-    search-result S c.number_of.new.fronts numbers (end ∷ []) end c.in_ok-front.front (Err c.in_err-number.field-0.0) is (inl refl) c.in_ok-front.ensures c.in_err-number.ensures.ok c.in_err-number.ensures.same
-
-pub returns-in_err-number-clause-err : goal.returns-in_err-number-clause-err
-returns-in_err-number-clause-err c =
-    let S : Search_data = record { survey = c.self.inside.survey.now; fronts = c.self.inside.fronts } in
-    let pr = c.self.inside.survey.now.protocol in
-    let role = c.self.inside.survey.now.role in
-    let end = c.run_end-end.result in
-    let P : Search_data → Type 0 = λ z. FaultFrom z.survey.protocol z.survey.role z.fronts (c.args.start ∷ []) c.in_err-number.field-0.0 in
-    handed-on c.from_residual-in_err-number.result c.in_err-number.field-0.0 (λ e. FaultFrom c.args.self.now.survey.protocol c.args.self.now.survey.role c.args.self.now.fronts (c.args.start ∷ []) e)
-    c.from_residual-in_err-number.ensures.1
-    (subst P c.self.view_is
-    (fault-from pr role c.survey.inside.role c.self.inside.fronts (c.args.start ∷ []) c.in_ok-front.front (Err c.in_err-number.field-0.0) (ap (λ (z : Survey_data). z.role) c.survey.view_is)
-    (from-start pr role c.args.start end c.in_ok-front.front c.run_end-end.ensures.stands c.in_ok-front.ensures) c.in_err-number.ensures.err))
-
-pub overflow_add-number : goal.overflow_add-number
-overflow_add-number c =
-    let S : Search_data = record { survey = c.self.inside.survey.now; fronts = c.self.inside.fronts } in
-    let pr = c.self.inside.survey.now.protocol in
-    let role = c.self.inside.survey.now.role in
-    let end = c.run_end-end.result in
-    let n = c.in_ok-number.number in
-    let is = search-adds S c.number_of.new.fronts c.self.inside.numbers.items (end ∷ []) end c.in_ok-front.front n c.self.invariant (inl refl) c.in_ok-front.ensures c.in_ok-number.ensures.ok in
-    let short = at-short c.number_of.new.fronts n c.in_ok-front.front (stands-adds c.self.inside.fronts c.number_of.new.fronts c.in_ok-front.front n c.in_ok-number.ensures.ok) in
-    let few = is.found.few in
-    omega (arith, short, few)
-
-pub invariant_of-self-2 : goal.invariant_of-self-2
-invariant_of-self-2 c =
-    let S : Search_data = record { survey = c.self.inside.survey.now; fronts = c.self.inside.fronts } in
-    let pr = c.self.inside.survey.now.protocol in
-    let role = c.self.inside.survey.now.role in
-    let end = c.run_end-end.result in
-    let numbers = c.make_room.new.numbers.items in
-    let is = same-numbers S c.self.inside.numbers.items numbers c.make_room.ensures.same c.self.invariant in
-    let n = c.in_ok-number.number in
-    let T : Search_data = record { survey = c.self.inside.survey.now; fronts = c.number_of.new.fronts } in
-    let P : List ℕ → Type 0 = λ z. IsSearch T z in
-    subst P (sym c.set_number.ensures)
-    (noted-at T numbers end n c.in_ok-front.front (search-adds S c.number_of.new.fronts numbers (end ∷ []) end c.in_ok-front.front n is (inl refl) c.in_ok-front.ensures c.in_ok-number.ensures.ok)
-    c.in_ok-make_room.ensures.room (stands-adds c.self.inside.fronts c.number_of.new.fronts c.in_ok-front.front n c.in_ok-number.ensures.ok) c.in_ok-front.ensures)
-
 pub returns-clause-ok : goal.returns-clause-ok
 returns-clause-ok c =
-    let S : Search_data = record { survey = c.self.inside.survey.now; fronts = c.self.inside.fronts } in
-    let pr = c.self.inside.survey.now.protocol in
-    let role = c.self.inside.survey.now.role in
-    let end = c.run_end-end.result in
-    let P : Search_data → Type 0 = λ z. FindsFrom z.survey.protocol z.survey.role z.fronts (c.args.start ∷ []) c.number_of.new.fronts c.in_ok-number.number in
-    subst P c.self.view_is record {
-      front = c.in_ok-front.front;
-      is = from-start pr role c.args.start end c.in_ok-front.front c.run_end-end.ensures.stands c.in_ok-front.ensures;
-      adds = c.in_ok-number.ensures.ok;
-    }
+    let P : Search_data → Type 0 = λ z. StandsFor z.survey.protocol z.survey.role c.args.start c.run_end-end.result in
+    finds-run c.args.self.now.survey.protocol c.args.self.now.survey.role c.args.self.now.fronts c.args.start c.run_end-end.result c.find_idle.new.self.fronts c.find_idle.result
+    (subst P c.self.view_is c.run_end-end.ensures.stands) c.find_idle.ensures.ok
+
+pub returns-clause-err : goal.returns-clause-err
+returns-clause-err c =
+    let P : Search_data → Type 0 = λ z. StandsFor z.survey.protocol z.survey.role c.args.start c.run_end-end.result in
+    fault-run c.args.self.now.survey.protocol c.args.self.now.survey.role c.args.self.now.fronts c.args.start c.run_end-end.result c.find_idle.result
+    (subst P c.self.view_is c.run_end-end.ensures.stands) c.find_idle.ensures.err

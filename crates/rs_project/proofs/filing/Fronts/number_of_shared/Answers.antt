@@ -4,7 +4,7 @@ use Rattle.rs_project.specs.Data.{Front_data}
 use Rattle.rs_project.specs.Filing.{IsChained, bucket_on}
 use Rattle.rs_project.specs.Working.{FrontIsNew}
 use Rattle.rs_project.proofs.Buckets.{looked-all}
-use Rattle.rs_project.proofs.filing.Fronts.number_of.Goals as goal
+use Rattle.rs_project.proofs.filing.Fronts.number_of_shared.Goals as goal
 
 pub returns : goal.returns
 returns c =
@@ -19,5 +19,5 @@ returns c =
     let Q : List Front_data → Type 0 = λ z. MatchOption c.number_along.result ((n : ℕ) → IsChained c.deref-3.result.now c.index-head.result.now n → slice_get z n ≡ Some c.args.front.now → ⊥) (λ n. slice_get z n ≡ Some c.args.front.now) in
     let R : List ℕ → Type 0 = λ z. MatchOption c.number_along.result ((n : ℕ) → IsChained z c.index-head.result.now n → slice_get c.self.inside.items.items n ≡ Some c.args.front.now → ⊥) (λ n. slice_get c.self.inside.items.items n ≡ Some c.args.front.now) in
     subst P c.self.view_is
-    (looked-all c.self.inside.items.items c.self.inside.heads.items c.self.inside.links.items c.args.front.now c.index-head.result.now c.number_along.result c.self.invariant.filed head
+    (looked-all c.self.inside.items.items c.self.inside.heads.items c.self.inside.links.items c.args.front.now c.index-head.result.now c.number_along.result c.requires c.self.invariant.filed head
     (subst R c.deref-3.ensures.value (subst Q c.deref-2.ensures.value c.number_along.ensures)))
