@@ -17,6 +17,7 @@ use rs_text::{
     Binding, MessagePlace, MessageStep, NameTable, Stop, Terminal, TextKind, TextToken, Wanted,
     bound_number, expected, fault, feed_label, feed_message, seen, unbind,
 };
+use smallvec::SmallVec;
 use std::alloc::Global;
 use std::marker::Model;
 
@@ -440,7 +441,7 @@ impl<'a> Reader<'a> {
         self.link(from, Some(act))?;
         self.drafts.push(Draft {
             head,
-            arms: Vec::new(self.alloc),
+            arms: SmallVec::new(self.alloc),
         })?;
         self.mode = Mode::AtArms { act };
         Ok(())
