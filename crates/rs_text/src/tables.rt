@@ -3,7 +3,7 @@ ghost use Rattle.rs_text.specs.Names.{place_of};
 ghost use Rattle.rs_text.specs.Tables.{AreFiled, AreFiledIn, IsChained, bucket_of, bucket_on};
 ghost use Rattle.rs_text.specs.declared.tables.TheConstants.{BUCKETS};
 
-use crate::names::find;
+use crate::names::{are_equal, find};
 use rs_model::{Name, NoMemory};
 use std::alloc::Global;
 use std::marker::Model;
@@ -190,5 +190,5 @@ fn is_same(one: &[u8], other: &[u8]) -> bool
     ensures sound { result ≡ true → one.now ≡ other.now }
     ensures whole { result ≡ false → one.now ≡ other.now → ⊥ }
 {
-    one == other
+    are_equal(one, other)
 }
