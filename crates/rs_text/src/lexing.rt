@@ -75,8 +75,8 @@ pub fn next_token(bytes: &[u8], at: usize) -> TextToken<'_>
     ensures within { result.until ≤ length bytes.now }
 {
     let (_, rest) = bytes.split_at(at);
-    let from = at + gap(rest);
-    let (_, here) = bytes.split_at(from);
+    let here = behind_gap(rest);
+    let from = bytes.len() - here.len();
     let (terminal, size) = terminal_in_front(here);
     TextToken {
         terminal,
@@ -107,11 +107,11 @@ fn with_digit(value: u32, digit: u8) -> Option<u32>
         .checked_add(u32::from(digit.saturating_sub(b'0')))
 }
 
-/// The count of bytes in front that are blanks and comments.
+/// What stands behind the blanks and comments in front.
 #[inline(always)]
-fn gap(bytes: &[u8]) -> usize
-    ensures count { result ≡ length_of_blanks false bytes.now }
-    ensures within { result ≤ length bytes.now }
+fn behind_gap(bytes: &[u8]) -> &[u8]
+    ensures behind { result.now ≡ drop (length_of_blanks false bytes.now) bytes.now }
+    ensures within { length result.now ≤ length bytes.now }
 {
     let mut rest = bytes;
     loop {
@@ -121,7 +121,7 @@ fn gap(bytes: &[u8]) -> usize
                 rest = next;
             }
             [first, behind @ ..] if is_blank(*first) => rest = behind,
-            _ => return bytes.len() - rest.len(),
+            _ => return rest,
         }
     }
 }

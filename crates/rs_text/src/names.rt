@@ -13,6 +13,7 @@ use rs_model::{MOST_NAME_BYTES, Name, Names, NoMemory};
 use std::alloc::Global;
 
 /// The place of a name among others, the first one if it stands there more than once.
+#[inline(never)]
 pub fn find(names: &[Name], word: &[u8]) -> Option<usize>
     ensures { result ≡ place_of word.now names.now }
 {

@@ -85,14 +85,14 @@ impl NameTable {
     }
 
     /// The place of a name, the first one if it stands there more than once.
+    #[inline(always)]
     pub fn find(&self, word: &[u8]) -> Option<usize>
         ensures { result ≡ place_of word.now self.now }
     {
         if self.heads.is_empty() {
             return find(self.names.as_slice(), word);
         }
-        let head = self.heads[bucket_of(word)];
-        place_along(self.names.as_slice(), &self.links, head, word)
+        find_filed(self.names.as_slice(), &self.heads, &self.links, word)
     }
 
     /// Puts a name behind the others and gives its place; where memory is refused nothing changes.
@@ -116,6 +116,16 @@ impl NameTable {
         self.heads[bucket] = place + 1;
         Ok(place)
     }
+}
+
+// The place of a name among names that are filed.
+#[inline(never)]
+fn find_filed(names: &[Name], heads: &[usize], links: &[usize], word: &[u8]) -> Option<usize>
+    requires { AreFiled names.now heads.now links.now }
+    ensures { result ≡ place_of word.now names.now }
+{
+    let head = heads[bucket_of(word)];
+    place_along(names, links, head, word)
 }
 
 #[derive(Drop)]
