@@ -449,6 +449,7 @@ impl<'a> Reader<'a> {
         )
     }
 
+    #[inline(always)]
     fn begin_act(&mut self, dialect: Dialect, from: Link, head: Head, at: usize) -> Result<(), Stop>
         ensures { spec.Feeds result (spec.feed_new_head dialect from head at self.old) self.old self.new }
     {
@@ -719,9 +720,13 @@ impl<'a> Reader<'a> {
     }
 
     /// Whether the whole part is read.
+    #[inline(always)]
     pub fn is_read(&self) -> bool
         ensures { result ≡ spec.is_read self.now }
     {
-        self.mode == Mode::Next && self.frames.is_empty()
+        match self.mode {
+            Mode::Next => self.frames.is_empty(),
+            _ => false,
+        }
     }
 }
