@@ -458,10 +458,11 @@ impl<'a> Reader<'a> {
         }
         let act = self.drafts.len() as u32;
         self.link(from, Some(act))?;
-        self.drafts.push(Draft {
+        self.drafts.reserve(1)?;
+        self.drafts.push_reserved(Draft {
             head,
             arms: SmallVec::new(self.alloc),
-        })?;
+        });
         self.mode = Mode::AtArms { act };
         Ok(())
     }
