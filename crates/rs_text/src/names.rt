@@ -25,13 +25,6 @@ pub fn find(names: &[Name], word: &[u8]) -> Option<usize>
     None
 }
 
-#[inline(always)]
-fn is_same(one: &[u8], other: &[u8]) -> bool
-    ensures { result ≡ bytes_eq one.now other.now }
-{
-    are_equal(one, other)
-}
-
 /// Whether two texts are equal, byte by byte.
 #[inline(always)]
 pub(crate) fn are_equal(one: &[u8], other: &[u8]) -> bool
@@ -46,6 +39,14 @@ pub(crate) fn are_equal(one: &[u8], other: &[u8]) -> bool
         }
     }
     true
+}
+
+/// The same, as the definition tells it.
+#[inline(always)]
+pub(crate) fn is_same(one: &[u8], other: &[u8]) -> bool
+    ensures { result ≡ bytes_eq one.now other.now }
+{
+    are_equal(one, other)
 }
 
 /// Puts a name behind the others and gives its place; where memory is refused nothing changes.
