@@ -120,11 +120,12 @@ fn read<'a>(
     ensures sound { IsSound (names_read reader.new) }
     ensures kept { KeepsBy dialect (names_read reader.old) (names_read reader.new) }
 {
-    let mut token = next_token(bytes, at);
+    let mut until = at;
     while !reader.is_read() {
-        let next = next_token(bytes, token.until());
-        reader.feed(dialect, &token, &next)?;
-        token = next;
+        let token = next_token(bytes, until);
+        reader.feed(dialect, &token, bytes)?;
+        until = token.until();
     }
-    Ok(token.from())
+    let behind = next_token(bytes, until);
+    Ok(behind.from())
 }

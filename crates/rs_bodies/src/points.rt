@@ -55,13 +55,14 @@ pub(crate) fn points(alloc: Global, drafts: &[Draft], last: u32) -> Result<Vec<P
     ensures count { IfOk result (λ points. length points.items ≡ length drafts.now) }
     ensures points { IfOk result (λ points. points.items ≡ map (point_of_draft last) drafts.now) }
 {
-    let mut points = Vec::new(alloc);
+    let mut points = Vec::with_capacity(alloc, drafts.len())?;
     for draft in drafts {
         let arms = arms(alloc, draft.arms.as_slice(), last)?;
-        points.push(Point {
+        points.reserve(1)?;
+        points.push_reserved(Point {
             head: draft.head,
             arms,
-        })?;
+        });
     }
     Ok(points)
 }

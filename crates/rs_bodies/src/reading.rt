@@ -1,6 +1,7 @@
 ghost use Rattle.std.specs.Prelude.{◌≡◌, ◌≤◌, ◌<◌, ◌+◌, ◌++◌, ◌∷◌, [], length, OnOk, OnErr, IfOk, IfErr, IfSome, IfNone, Some, None, Option, Ok, Err, true, false, drop, reverse, codes, suc, nat_le, if◌then◌else◌};
 ghost use Rattle.std.specs.Option.{option_map};
 ghost use Rattle.rs_model.specs.declared.limits.TheConstants.{MOST_LABELS, MOST_ROLES, MOST_TALKS};
+ghost use Rattle.rs_text.specs.Lexing.{next_lexeme};
 ghost use Rattle.rs_text.specs.Messages.{feed_label, feed_message};
 ghost use Rattle.rs_text.specs.Names.{nearest_binding, place_of};
 ghost use Rattle.rs_text.specs.Readings.{feed_sign};
@@ -15,8 +16,9 @@ use crate::drafts::{Draft, DraftArm, add_arm};
 use rs_model::{Label, MOST_ACTS, MOST_NESTING, MOST_ROLES, MOST_TALKS, Name, Role, Sort};
 use rs_text::{
     Binding, MessagePlace, MessageStep, NameTable, Stop, Terminal, TextKind, TextToken, Wanted,
-    bound_number, expected, fault, feed_label, feed_message, seen, unbind,
+    bound_number, expected, fault, feed_label, feed_message, next_token, seen, unbind,
 };
+use smallvec::SmallVec;
 use std::alloc::Global;
 use std::marker::Model;
 
@@ -105,6 +107,7 @@ pub(crate) fn most_heads(dialect: Dialect) -> usize
 }
 
 /// Whether the token behind a word makes it a role.
+#[inline(always)]
 fn is_turn(dialect: Dialect, token: &TextToken) -> bool
     ensures { result ≡ turns dialect token.now.sign }
 {
@@ -126,6 +129,7 @@ fn role_named(roles: &NameTable, word: &[u8]) -> Option<Role>
     Some(Role(place as u8))
 }
 
+// The steps are inline, so that a token need not be laid out in memory.
 impl<'a> Reader<'a> {
     /// A reader before its first token.
     pub fn new(alloc: Global, dialect: Dialect, roles: Vec<Name>, labels: Vec<Name>) -> Reader<'a>
@@ -152,6 +156,7 @@ impl<'a> Reader<'a> {
         }
     }
 
+    #[inline(always)]
     fn link(&mut self, from: Link, target: Option<u32>) -> Result<(), Stop>
         ensures ok { OnOk result (self.new ≡ spec.reader_behind_link from target self.old) }
         ensures err { IfErr result (λ e. e ≡ Stop.Memory) }
@@ -186,6 +191,7 @@ impl<'a> Reader<'a> {
         Ok(())
     }
 
+    #[inline(always)]
     fn roles(&mut self, token: &TextToken) -> Result<(), Stop>
         ensures { spec.Feeds result (spec.feed_roles token.now.sign token.now.from self.old) self.old self.new }
     {
@@ -198,6 +204,7 @@ impl<'a> Reader<'a> {
         }
     }
 
+    #[inline(always)]
     fn role_of_line(&mut self, after: Mode, token: &TextToken) -> Result<(), Stop>
         ensures { spec.Feeds result (spec.new_role after (plain_text token.now.sign) token.now.from self.old) self.old self.new }
     {
@@ -207,6 +214,7 @@ impl<'a> Reader<'a> {
         }
     }
 
+    #[inline(always)]
     fn first_comma(&mut self, token: &TextToken) -> Result<(), Stop>
         ensures { spec.Feeds result (spec.feed_first_comma token.now.sign token.now.from self.old) self.old self.new }
     {
@@ -219,6 +227,7 @@ impl<'a> Reader<'a> {
         }
     }
 
+    #[inline(always)]
     fn line(&mut self, token: &TextToken) -> Result<(), Stop>
         ensures { spec.Feeds result (spec.feed_line token.now.sign token.now.from self.old) self.old self.new }
     {
@@ -232,6 +241,7 @@ impl<'a> Reader<'a> {
     }
 
     /// The word `protocol`.
+    #[inline(always)]
     fn protocol(&mut self, token: &TextToken) -> Result<(), Stop>
         ensures ok { OnOk result (is_text (codes "protocol") (plain_text token.now.sign) ≡ true) }
         ensures done { OnOk result (spec.in_mode (Mode.Body Link.Start) self.old ≡ Ok self.new) }
@@ -249,6 +259,7 @@ impl<'a> Reader<'a> {
     }
 
     /// The word `machine`.
+    #[inline(always)]
     fn machine(&mut self, token: &TextToken) -> Result<(), Stop>
         ensures { spec.Feeds result (spec.feed_machine token.now.sign token.now.from self.old) self.old self.new }
     {
@@ -261,6 +272,7 @@ impl<'a> Reader<'a> {
         }
     }
 
+    #[inline(always)]
     fn own_role(&mut self, token: &TextToken) -> Result<(), Stop>
         ensures { spec.Feeds result (spec.feed_role (plain_text token.now.sign) token.now.from self.old) self.old self.new }
     {
@@ -282,6 +294,7 @@ impl<'a> Reader<'a> {
         Ok(())
     }
 
+    #[inline(always)]
     fn colon(&mut self, token: &TextToken) -> Result<(), Stop>
         ensures { spec.Feeds result (spec.feed_colon token.now.sign token.now.from self.old) self.old self.new }
     {
@@ -327,6 +340,7 @@ impl<'a> Reader<'a> {
         Ok(())
     }
 
+    #[inline(always)]
     fn rec_name(&mut self, from: Link, token: &TextToken<'a>) -> Result<(), Stop>
         ensures { spec.Feeds result (spec.feed_rec_name from (plain_text token.now.sign) token.now.from self.old) self.old self.new }
     {
@@ -339,6 +353,7 @@ impl<'a> Reader<'a> {
         Ok(())
     }
 
+    #[inline(always)]
     fn rec_dot(&mut self, from: Link, token: &TextToken) -> Result<(), Stop>
         ensures { spec.Feeds result (spec.feed_rec_dot from token.now.sign token.now.from self.old) self.old self.new }
     {
@@ -351,6 +366,7 @@ impl<'a> Reader<'a> {
         }
     }
 
+    #[inline(always)]
     fn turn(
         &mut self,
         dialect: Dialect,
@@ -366,6 +382,7 @@ impl<'a> Reader<'a> {
         }
     }
 
+    #[inline(always)]
     fn arrow(&mut self, from: Link, first: Role, token: &TextToken) -> Result<(), Stop>
         ensures { spec.Feeds result (spec.feed_turn Dialect.Talks from first token.now.sign token.now.from self.old) self.old self.new }
     {
@@ -378,6 +395,7 @@ impl<'a> Reader<'a> {
         }
     }
 
+    #[inline(always)]
     fn mark(&mut self, from: Link, peer: Role, token: &TextToken) -> Result<(), Stop>
         ensures { spec.Feeds result (spec.feed_turn Dialect.Acts from peer token.now.sign token.now.from self.old) self.old self.new }
     {
@@ -404,6 +422,7 @@ impl<'a> Reader<'a> {
         }
     }
 
+    #[inline(always)]
     fn receiver(
         &mut self,
         dialect: Dialect,
@@ -430,6 +449,7 @@ impl<'a> Reader<'a> {
         )
     }
 
+    #[inline(always)]
     fn begin_act(&mut self, dialect: Dialect, from: Link, head: Head, at: usize) -> Result<(), Stop>
         ensures { spec.Feeds result (spec.feed_new_head dialect from head at self.old) self.old self.new }
     {
@@ -438,10 +458,11 @@ impl<'a> Reader<'a> {
         }
         let act = self.drafts.len() as u32;
         self.link(from, Some(act))?;
-        self.drafts.push(Draft {
+        self.drafts.reserve(1)?;
+        self.drafts.push_reserved(Draft {
             head,
-            arms: Vec::new(self.alloc),
-        })?;
+            arms: SmallVec::new(self.alloc),
+        });
         self.mode = Mode::AtArms { act };
         Ok(())
     }
@@ -467,6 +488,7 @@ impl<'a> Reader<'a> {
     }
 
     /// Behind a head.
+    #[inline(always)]
     fn arms(&mut self, dialect: Dialect, act: u32, token: &TextToken) -> Result<(), Stop>
         ensures { spec.Feeds result (spec.feed_arms dialect act token.now.sign token.now.from self.old) self.old self.new }
     {
@@ -476,6 +498,7 @@ impl<'a> Reader<'a> {
         }
     }
 
+    #[inline(always)]
     fn single(&mut self, dialect: Dialect, act: u32, token: &TextToken) -> Result<(), Stop>
         ensures { spec.Feeds result (spec.feed_single dialect act token.now.sign token.now.from self.old) self.old self.new }
     {
@@ -495,6 +518,7 @@ impl<'a> Reader<'a> {
     }
 
     /// The label of a single arm.
+    #[inline(always)]
     fn first_label(&mut self, act: u32, token: &TextToken) -> Result<(), Stop>
         ensures { spec.Feeds result (spec.in_message act (feed_label Wanted.LabelOrBrace (word_text token.now.sign) token.now.from self.old.labels) self.old) self.old self.new }
     {
@@ -506,6 +530,7 @@ impl<'a> Reader<'a> {
         Ok(())
     }
 
+    #[inline(always)]
     fn message(&mut self, act: u32, place: MessagePlace, token: &TextToken) -> Result<(), Stop>
         ensures { spec.Feeds result (spec.in_message act (feed_message place token.now.sign token.now.from self.old.labels) self.old) self.old self.new }
     {
@@ -516,6 +541,7 @@ impl<'a> Reader<'a> {
         Ok(())
     }
 
+    #[inline(always)]
     fn arm_dot(&mut self, act: u32, label: Label, sort: Sort, token: &TextToken) -> Result<(), Stop>
         ensures { spec.Feeds result (spec.feed_arm_dot act label sort token.now.sign token.now.from self.old) self.old self.new }
     {
@@ -538,6 +564,7 @@ impl<'a> Reader<'a> {
         self.depth = frame.depth;
     }
 
+    #[inline(always)]
     fn next(&mut self, token: &TextToken) -> Result<(), Stop>
         ensures { spec.Feeds result (spec.feed_behind token.now.sign token.now.from self.old) self.old self.new }
     {
@@ -563,19 +590,24 @@ impl<'a> Reader<'a> {
         }
     }
 
+    #[inline(always)]
     fn body(
         &mut self,
         dialect: Dialect,
         from: Link,
         token: &TextToken,
-        next: &TextToken,
+        bytes: &[u8],
     ) -> Result<(), Stop>
-        ensures { spec.Feeds result (spec.feed_body dialect from token.now.sign token.now.from next.now self.old) self.old self.new }
+        requires { token.now.until ≤ length bytes.now }
+        ensures { spec.Feeds result (spec.feed_body dialect from token.now.sign token.now.from (next_lexeme bytes.now token.now.until) self.old) self.old self.new }
     {
         match token.terminal() {
             Terminal::Rec => self.open_rec(from, token.from()),
             Terminal::End => self.end(from),
-            Terminal::Plain(word) => self.word(dialect, from, word, token.from(), next),
+            Terminal::Plain(word) => {
+                let next = next_token(bytes, token.until());
+                self.word(dialect, from, word, token.from(), &next)
+            }
             _ => expected(Wanted::Body, token.from()),
         }
     }
@@ -602,6 +634,7 @@ impl<'a> Reader<'a> {
         Ok(())
     }
 
+    #[inline(always)]
     fn word(
         &mut self,
         dialect: Dialect,
@@ -618,6 +651,7 @@ impl<'a> Reader<'a> {
         }
     }
 
+    #[inline(always)]
     fn role_or_name(
         &mut self,
         dialect: Dialect,
@@ -637,29 +671,33 @@ impl<'a> Reader<'a> {
         }
     }
 
-    /// Takes one token of the text, with the one behind it.
+    /// Takes one token of the text, which may look at the one behind it.
+    #[inline(always)]
     pub fn feed(
         &mut self,
         dialect: Dialect,
         token: &TextToken<'a>,
-        next: &TextToken,
+        bytes: &[u8],
     ) -> Result<(), Stop>
-        ensures { spec.Feeds result (feed_sign (spec.feeding dialect) token.now.sign token.now.from next.now self.old) self.old self.new }
+        requires { token.now.until ≤ length bytes.now }
+        ensures { spec.Feeds result (feed_sign (spec.feeding dialect) token.now.sign token.now.from (next_lexeme bytes.now token.now.until) self.old) self.old self.new }
     {
         match token.terminal() {
             Terminal::Faulty(kind) => fault(TextKind::from(kind), token.from()),
-            _ => self.feed_whole(dialect, token, next),
+            _ => self.feed_whole(dialect, token, bytes),
         }
     }
 
     /// Takes one that isn't faulty.
+    #[inline(always)]
     fn feed_whole(
         &mut self,
         dialect: Dialect,
         token: &TextToken<'a>,
-        next: &TextToken,
+        bytes: &[u8],
     ) -> Result<(), Stop>
-        ensures { spec.Feeds result (spec.feed_of dialect token.now.sign token.now.from next.now self.old) self.old self.new }
+        requires { token.now.until ≤ length bytes.now }
+        ensures { spec.Feeds result (spec.feed_of dialect token.now.sign token.now.from (next_lexeme bytes.now token.now.until) self.old) self.old self.new }
     {
         match self.mode {
             Mode::Roles => self.roles(token),
@@ -670,7 +708,7 @@ impl<'a> Reader<'a> {
             Mode::Machine => self.machine(token),
             Mode::AtRole => self.own_role(token),
             Mode::AtColon => self.colon(token),
-            Mode::Body { from } => self.body(dialect, from, token, next),
+            Mode::Body { from } => self.body(dialect, from, token, bytes),
             Mode::RecName { from } => self.rec_name(from, token),
             Mode::RecDot { from } => self.rec_dot(from, token),
             Mode::AtTurn { from, first } => self.turn(dialect, from, first, token),
@@ -683,9 +721,13 @@ impl<'a> Reader<'a> {
     }
 
     /// Whether the whole part is read.
+    #[inline(always)]
     pub fn is_read(&self) -> bool
         ensures { result ≡ spec.is_read self.now }
     {
-        self.frames.is_empty() && self.mode == Mode::Next
+        match self.mode {
+            Mode::Next => self.frames.is_empty(),
+            _ => false,
+        }
     }
 }

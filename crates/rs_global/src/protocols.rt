@@ -78,10 +78,11 @@ fn talks(alloc: Global, points: Vec<Point>) -> Result<Vec<Node>, NoMemory>
     ensures count { IfOk result (λ nodes. length nodes.items ≡ length points.items) }
     ensures nodes { IfOk result (λ nodes. nodes.items ≡ map node_at points.items) }
 {
-    let mut nodes = Vec::new(alloc);
+    let mut nodes = Vec::with_capacity(alloc, points.len().saturating_add(1))?;
     for point in points {
         let Point { head, arms } = point;
-        nodes.push(node(head, arms))?;
+        nodes.reserve(1)?;
+        nodes.push_reserved(node(head, arms));
     }
     Ok(nodes)
 }

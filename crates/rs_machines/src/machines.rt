@@ -81,10 +81,11 @@ fn acts(alloc: Global, points: Vec<Point>) -> Result<Vec<State>, NoMemory>
     ensures count { IfOk result (λ states. length states.items ≡ length points.items) }
     ensures states { IfOk result (λ states. states.items ≡ map state_at points.items) }
 {
-    let mut states = Vec::new(alloc);
+    let mut states = Vec::with_capacity(alloc, points.len().saturating_add(1))?;
     for point in points {
         let Point { head, arms } = point;
-        states.push(state(head, arms))?;
+        states.reserve(1)?;
+        states.push_reserved(state(head, arms));
     }
     Ok(states)
 }

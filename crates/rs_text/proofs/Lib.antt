@@ -18,3 +18,4 @@ pub mod Bindings
 pub mod MessageLaws
 pub mod Comments
 pub mod PlainNames
+pub mod Sameness

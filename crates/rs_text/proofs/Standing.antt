@@ -110,6 +110,11 @@ shrinks s bytes now t n r d e behind within f =
     let l : t.from < t.until = ahead s bytes now t n r d e f in
     omega arith
 
+pub advances : {R : Type 0} {a : Automaton R} (s : StopsAtEnd a) (bytes : List ℕ) (now : ℕ) (t n : Lexeme) (r d : R) → t ≡ next_lexeme bytes now → now ≤ t.from → t.until ≤ length bytes → feed_sign a t.sign t.from n r ≡ Ok d → length bytes - t.until < length bytes - now
+advances s bytes now t n r d e behind within f =
+    let l : t.from < t.until = ahead s bytes now t n r d e f in
+    omega arith
+
 pub goes_on : {R : Type 0} {a : Automaton R} (s : StopsAtEnd a) (o : R) (bytes : List ℕ) (at now : ℕ) (t n : Lexeme) (r d : R) → t ≡ next_lexeme bytes now → n ≡ next_lexeme bytes t.until → Stands a o bytes at r now → a.is_read r ≡ false → feed_sign a t.sign t.from n r ≡ Ok d → Stands a o bytes at d t.until
 goes_on {R} {a} s o bytes at now t n r d e k st u f = step s o bytes at now t r d st e u (fed_here a bytes t n r k ∙ f)
 

@@ -1,6 +1,7 @@
 ghost use Rattle.std.specs.Prelude.{◌≡◌, ◌-◌, length, drop, reverse};
 ghost use Rattle.rs_text.specs.Names.{nearest_binding};
 
+use crate::names::is_same;
 use std::marker::Model;
 
 /// A recursion name, and the number of what its body begins with.
@@ -26,7 +27,7 @@ pub fn bound_number(bindings: &[Binding], name: &[u8]) -> Option<u32>
     while left > 0 {
         left -= 1;
         let binding = &bindings[left];
-        if binding.name == name {
+        if is_same(binding.name, name) {
             return Some(binding.number);
         }
     }

@@ -1,4 +1,4 @@
-ghost use Rattle.std.specs.Prelude.{◌≡◌, ◌+◌, ◌-◌, ◌*◌, ◌<◌, ◌≤◌, ◌∷◌, [], length, take, drop, nat_lt, if◌then◌else◌, Some, None, OnErr, IfErr, IfOk, IfSome, IfNone, false, true};
+ghost use Rattle.std.specs.Prelude.{◌≡◌, ℕ, List, ◌+◌, ◌-◌, ◌*◌, ◌<◌, ◌≤◌, ◌∷◌, [], length, take, drop, nat_lt, if◌then◌else◌, Some, None, OnErr, IfErr, IfOk, IfSome, IfNone, false, true};
 ghost use Rattle.rs_text.specs.Bytes as bytes;
 ghost use Rattle.rs_text.specs.Lexemes.{value_behind, value_of};
 ghost use Rattle.rs_text.specs.Lexing.{front, front_of, mark_front, word_front, number_front, length_of_blanks, word_length, number_length, next_lexeme, lexeme_of, broken_at};
@@ -66,6 +66,7 @@ impl<'a> Lexer<'a> {
 }
 
 /// The next token from the offset `at` on, which is at most the length, or what stands in place of one.
+#[inline(always)]
 pub fn next_token(bytes: &[u8], at: usize) -> TextToken<'_>
     requires { at ≤ length bytes.now }
     ensures token { result ≡ next_lexeme bytes.now at }
@@ -74,8 +75,8 @@ pub fn next_token(bytes: &[u8], at: usize) -> TextToken<'_>
     ensures within { result.until ≤ length bytes.now }
 {
     let (_, rest) = bytes.split_at(at);
-    let from = at + gap(rest);
-    let (_, here) = bytes.split_at(from);
+    let here = behind_gap(rest);
+    let from = bytes.len() - here.len();
     let (terminal, size) = terminal_in_front(here);
     TextToken {
         terminal,
@@ -106,10 +107,11 @@ fn with_digit(value: u32, digit: u8) -> Option<u32>
         .checked_add(u32::from(digit.saturating_sub(b'0')))
 }
 
-/// The count of bytes in front that are blanks and comments.
-fn gap(bytes: &[u8]) -> usize
-    ensures count { result ≡ length_of_blanks false bytes.now }
-    ensures within { result ≤ length bytes.now }
+/// What stands behind the blanks and comments in front.
+#[inline(always)]
+fn behind_gap(bytes: &[u8]) -> &[u8]
+    ensures behind { result.now ≡ drop (length_of_blanks false bytes.now) bytes.now }
+    ensures within { length result.now ≤ length bytes.now }
 {
     let mut rest = bytes;
     loop {
@@ -119,12 +121,13 @@ fn gap(bytes: &[u8]) -> usize
                 rest = next;
             }
             [first, behind @ ..] if is_blank(*first) => rest = behind,
-            _ => return bytes.len() - rest.len(),
+            _ => return rest,
         }
     }
 }
 
 /// The count of bytes in front that an open comment holds, as far as the end of its line.
+#[inline(never)]
 fn comment_size(bytes: &[u8]) -> usize
     ensures passed { length_of_blanks true bytes.now ≡ result + length_of_blanks false (drop result bytes.now) }
     ensures within { result ≤ length bytes.now }
@@ -136,27 +139,33 @@ fn comment_size(bytes: &[u8]) -> usize
 }
 
 /// What is in front, and its size. What is no token takes up no bytes.
+#[inline(always)]
 fn terminal_in_front(bytes: &[u8]) -> (Terminal<'_>, usize)
     ensures front { front_of bytes.now ≡ front (terminal_sign result.0) result.1 }
     ensures within { result.1 ≤ length bytes.now }
 {
     match bytes {
         [] => (Terminal::Finish, 0),
-        [first, ..] if is_letter(*first) => word_in_front(bytes),
-        [first, ..] if is_digit(*first) => number_in_front(bytes),
-        [b'-', b'>', ..] => (Terminal::Arrow, 2),
-        [first, ..] => match mark(*first) {
+        [first, behind @ ..] => match mark(*first) {
             Some(terminal) => (terminal, 1),
-            None => (Terminal::Faulty(FaultKind::BadByte), 0),
+            None if is_letter(*first) => word_in_front(bytes, 1 + word_size(behind)),
+            None if is_digit(*first) => number_in_front(bytes),
+            None => match bytes {
+                [b'-', b'>', ..] => (Terminal::Arrow, 2),
+                _ => (Terminal::Faulty(FaultKind::BadByte), 0),
+            },
         },
     }
 }
 
-fn word_in_front(bytes: &[u8]) -> (Terminal<'_>, usize)
-    ensures front { word_front bytes.now (word_length bytes.now) ≡ front (terminal_sign result.0) result.1 }
+/// The word that takes up so many bytes.
+#[inline(always)]
+fn word_in_front(bytes: &[u8], size: usize) -> (Terminal<'_>, usize)
+    requires { size ≤ length bytes.now }
+    ensures front { word_front bytes.now size ≡ front (terminal_sign result.0) result.1 }
     ensures within { result.1 ≤ length bytes.now }
 {
-    let (text, _) = bytes.split_at(word_size(bytes));
+    let (text, _) = bytes.split_at(size);
     if text.len() > MOST_NAME_BYTES {
         return (Terminal::Faulty(FaultKind::NameTooLong), 0);
     }
@@ -164,6 +173,7 @@ fn word_in_front(bytes: &[u8]) -> (Terminal<'_>, usize)
 }
 
 /// The word with this text.
+#[inline(always)]
 fn word(text: &[u8]) -> Terminal<'_>
     ensures { terminal_sign result ≡ word_sign text.now }
 {
@@ -174,6 +184,7 @@ fn word(text: &[u8]) -> Terminal<'_>
     }
 }
 
+#[inline(never)]
 fn number_in_front(bytes: &[u8]) -> (Terminal<'_>, usize)
     ensures front { number_front bytes.now (number_length bytes.now) ≡ front (terminal_sign result.0) result.1 }
     ensures within { result.1 ≤ length bytes.now }
@@ -185,9 +196,10 @@ fn number_in_front(bytes: &[u8]) -> (Terminal<'_>, usize)
     }
 }
 
-/// The mark that the byte is.
+/// The mark of one byte that the byte is.
+#[inline(always)]
 fn mark(byte: u8) -> Option<Terminal<'static>>
-    ensures some { IfSome result (λ terminal. mark_front byte ≡ front (terminal_sign terminal) 1) }
+    ensures some { IfSome result (λ terminal. (behind : List ℕ) → front_of (byte ∷ behind) ≡ front (terminal_sign terminal) 1) }
     ensures none { IfNone result (mark_front byte ≡ front (terminal_sign (Terminal.Faulty FaultKind.BadByte)) 0) }
 {
     match byte {
@@ -206,6 +218,7 @@ fn mark(byte: u8) -> Option<Terminal<'static>>
     }
 }
 
+#[inline(always)]
 fn word_size(bytes: &[u8]) -> usize
     ensures count { result ≡ word_length bytes.now }
     ensures within { result ≤ length bytes.now }
@@ -230,18 +243,21 @@ fn number_size(bytes: &[u8]) -> usize
     bytes.len()
 }
 
+#[inline(always)]
 fn is_blank(byte: u8) -> bool
     ensures { result ≡ bytes.is_blank byte }
 {
     byte == b' ' || byte == b'\t' || byte == b'\r' || byte == b'\n'
 }
 
+#[inline(always)]
 pub(crate) fn is_letter(byte: u8) -> bool
     ensures { result ≡ bytes.is_letter byte }
 {
     (byte >= b'a' && byte <= b'z') || (byte >= b'A' && byte <= b'Z') || byte == b'_'
 }
 
+#[inline(always)]
 pub(crate) fn is_digit(byte: u8) -> bool
     ensures { result ≡ bytes.is_digit byte }
 {

@@ -59,6 +59,7 @@ pub fn feed_message(
 }
 
 /// Takes the label of a message, at a place where this is wanted.
+#[inline(always)]
 pub fn feed_label(
     wanted: Wanted,
     token: &TextToken,
@@ -74,9 +75,26 @@ pub fn feed_label(
     let Some(word) = token.word() else {
         return expected(wanted, token.from());
     };
+    label_of_word(word, token.from(), alloc, labels)
+}
+
+/// The label that a word names, be it known or new.
+#[inline(always)]
+fn label_of_word(
+    word: &[u8],
+    at: usize,
+    alloc: Global,
+    labels: &mut NameTable,
+) -> Result<Label, Stop>
+    requires room { length labels.old ≤ MOST_LABELS }
+    ensures ok { IfOk result (λ label. spec.feed_label_number (place_of word.now labels.old) word.now at labels.old ≡ Ok (spec.goes_on labels.new (MessagePlace.Paren label))) }
+    ensures err { IfErr result (λ e. Fails e (spec.feed_label_number (place_of word.now labels.old) word.now at labels.old)) }
+    ensures kept { OnErr result (labels.new ≡ labels.old) }
+    ensures few { length labels.new ≤ MOST_LABELS }
+{
     match label_named(labels, word) {
         Some(label) => Ok(label),
-        None => new_label(word, token.from(), alloc, labels),
+        None => new_label(word, at, alloc, labels),
     }
 }
 
@@ -91,6 +109,7 @@ fn label_named(labels: &NameTable, word: &[u8]) -> Option<Label>
     Some(Label(place as u16))
 }
 
+#[inline(never)]
 fn new_label(word: &[u8], at: usize, alloc: Global, labels: &mut NameTable) -> Result<Label, Stop>
     requires room { length labels.old ≤ MOST_LABELS }
     ensures ok { IfOk result (λ label. spec.feed_label_number None word.now at labels.old ≡ Ok (spec.goes_on labels.new (MessagePlace.Paren label))) }

@@ -1,5 +1,6 @@
 ghost use Rattle.std.specs.Prelude.{◌≡◌, ◌↔◌, IsTrue, ◌++◌, ◌∷◌, [], length, OnOk, OnErr, IfOk};
 ghost use Rattle.std.specs.List.{list_all};
+ghost use Rattle.std.specs.Str.{bytes_eq};
 ghost use Rattle.rs_text.specs.Names.{place_of, is_among};
 ghost use Rattle.rs_text.specs.Names as naming;
 ghost use Rattle.rs_text.specs.Bytes as bytes;
@@ -12,15 +13,40 @@ use rs_model::{MOST_NAME_BYTES, Name, Names, NoMemory};
 use std::alloc::Global;
 
 /// The place of a name among others, the first one if it stands there more than once.
+#[inline(never)]
 pub fn find(names: &[Name], word: &[u8]) -> Option<usize>
     ensures { result ≡ place_of word.now names.now }
 {
     for (place, name) in names.iter().enumerate() {
-        if name.as_slice() == word {
+        if is_same(name.as_slice(), word) {
             return Some(place);
         }
     }
     None
+}
+
+/// Whether two texts are equal, byte by byte.
+#[inline(always)]
+pub(crate) fn are_equal(one: &[u8], other: &[u8]) -> bool
+    ensures { IsTrue result ↔ (one.now ≡ other.now) }
+{
+    if one.len() != other.len() {
+        return false;
+    }
+    for place in 0..one.len() {
+        if one[place] != other[place] {
+            return false;
+        }
+    }
+    true
+}
+
+/// The same, as the definition tells it.
+#[inline(always)]
+pub(crate) fn is_same(one: &[u8], other: &[u8]) -> bool
+    ensures { result ≡ bytes_eq one.now other.now }
+{
+    are_equal(one, other)
 }
 
 /// Puts a name behind the others and gives its place; where memory is refused nothing changes.

@@ -3,7 +3,7 @@ ghost use Rattle.rs_text.specs.Names.{place_of};
 ghost use Rattle.rs_text.specs.Tables.{AreFiled, AreFiledIn, IsChained, bucket_of, bucket_on};
 ghost use Rattle.rs_text.specs.declared.tables.TheConstants.{BUCKETS};
 
-use crate::names::find;
+use crate::names::{are_equal, find};
 use rs_model::{Name, NoMemory};
 use std::alloc::Global;
 use std::marker::Model;
@@ -85,14 +85,14 @@ impl NameTable {
     }
 
     /// The place of a name, the first one if it stands there more than once.
+    #[inline(always)]
     pub fn find(&self, word: &[u8]) -> Option<usize>
         ensures { result ≡ place_of word.now self.now }
     {
         if self.heads.is_empty() {
             return find(self.names.as_slice(), word);
         }
-        let head = self.heads[bucket_of(word)];
-        place_along(self.names.as_slice(), &self.links, head, word)
+        find_filed(self.names.as_slice(), &self.heads, &self.links, word)
     }
 
     /// Puts a name behind the others and gives its place; where memory is refused nothing changes.
@@ -116,6 +116,16 @@ impl NameTable {
         self.heads[bucket] = place + 1;
         Ok(place)
     }
+}
+
+// The place of a name among names that are filed.
+#[inline(never)]
+fn find_filed(names: &[Name], heads: &[usize], links: &[usize], word: &[u8]) -> Option<usize>
+    requires { AreFiled names.now heads.now links.now }
+    ensures { result ≡ place_of word.now names.now }
+{
+    let head = heads[bucket_of(word)];
+    place_along(names, links, head, word)
 }
 
 #[derive(Drop)]
@@ -190,5 +200,5 @@ fn is_same(one: &[u8], other: &[u8]) -> bool
     ensures sound { result ≡ true → one.now ≡ other.now }
     ensures whole { result ≡ false → one.now ≡ other.now → ⊥ }
 {
-    one == other
+    are_equal(one, other)
 }

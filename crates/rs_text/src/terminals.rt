@@ -103,6 +103,7 @@ impl<'a> TextToken<'a> {
     }
 
     /// The text of a word.
+    #[inline(always)]
     pub fn word(&self) -> Option<&'a [u8]>
         ensures some { IfSome result (λ word. word_text self.now.sign ≡ Some word.now) }
         ensures none { IfNone result (word_text self.now.sign ≡ None) }

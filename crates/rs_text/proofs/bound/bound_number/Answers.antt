@@ -7,12 +7,12 @@ use Rattle.rs_text.proofs.bound.bound_number.Goals as goal
 pub loop-left-init : goal.loop-left-init
 loop-left-init c = (omega arith, ap (λ (z : List (List ℕ × ℕ)). nearest_binding c.args.name.now (reverse z)) (take_all (length c.args.bindings.now) c.args.bindings.now (omega arith)))
 
-pub returns-then-eq : goal.returns-then-eq
-returns-then-eq c =
+pub returns-then-is_same : goal.returns-then-is_same
+returns-then-is_same c =
     let some = c.loop-left-test.true in
     let within = c.loop-left.invariant.0 in
     nearest_there c.args.name.now c.args.bindings.now (c.loop-left.left - 1) c.loop-left.left (c.binding.inside.name.now, c.binding.inside.number) (omega (arith, some)) (omega (arith, some, within))
-    (subst (λ (b : List ℕ × ℕ). b ≡ get_or c.args.bindings.now (c.loop-left.left - 1) b) (sym c.binding.view_is) c.index-bindings-left.is) (sym c.eq.ensures ∙ c.if-eq.true) c.loop-left.invariant.1
+    (subst (λ (b : List ℕ × ℕ). b ≡ get_or c.args.bindings.now (c.loop-left.left - 1) b) (sym c.binding.view_is) c.index-bindings-left.is) (sym c.is_same.ensures ∙ c.if-is_same.true) c.loop-left.invariant.1
 
 pub loop-left-preserved : goal.loop-left-preserved
 loop-left-preserved c =
@@ -20,7 +20,7 @@ loop-left-preserved c =
     let within = c.loop-left.invariant.0 in (
       omega (arith, within),
       nearest_before c.args.name.now c.args.bindings.now (c.loop-left.left - 1) c.loop-left.left (c.binding.inside.name.now, c.binding.inside.number) (omega (arith, some)) (omega (arith, some, within))
-          (subst (λ (b : List ℕ × ℕ). b ≡ get_or c.args.bindings.now (c.loop-left.left - 1) b) (sym c.binding.view_is) c.index-bindings-left.is) (sym c.eq.ensures ∙ c.if-eq.false) c.loop-left.invariant.1,
+          (subst (λ (b : List ℕ × ℕ). b ≡ get_or c.args.bindings.now (c.loop-left.left - 1) b) (sym c.binding.view_is) c.index-bindings-left.is) (sym c.is_same.ensures ∙ c.if-is_same.false) c.loop-left.invariant.1,
     )
 
 pub returns : goal.returns

@@ -4,4 +4,4 @@ use Rattle.rs_text.proofs.lexing.next_token.Goals as goal
 
 pub returns-clause-token : goal.returns-clause-token
 returns-clause-token c =
-    next_is c.args.bytes.now c.args.at c.gap.result _ _ (rw c.split_at.ensures.back at c.gap.ensures.count) (search rules)
+    next_is c.args.bytes.now c.behind_gap-here.result.now c.args.at _ _ c.requires (rw c.split_at.ensures.back at c.behind_gap-here.ensures.behind) (search rules)

@@ -1,9 +1,0 @@
-use Rattle.std.proofs.Common.{◌≡◌, ◌+◌, ◌-◌, ◌≤◌, length, false}
-use Rattle.rs_text.specs.Lexing.{length_of_blanks}
-use Rattle.rs_text.proofs.lexing.gap.Given as goal
-
-abbrev pub invariant-loop-rest : goal.invariant-loop-rest
-invariant-loop-rest l = (length l.rest ≤ length l.bytes) × ((length l.bytes - length l.rest) + length_of_blanks false l.rest ≡ length_of_blanks false l.bytes)
-
-abbrev pub decreases-loop-rest : goal.decreases-loop-rest
-decreases-loop-rest l = length l.rest
