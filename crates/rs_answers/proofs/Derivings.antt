@@ -1,5 +1,5 @@
 -- The session of a document, and the derivations that are found for it.
-use Rattle.std.proofs.Common.{◌≡◌, ◌⊎◌, inl, inr, ℕ, zero, suc, ◌+◌, ◌<◌, List, [], ◌∷◌, ◌++◌, length, Option, Some, None, slice_get, get_or, refl, sym, ap, ◌∙◌, subst, arith, length-append}
+use Rattle.std.proofs.Common.{◌≡◌, ◌⊎◌, inl, inr, ℕ, zero, suc, ◌+◌, ◌<◌, List, [], ◌∷◌, ◌++◌, All, length, Option, Some, None, slice_get, get_or, refl, sym, ap, ◌∙◌, subst, arith, length-append}
 use Rattle.std.proofs.lemmas.Option.{slice_get-get_or, slice_get_within, same_Some}
 use Rattle.rs_model.specs.Data.{Machine_data, Protocol_data}
 use Rattle.rs_model.specs.Faults.{first_fault}
@@ -15,7 +15,8 @@ use Rattle.rs_project.specs.Data.{Projection_data}
 use Rattle.rs_project.specs.Numbered.{AreNumberedProjections}
 use Rattle.rs_safety.specs.Accepting.{FirstRefused}
 use Rattle.rs_safety.specs.Sessions.{AreDerivations, AreOneEach, IsSession}
-use Rattle.rs_safety.proofs.Accepts.{accepted-safe, gets, machine-proper, projection-proper}
+use Rattle.rs_safety.specs.Figures.{OwesFew}
+use Rattle.rs_safety.proofs.Accepts.{accepted-safe, accepted-session, all-owe-few, gets, machine-proper, projection-proper}
 use Rattle.rs_safety.proofs.Sessions.{no-machine, no-projection}
 use Rattle.rs_search.proofs.Accepted.{accepted, derives, remembers}
 use Rattle.rs_search.proofs.Determined.{few_nodes}
@@ -166,6 +167,12 @@ one_each bound within pr ps ms ds s h = record {
   bound = λ p d at. (let f = found_at bound pr ps ms ds s h p d at in let b = f.found.canonical.bound' in (let w = within.0 in omega (arith, b, w), let w = within.1 in omega (arith, b, w)));
   few = λ p d at. (let f = found_at bound pr ps ms ds s h p d at in let k = few_nodes f.machine f.projection.machine bound d f.found in omega (arith, k));
 }
+
+-- .. and no node of one owes more than a derivation may be bounded by
+pub all_owe_few : (bound : ℕ) → IsSearchBound bound → (pr : Protocol_data) (ps : List Projection_data) (ms : List Machine_data) (ds : List Derivation_data) → IsSession pr ps ms → AreCanonical bound ms ps ds → All OwesFew ds
+all_owe_few bound within pr ps ms ds s h =
+    all-owe-few (record { protocol = pr; projections = ps; derivations = ds; machines = ms })
+    (accepted-session pr ps ms ds s (one_each bound within pr ps ms ds s h) (derivations_are bound pr ps ms ds s h))
 
 -- what is accepted is safe
 pub canonical_safe : (bound : ℕ) (pr : Protocol_data) (ps : List Projection_data) (ms : List Machine_data) (ds : List Derivation_data) → IsSession pr ps ms → AreCanonical bound ms ps ds → IsSafe ms

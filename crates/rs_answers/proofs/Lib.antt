@@ -2,6 +2,7 @@ pub mod EachRole
 pub mod Derivings
 pub mod CheckParts
 pub mod Answering
+pub mod Reporting
 pub mod Outcomes
 pub mod Verified
 pub mod Owed

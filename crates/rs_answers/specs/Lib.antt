@@ -1,6 +1,7 @@
 pub mod Checks
 pub mod Data
 pub mod Derivations
+pub mod Lines
 pub mod Machines
 pub mod Pools
 pub mod RefusalTexts

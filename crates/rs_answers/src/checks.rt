@@ -7,7 +7,7 @@ ghost use Rattle.rs_documents.specs.Canonical.{CanBeShown};
 ghost use Rattle.rs_documents.specs.Reading.{DocumentIsReady};
 
 use crate::answers::Answer;
-use crate::derivations::{DerivedSession, accept_derived, derived_session};
+use crate::derivations::derived_session;
 use crate::refusals::refusal_answer;
 use crate::report::report;
 use crate::shown::show;
@@ -17,7 +17,7 @@ use rs_model::NoMemory;
 use std::alloc::Global;
 
 /// What `check` answers to a document, with a search within the bound: the first reason to refuse it, else the report of
-/// its session.
+/// its session, with the figures of the derivations that were found.
 pub fn check(alloc: Global, document: &Document, bound: u8) -> Result<Answer, NoMemory>
     requires ready { DocumentIsReady document.now }
     requires roles { length document.now.names.roles ≡ document.now.protocol.roles }
@@ -25,21 +25,14 @@ pub fn check(alloc: Global, document: &Document, bound: u8) -> Result<Answer, No
     ensures { IfOk result (Checks bound false document.now) }
 {
     let names = &document.names;
-    let DerivedSession {
-        projections,
-        machines,
-        derivations,
-    } = match derived_session(alloc, document, bound) {
-        Ok(session) => session,
-        Err(refusal) => return refusal_answer(alloc, names, refusal),
-    };
-    let accepted = accept_derived(
-        &document.protocol,
-        projections.as_slice(),
-        machines,
-        derivations.as_slice(),
-    );
-    report(alloc, names.roles.as_slice(), &accepted)
+    match derived_session(alloc, document, bound) {
+        Ok(session) => report(
+            alloc,
+            names.roles.as_slice(),
+            session.derivations.as_slice(),
+        ),
+        Err(refusal) => refusal_answer(alloc, names, refusal),
+    }
 }
 
 /// A derivation for each role.

@@ -5,6 +5,7 @@ mod answers;
 mod checks;
 mod derivations;
 pub mod laws;
+mod lines;
 mod pools;
 mod refusal_texts;
 mod refusals;

@@ -1,85 +1,34 @@
 //! The report of an accepted session.
 
-ghost use Rattle.std.specs.Prelude.{◌≡◌, ◌<◌, ◌^◌, ◌++◌, length, IfOk, OnOk};
-ghost use Rattle.std.specs.List.{All};
-ghost use Rattle.rs_safety.specs.Room as room;
+ghost use Rattle.std.specs.Prelude.{◌≡◌, All, IfOk, map};
+ghost use Rattle.rs_safety.specs.Figures as figures;
+ghost use Rattle.rs_safety.specs.Figures.{OwesFew};
 ghost use Rattle.rs_answers.specs.Report as spec;
 
 use crate::answers::Answer;
-use crate::texts::Piece::{Number, Words};
-use crate::texts::push_pieces;
-use crate::verdicts::Verdict;
-use rs_derive::{Derivation, longest, top_rank};
+use crate::lines::report_by_figures;
+use rs_derive::Derivation;
 use rs_model::{Name, NoMemory};
-use rs_safety::Accepted;
-use rs_text::Text;
+use rs_safety::{Figures, figures_of};
 use std::alloc::Global;
 
-/// The most acts that are owed at a node.
-fn owed_at_most(derivation: &Derivation) -> u64
-    requires { All (λ n. length n.pending < 2 ^ 32) derivation.now.nodes }
-    ensures { result ≡ room.longest derivation.now }
+/// The figures of each derivation.
+fn all_figures(alloc: Global, derivations: &[Derivation]) -> Result<Vec<Figures>, NoMemory>
+    requires { All OwesFew derivations.now }
+    ensures { IfOk result (λ all. all.items ≡ map figures.figures_of derivations.now) }
 {
-    u64::from(longest(derivation))
-}
-
-/// The greatest rank of a node.
-fn greatest_rank(derivation: &Derivation) -> u64
-    ensures { result ≡ room.top_rank derivation.now }
-{
-    u64::from(top_rank(derivation))
-}
-
-fn push_figures(text: &mut Text, name: &Name, derivation: &Derivation) -> Result<(), NoMemory>
-    requires { All (λ n. length n.pending < 2 ^ 32) derivation.now.nodes }
-    ensures { OnOk result (text.new ≡ text.old ++ spec.figures_text name.now derivation.now) }
-{
-    push_pieces(
-        text,
-        &[
-            Words(name.as_slice()),
-            Words(b": nodes "),
-            Number(derivation.nodes.len() as u64),
-            Words(b" pending "),
-            Number(owed_at_most(derivation)),
-            Words(b" rank "),
-            Number(greatest_rank(derivation)),
-            Words(b"\n"),
-        ],
-    )
-}
-
-fn push_all_figures(
-    text: &mut Text,
-    names: &[Name],
-    derivations: &[Derivation],
-) -> Result<(), NoMemory>
-    requires { All (λ d. All (λ n. length n.pending < 2 ^ 32) d.nodes) derivations.now }
-    ensures { OnOk result (text.new ≡ text.old ++ spec.all_figures_text names.now derivations.now) }
-{
-    let [name, names @ ..] = names else {
-        return Ok(());
-    };
-    let [derivation, derivations @ ..] = derivations else {
-        return Ok(());
-    };
-    push_figures(text, name, derivation)?;
-    push_all_figures(text, names, derivations)
+    let mut all = Vec::new(alloc);
+    for derivation in derivations {
+        all.push(figures_of(derivation))?;
+    }
+    Ok(all)
 }
 
 /// The report of an accepted session, from its derivations.
-pub fn report(alloc: Global, names: &[Name], accepted: &Accepted) -> Result<Answer, NoMemory>
-    ensures { IfOk result (λ a. a ≡ spec.report names.now accepted.now.derivations) }
+pub fn report(alloc: Global, names: &[Name], derivations: &[Derivation]) -> Result<Answer, NoMemory>
+    requires { All OwesFew derivations.now }
+    ensures { IfOk result (λ a. a ≡ spec.report names.now derivations.now) }
 {
-    let mut text = Text::new(alloc);
-    text.push(b"accepted\n")?;
-    push_all_figures(&mut text, names, accepted.derivations())?;
-    push_pieces(
-        &mut text,
-        &[Words(b"room "), Number(accepted.room()), Words(b"\n")],
-    )?;
-    Ok(Answer {
-        text,
-        verdict: Verdict::Fine,
-    })
+    let all = all_figures(alloc, derivations)?;
+    report_by_figures(alloc, names, all.as_slice())
 }

@@ -123,7 +123,7 @@ pub fn verify(alloc: Global, document: Document) -> Result<Answer, NoMemory>
         machines,
         derivations.as_slice(),
     ) {
-        Ok(accepted) => report(alloc, names.roles.as_slice(), &accepted),
+        Ok(accepted) => report(alloc, names.roles.as_slice(), accepted.derivations()),
         Err(refused) => blame_answer(alloc, &names, refused.role, Blame::Fault(refused.cause)),
     }
 }

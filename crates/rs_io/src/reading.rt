@@ -24,15 +24,16 @@ pub enum ReadStop {
 // The most bytes that the first turn asks for.
 const FIRST_PIECE: usize = 2_048;
 
-// The most bytes that a later turn asks for, once a turn gave all that it asked for.
+// The most bytes that any turn asks for.
 const PIECE: usize = 65_536;
 
-// Grows the buffer to a whole piece; where memory is refused it stays as it is.
+// Doubles the buffer, up to a whole piece; where memory is refused it stays as it is. So what is cleared of it is never
+// more than the bytes that were read and a first piece.
 fn widen(buffer: &mut Vec<u8>)
     ensures { vec_len buffer.old ≤ vec_len buffer.new }
 {
     if buffer.len() < PIECE {
-        let _widened = buffer.resize(PIECE, 0);
+        let _widened = buffer.resize(PIECE.min(2 * buffer.len()), 0);
     }
 }
 

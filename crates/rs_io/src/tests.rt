@@ -82,9 +82,10 @@ fn all_is_read_up_to_the_limit(rt: HostRuntime) -> Result<(), Fail> {
     Ok(())
 }
 
-// Gives three bytes per call, and notes the calls and the greatest place that was asked for.
+// Gives at most a piece per call, and notes the calls and the greatest place that was asked for.
 #[derive(Drop)]
 struct Watched {
+    piece: usize,
     bytes: usize,
     given: usize,
     calls: u32,
@@ -99,7 +100,7 @@ impl Source for Watched {
     ghost last = { λ _. ⊥ };
 
     fn read(&mut self, into: &mut [u8]) -> Result<usize, Failed> {
-        let count = self.bytes.min(into.len().min(3));
+        let count = self.bytes.min(into.len().min(self.piece));
         self.calls = self.calls.saturating_add(1);
         self.reach = self.reach.max(self.given.saturating_add(into.len()));
         self.bytes -= count;
@@ -118,6 +119,7 @@ fn no_turn_is_idle_or_asks_past_the_limit(rt: HostRuntime) -> Result<(), Fail> {
         (50, false, 11, 4),
     ] {
         let mut source = Watched {
+            piece: 3,
             bytes,
             given: 0,
             calls: 0,
@@ -128,6 +130,26 @@ fn no_turn_is_idle_or_asks_past_the_limit(rt: HostRuntime) -> Result<(), Fail> {
         assert_eq!(rt; source.given, given, "of {bytes}");
         assert_eq!(rt; source.calls, calls, "of {bytes}");
         assert_eq!(rt; source.reach, 11, "of {bytes}");
+    }
+    Ok(())
+}
+
+#[test]
+fn turns_that_give_all_lead_to_wider_ones(rt: HostRuntime) -> Result<(), Fail> {
+    for (piece, calls, reach) in [(10_000, 4, 18_192), (2_000, 6, 12_048)] {
+        let mut source = Watched {
+            piece,
+            bytes: 10_000,
+            given: 0,
+            calls: 0,
+            reach: 0,
+        };
+        assert!(rt;
+            read_all(rt.alloc(), &mut source, 100_000).is_ok(),
+            "by {piece}"
+        );
+        assert_eq!(rt; source.calls, calls, "by {piece}");
+        assert_eq!(rt; source.reach, reach, "by {piece}");
     }
     Ok(())
 }

@@ -1,11 +1,8 @@
 -- What a session that may be accepted gives to the test of its derivations.
-use Rattle.std.proofs.Common.{◌≡◌, inl, inr, ℕ, suc, ◌+◌, ◌*◌, ◌^◌, ◌<◌, ◌≤◌, List, [], ◌∷◌, All, Some, slice_get, drop, map, max, length, refl, sym, ap, ◌∙◌, subst, subst₂, ap₂, arith, get_or}
+use Rattle.std.proofs.Common.{◌≡◌, inl, inr, ℕ, ◌+◌, ◌<◌, ◌≤◌, List, All, Some, slice_get, length, sym, ap, ◌∙◌, subst, subst₂, arith, get_or}
 use Rattle.std.proofs.lemmas.Bool.Decides.{eqb_tells}
-use Rattle.std.proofs.lemmas.Option.{slice_get-get_or, slice_get-map, slice_get_within, same_Some}
-use Rattle.std.proofs.lemmas.Bool.{cases_order}
-use Rattle.std.proofs.lemmas.List.{get_or_default, length-map}
-use Rattle.std.proofs.Math.Nat.{max-eq_left, max-eq_right, mul-le-mul_right}
-use Rattle.rs_derive.proofs.Loops.{drop_here}
+use Rattle.std.proofs.lemmas.Option.{slice_get-get_or, slice_get_within, same_Some}
+use Rattle.std.proofs.lemmas.List.{get_or_default}
 use Rattle.rs_model.specs.Data.{Machine_data, Protocol_data}
 use Rattle.rs_derive.specs.Data.{DNode_data, Derivation_data}
 use Rattle.rs_derive.specs.Derivations.{IsDerivation, IsProper, Remembers}
@@ -17,9 +14,8 @@ use Rattle.rs_project.specs.Projection.{AreProjections}
 use Rattle.rs_project.specs.Numbered.{AreNumberedProjections}
 use Rattle.rs_project.proofs.Machines.{projection-machine}
 use Rattle.rs_safety.specs.Accepting.{Accepted_data, FirstRefused, IsAcceptedSession}
-use Rattle.rs_safety.specs.Room.{longest, top_rank, lag}
-use Rattle.rs_derive.specs.Figures.{IsGreatest, greatest}
-use Rattle.rs_safety.proofs.Limits.{is-greatest}
+use Rattle.rs_model.specs.declared.limits.TheConstants.{MOST_BOUND}
+use Rattle.rs_safety.specs.Figures.{OwesFew}
 use Rattle.rs_safety.proofs.Sessions.{no-machine, no-projection}
 use Rattle.rs_safety.specs.Sessions.{AreDerivations, AreOneEach, IsSession}
 use Rattle.rs_safety.proofs.Walks.{numbered}
@@ -116,10 +112,7 @@ accepted-safe pr pjs ms ds s of =
 all-of : {A : Type 0} (P : A → Type 0) (xs : List A) → ((i : ℕ) (x : A) → slice_get xs i ≡ Some x → P x) → All P xs
 all-of P xs h k d hk = h k (get_or xs k d) (slice_get-get_or xs k d hk)
 
-no-node : DNode_data
-no-node = record { state = 0; pending = []; above = 0; rank = 0; next = [] }
-
--- no node of a derivation owes more than 64 acts
+-- no node of a derivation of an accepted session owes more than 64 acts
 pub owes-few : (session : Accepted_data) → IsAcceptedSession session → (place : ℕ) (d : Derivation_data) → place < length session.derivations
     → d ≡ get_or session.derivations place d → (i : ℕ) (n : DNode_data) → slice_get d.nodes i ≡ Some n → length n.pending ≤ 64
 owes-few session a place d h e i n at =
@@ -131,76 +124,13 @@ owes-few session a place d h e i n at =
     let bound = (a.one_each.bound place d hd).1 in
     omega (arith, short, bound)
 
-owes-at-most : (session : Accepted_data) → IsAcceptedSession session → (place : ℕ) (d : Derivation_data) → place < length session.derivations
-    → d ≡ get_or session.derivations place d → (i x : ℕ) → slice_get (map (λ (n : DNode_data). length n.pending) d.nodes) i ≡ Some x → x ≤ 64
-owes-at-most session a place d h e i x at =
-    let w = slice_get_within (map (λ (n : DNode_data). length n.pending) d.nodes) i x at in
-    let n : DNode_data = get_or d.nodes i no-node in
-    let hn : slice_get d.nodes i ≡ Some n = slice_get-get_or d.nodes i no-node (let l : length (map (λ (n : DNode_data). length n.pending) d.nodes) ≡ length d.nodes = length-map d.nodes (λ (n : DNode_data). length n.pending) in omega (arith, w, l)) in
-    let g : slice_get (map (λ (n : DNode_data). length n.pending) d.nodes) i ≡ Some (length n.pending) = rw (slice_get-map (λ (n : DNode_data). length n.pending) d.nodes i, hn) refl in
-    let k : length n.pending ≡ x = same_Some (length n.pending) x (sym g ∙ at) in
-    let few = owes-few session a place d h e i n hn in
-    omega (arith, k, few)
+-- .. of all of them
+pub all-owe-few : (session : Accepted_data) → IsAcceptedSession session → All OwesFew session.derivations
+all-owe-few session a k d h =
+    let here = get_or_default session.derivations k d (get_or session.derivations k d) h in
+    all-of (λ (n : DNode_data). length n.pending ≤ MOST_BOUND) (get_or session.derivations k d).nodes (λ i n at. owes-few session a k (get_or session.derivations k d) h here i n at)
 
-greatest-few : (xs : List ℕ) (m k : ℕ) → IsGreatest xs m → ((i x : ℕ) → slice_get xs i ≡ Some x → x ≤ k) → m ≤ k
-greatest-few xs m k g h = elim g.is [
-  | inl e ↦ (let z = e.1 in omega (arith, z))
-  | inr at ↦ h at.0 m at.1
-]
-
-pub owes-below : (session : Accepted_data) → IsAcceptedSession session → (place : ℕ) (d : Derivation_data) → place < length session.derivations
-    → d ≡ get_or session.derivations place d → All (λ (n : DNode_data). length n.pending < 2 ^ 32) d.nodes
-owes-below session a place d h e = all-of (λ (n : DNode_data). length n.pending < 2 ^ 32) d.nodes (λ i n at. (let k = owes-few session a place d h e i n at in omega (arith, k)))
-
--- the room as far as it is computed: the first so many derivations are counted
-pub record CountsTo (ds : List Derivation_data) (count owed late : ℕ) : Type 0 where
-  pub owes : greatest (map longest (drop count ds)) owed ≡ greatest (map longest ds) 0
-  pub lags : greatest (map lag (drop count ds)) late ≡ greatest (map lag ds) 0
-  pub few : owed ≤ 64
-  pub soon : late ≤ 64 * 2 ^ 32
-
-greatest-on : (f : Derivation_data → ℕ) (ds : List Derivation_data) (count m : ℕ) (d : Derivation_data) → slice_get ds count ≡ Some d
-    → greatest (map f (drop (count + 1) ds)) (max m (f d)) ≡ greatest (map f (drop count ds)) m
-greatest-on f ds count m d hd = ap (λ (z : List Derivation_data). greatest (map f z) m) (sym (drop_here ds count d hd))
-
-at-most-both : (m x k : ℕ) → m ≤ k → x ≤ k → max m x ≤ k
-at-most-both m x k hm hx = elim (cases_order m x) [
-  | inl e ↦ (let r : max m x ≡ m = max-eq_left (omega (arith, e)) in omega (arith, r))
-  | inr h ↦ elim h [
-    | inl e ↦ (let r : max m x ≡ x = max-eq_right (omega (arith, e)) in omega (arith, r))
-    | inr e ↦ (let r : max m x ≡ m = max-eq_left (omega (arith, e)) in omega (arith, r))
-  ]
-]
-
-product : (most rank : ℕ) → most ≤ 64 → rank < 2 ^ 32 → most * (rank + 1) ≤ 64 * 2 ^ 32
-product most rank h k =
-    let x : most * (rank + 1) ≤ 64 * (rank + 1) = mul-le-mul_right (rank + 1) h in
-    omega (arith, x, k)
-
--- one more derivation
-pub counts-on : (session : Accepted_data) → IsAcceptedSession session → (count owed late : ℕ) (d : Derivation_data) (most rank : ℕ) → count < length session.derivations
-    → d ≡ get_or session.derivations count d → IsGreatest (map (λ (n : DNode_data). length n.pending) d.nodes) most → IsGreatest (map (λ (n : DNode_data). n.rank) d.nodes) rank → rank < 2 ^ 32
-    → CountsTo session.derivations count owed late
-    → CountsTo session.derivations (count + 1) (max owed most) (max late (most * (rank + 1)))
-counts-on session a count owed late d most rank h e long top low to =
-    let hd = gets session.derivations count d h e in
-    let em : most ≡ longest d = is-greatest (map (λ (n : DNode_data). length n.pending) d.nodes) most long in
-    let er : rank ≡ top_rank d = is-greatest (map (λ (n : DNode_data). n.rank) d.nodes) rank top in
-    let one : rank + 1 ≡ suc (top_rank d) = omega (arith, er) in
-    let el : most * (rank + 1) ≡ lag d = ap₂ (λ x y. x * y) em one in
-    let few : most ≤ 64 = greatest-few (map (λ (n : DNode_data). length n.pending) d.nodes) most 64 long (owes-at-most session a count d h e) in
-    record {
-      owes = ap (λ (z : ℕ). greatest (map longest (drop (count + 1) session.derivations)) (max owed z)) em ∙ greatest-on longest session.derivations count owed d hd ∙ to.owes;
-      lags = ap (λ (z : ℕ). greatest (map lag (drop (count + 1) session.derivations)) (max late z)) el ∙ greatest-on lag session.derivations count late d hd ∙ to.lags;
-      few = at-most-both owed most 64 to.few few;
-      soon = at-most-both late (most * (rank + 1)) (64 * 2 ^ 32) to.soon (product most rank few low);
-    }
-
--- .. and accepted
+-- a session with derivations is an accepted one
 pub accepted-session : (pr : Protocol_data) (pjs : List Projection_data) (ms : List Machine_data) (ds : List Derivation_data) → IsSession pr pjs ms → AreOneEach pr.roles ds
     → AreDerivations ms pjs ds → IsAcceptedSession (record { protocol = pr; projections = pjs; derivations = ds; machines = ms })
 accepted-session pr pjs ms ds s each of = record { is = s; one_each = each; derived = of; safe = accepted-safe pr pjs ms ds s of }
-
--- .. of no derivation
-pub all-owe-below : (session : Accepted_data) → IsAcceptedSession session → All (λ (d : Derivation_data). All (λ (n : DNode_data). length n.pending < 2 ^ 32) d.nodes) session.derivations
-all-owe-below session a k d h = owes-below session a k (get_or session.derivations k d) h (get_or_default session.derivations k d (get_or session.derivations k d) h)

@@ -11,6 +11,7 @@ pub mod Fronts
 pub mod Derived
 pub mod Reordered
 pub mod Limits
+pub mod Counting
 pub mod Accepts
 pub mod Unique
 pub mod Computed

@@ -1,5 +1,6 @@
 pub mod Sessions
 pub mod Room
+pub mod Figures
 pub mod Accepting
 pub mod Alike
 pub mod Examples

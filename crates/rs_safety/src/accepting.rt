@@ -7,7 +7,8 @@ ghost use Rattle.rs_safety.specs.Accepting.{FirstRefused, IsAcceptedSession};
 ghost use Rattle.rs_safety.specs.Room.{room_of};
 ghost use Rattle.rs_safety.specs.Sessions.{AreDerivations, AreOneEach, IsSession};
 
-use rs_derive::{Derivation, DeriveFault, check, longest, top_rank};
+use crate::rooms::room;
+use rs_derive::{Derivation, DeriveFault, check};
 use rs_model::{Machine, Protocol, Role};
 use rs_project::Projection;
 use std::marker::Model;
@@ -51,19 +52,12 @@ impl<'a> Accepted<'a> {
         self.derivations
     }
 
-    /// How many messages each ring must hold, so that no role can be held up by full rings: one more than the greatest
-    /// number of acts that are owed and the greatest lag of a derivation.
+    /// How many messages each ring must hold, so that no role can be held up by full rings: the [`room`] of its
+    /// derivations.
     pub fn room(&self) -> u64
         ensures { result ≡ room_of self.now.derivations }
     {
-        let mut most_owed = 0;
-        let mut most_lag = 0;
-        for derivation in self.derivations {
-            let owed = longest(derivation) as u64;
-            most_owed = most_owed.max(owed);
-            most_lag = most_lag.max(owed * (top_rank(derivation) as u64 + 1));
-        }
-        1 + most_owed + most_lag
+        room(self.derivations)
     }
 }
 

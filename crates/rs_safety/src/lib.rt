@@ -4,5 +4,7 @@
 
 mod accepting;
 pub mod laws;
+mod rooms;
 
 pub use accepting::{AcceptRefused, Accepted, accept};
+pub use rooms::{Figures, figures_of, room, room_by_figures};

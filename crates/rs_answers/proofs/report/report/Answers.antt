@@ -1,9 +1,10 @@
-use Rattle.std.proofs.Common.{◌<◌, ◌^◌, All, List, length, sym, subst}
-use Rattle.rs_derive.specs.Data.{DNode_data, Derivation_data}
-use Rattle.rs_safety.proofs.Accepts.{all-owe-below}
+use Rattle.std.proofs.Common.{◌≡◌, ◌∙◌, ap, subst}
+use Rattle.std.specs.Prelude.{IfOk}
+use Rattle.rs_answers.specs.Lines.{report_by}
+use Rattle.rs_answers.specs.Data.{Answer_data}
+use Rattle.rs_answers.proofs.Reporting.{report-by}
 use Rattle.rs_answers.proofs.report.report.Goals as goal
 
-pub push_all_figures-requires : goal.push_all_figures-requires
-push_all_figures-requires c =
-    let P : List Derivation_data → Type 0 = λ z. All (λ (d : Derivation_data). All (λ (n : DNode_data). length n.pending < 2 ^ 32) d.nodes) z in
-    subst P (sym c.derivations.ensures.derivations) (all-owe-below c.args.accepted.now c.derivations.ensures.session)
+pub returns : goal.returns
+returns c =
+    subst (λ (z : Answer_data). IfOk c.report_by_figures.result (λ a. a ≡ z)) (ap (report_by c.args.names.now) (c.as_slice.ensures.value ∙ c.in_ok-all.ensures) ∙ report-by c.args.names.now c.args.derivations.now) c.report_by_figures.ensures

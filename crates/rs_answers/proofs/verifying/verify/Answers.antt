@@ -1,4 +1,4 @@
-use Rattle.std.proofs.Common.{◌≡◌, ℕ, true, false, List, Some, None, ◌∙◌, ap, sym, subst, subst₂}
+use Rattle.std.proofs.Common.{◌≡◌, ℕ, true, false, List, All, Some, None, ◌∙◌, ap, sym, subst, subst₂}
 use Rattle.std.specs.List.{list_all}
 use Rattle.std.specs.Option.{is_some}
 use Rattle.std.specs.Prelude.{IfOk}
@@ -12,6 +12,8 @@ use Rattle.rs_answers.specs.RefusalTexts.{blame_answer}
 use Rattle.rs_answers.specs.Report.{report}
 use Rattle.rs_answers.specs.Verifying.{AreCheckable, first_blame, those_there}
 use Rattle.rs_answers.specs.declared.verifying.Blame.TheVariants as blame
+use Rattle.rs_safety.specs.Figures.{OwesFew}
+use Rattle.rs_safety.proofs.Accepts.{all-owe-few}
 use Rattle.rs_answers.proofs.Derivings.{session_has}
 use Rattle.rs_answers.proofs.Verified.{are_one_each, checkable, missing_is_blamed, none_is_blamed, refused_is_blamed, verify_blamed, verify_fine, verify_refused}
 use Rattle.rs_answers.proofs.verifying.verify.Goals as goal
@@ -58,6 +60,10 @@ accept-requires-clause-derivations c =
     (subst (λ (d : Document_data). AreOneEach d.protocol.roles (those_there d.derivations)) (sym c.document.view_is)
     (are_one_each c.args.document.protocol c.args.document.derivations c.args.document.names.roles c.requires.roles c.requires.ready.derivations all))
 
+pub report-requires : goal.report-requires
+report-requires c =
+    subst (λ (z : List Derivation_data). All OwesFew z) (sym c.derivations.ensures.derivations) (all-owe-few c.in-Ok-accept.accepted c.derivations.ensures.session)
+
 pub returns-in-Ok-accept : goal.returns-in-Ok-accept
 returns-in-Ok-accept c =
     let all = subst (λ (d : Document_data). list_all is_some d.derivations ≡ true) c.document.view_is
@@ -68,7 +74,7 @@ returns-in-Ok-accept c =
     verify_fine c.args.document c.in-Ok.session.projections.items c.in-Ok.session.machines.items c.report.result c.in-Ok.ensures.ok none
     (subst₂ (λ (x : List (List ℕ)) (y : List Derivation_data). IfOk c.report.result (λ a. a ≡ report x y))
     (c.as_slice-in-Ok-accept.ensures.value ∙ ap (λ (n : Names_data). n.roles) c.names.view_is ∙ ap (λ (d : Document_data). d.names.roles) c.document.view_is)
-    (ap (λ (x : Accepted_data). x.derivations) c.in-Ok-accept.ensures.accepted ∙ c.as_slice-3.ensures.value ∙ c.in_ok-derivations.ensures ∙ ap (λ (d : Document_data). those_there d.derivations) c.document.view_is) c.report.ensures)
+    (c.derivations.ensures.derivations ∙ ap (λ (x : Accepted_data). x.derivations) c.in-Ok-accept.ensures.accepted ∙ c.as_slice-3.ensures.value ∙ c.in_ok-derivations.ensures ∙ ap (λ (d : Document_data). those_there d.derivations) c.document.view_is) c.report.ensures)
 
 pub returns : goal.returns
 returns c =
