@@ -16,4 +16,4 @@ pub use derivations::{DNode, Derivation, longest, top_rank};
 pub use faults::DeriveFault;
 pub use rs_graph::{Graph, Steps};
 pub use rules::{Rule, arm_of, arms_at, rule_at};
-pub use targets::same_acts;
+pub use targets::{Change, Target, is_target, same_acts};
