@@ -8,6 +8,7 @@ pub mod Costing
 pub mod Deciding
 pub mod Determined
 pub mod Discovering
+pub mod Filing
 pub mod Forced
 pub mod Naming
 pub mod Noding

@@ -8,4 +8,5 @@ pub mod Index
 pub mod Itself
 pub mod Nodes
 pub mod Survives
+pub mod Table
 pub mod Turns

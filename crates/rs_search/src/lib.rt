@@ -9,6 +9,7 @@ pub mod laws;
 mod nodes;
 mod searches;
 mod survey;
+mod table;
 #[cfg(test)]
 mod tests;
 mod turns;

@@ -1,5 +1,5 @@
 //! The search.
-ghost use Rattle.std.specs.Prelude.{◌≡◌, ◌<◌, ◌≤◌, ◌+◌, ◌^◌, [], List, ℕ, IfOk, IfErr, IfSome, OnOk, false, length, map, slice_index_or};
+ghost use Rattle.std.specs.Prelude.{◌≡◌, ◌<◌, ◌≤◌, ◌+◌, ◌^◌, [], List, ℕ, IfOk, IfErr, IfSome, OnOk, false, length, map, slice_index_or, true};
 ghost use Rattle.std.specs.List.{list_any};
 ghost use Rattle.rs_model.specs.declared.limits.TheConstants.{MOST_CANDIDATES};
 ghost use Rattle.rs_derive.specs.Derivations.{IsProper};
@@ -15,11 +15,12 @@ use crate::SearchFault;
 use crate::forward::forward_ranks;
 use crate::found::{Candidates, Fault};
 use crate::itself::search_itself;
-use crate::nodes::{kept_rows, nodes_in_order, nodes_of};
+use crate::nodes::{kept_rows, nodes_of};
 use crate::survey::{candidates_of, explore};
+use crate::table::SpotTable;
 use rs_derive::Derivation;
 use rs_graph::{RankFault, Steps, number_all, rank_rows};
-use rs_model::{Machine, NoMemory};
+use rs_model::Machine;
 use std::alloc::Global;
 use std::marker::Brand;
 use std::sync::ledger::{Blank, Ledger};
@@ -82,39 +83,34 @@ pub fn search_counted<L: Ledger>(
     ensures steps { OnOk result (IsWithinCost sub.now above.now bound steps.old steps.new) }
     ensures cost { IfErr result (λ e. Costs sub.now above.now bound e steps.old steps.new) }
 {
-    let found = match candidates_of(alloc, sub, above, bound) {
+    let mut found = match candidates_of(alloc, sub, above, bound) {
         Ok(found) => found,
         Err(fault) => return Err(fault),
     };
-    match plain_ranks(alloc, &found) {
-        Ok(Some(ranks)) => {
-            let Candidates { points, rows, .. } = found;
-            match nodes_in_order(alloc, points, rows, ranks.as_slice()) {
-                Ok(nodes) => Ok(Derivation {
-                    role: sub.role,
-                    bound,
-                    nodes,
-                }),
-                Err(_) => Err(SearchFault::NoMemory),
-            }
-        }
-        Ok(None) => search_among(alloc, sub, above, bound, found, steps),
-        Err(_) => Err(SearchFault::NoMemory),
+    if has_plain_ranks(found.choosing, &found.keeps, &mut found.table) {
+        let Candidates { table, .. } = found;
+        return Ok(Derivation {
+            role: sub.role,
+            bound,
+            nodes: table.into_nodes(),
+        });
     }
+    search_among(alloc, sub, above, bound, found, steps)
 }
 
-// The ranks of the candidates, where none of them chooses, and all edges that keep their head lead to greater numbers.
-fn plain_ranks(alloc: Global, found: &Candidates) -> Result<Option<Vec<u32>>, NoMemory>
-    requires few { length found.now.rows.items < 2 ^ 32 }
-    requires keeps { length found.now.keeps.items ≡ length found.now.rows.items }
-    requires within { (n j : ℕ) → Edge found.now.rows.items n j → j < length found.now.rows.items }
-    ensures choosing { IfOk result (λ o. IfSome o (λ v. found.now.choosing ≡ false)) }
-    ensures ranks { IfOk result (λ o. IfSome o (λ v. AreForward found.now.keeps.items found.now.rows.items v.items 0)) }
+// Whether none of the candidates chooses, and all edges that keep their head lead to greater numbers; then each has its
+// rank.
+fn has_plain_ranks(choosing: bool, keeps: &[bool], table: &mut SpotTable) -> bool
+    requires few { length table.old.rows < 2 ^ 32 }
+    requires known { length table.old.rows ≡ length table.old.spots }
+    requires keeps { length keeps.now ≡ length table.old.rows }
+    requires within { (n j : ℕ) → Edge table.old.rows n j → j < length table.old.rows }
+    ensures choosing { result ≡ true → choosing ≡ false }
+    ensures ranks { result ≡ true → AreForward keeps.now table.new.rows table.new.ranks 0 }
+    ensures spots { table.new.spots ≡ table.old.spots }
+    ensures rows { table.new.rows ≡ table.old.rows }
 {
-    if found.choosing {
-        return Ok(None);
-    }
-    forward_ranks(alloc, found.keeps.as_slice(), found.rows.as_slice())
+    !choosing && forward_ranks(keeps, table)
 }
 
 // The search among the candidates.
@@ -127,12 +123,12 @@ fn search_among<L: Ledger>(
     steps: &mut Steps<L>,
 ) -> Result<Derivation, SearchFault>
     requires theirs { IsProper above.now }
-    requires found { IsDiscovery (nexts_within sub.now above.now bound) (start_spot sub.now above.now) found.points.items found.rows.items }
-    requires few { length found.points.items ≤ MOST_CANDIDATES }
-    requires short { (n : ℕ) → length (slice_index_or found.rows.items n []) ≤ 2 ^ 16 }
-    requires anys { found.anys.items ≡ map (is_any sub.now above.now bound) found.points.items }
-    requires keeps { found.keeps.items ≡ map (is_keeping sub.now above.now bound) found.points.items }
-    requires cut { found.cut ≡ list_any (is_cut sub.now above.now bound) found.points.items }
+    requires found { IsDiscovery (nexts_within sub.now above.now bound) (start_spot sub.now above.now) found.table.spots found.table.rows }
+    requires few { length found.table.spots ≤ MOST_CANDIDATES }
+    requires short { (n : ℕ) → length (slice_index_or found.table.rows n []) ≤ 2 ^ 16 }
+    requires anys { found.anys.items ≡ map (is_any sub.now above.now bound) found.table.spots }
+    requires keeps { found.keeps.items ≡ map (is_keeping sub.now above.now bound) found.table.spots }
+    requires cut { found.cut ≡ list_any (is_cut sub.now above.now bound) found.table.spots }
     ensures ok { IfOk result (λ d. IsCanonical sub.now above.now bound d) }
     ensures err { IfErr result (λ e. SearchRefuses sub.now above.now bound e) }
     ensures steps { OnOk result (IsWithinCost sub.now above.now bound steps.old steps.new) }
@@ -158,8 +154,7 @@ fn search_among<L: Ledger>(
         Err(RankFault::OnCycle { node }) => return Err(SearchFault::Forgets { node }),
         Err(RankFault::Memory) => return Err(SearchFault::NoMemory),
     };
-    let points = survey.found.points.as_slice();
-    match nodes_of(alloc, points, items, nexts, ranks.as_slice()) {
+    match nodes_of(alloc, &survey.found.table, items, nexts, ranks.as_slice()) {
         Ok(nodes) => Ok(Derivation {
             role: sub.role,
             bound,

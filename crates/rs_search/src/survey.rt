@@ -35,13 +35,13 @@ pub fn candidates_of(
 ) -> Result<Candidates, SearchFault>
     requires ours { IsProper sub.now }
     requires theirs { IsProper above.now }
-    ensures found { IfOk result (λ d. IsDiscovery (nexts_within sub.now above.now bound) (start_spot sub.now above.now) d.points.items d.rows.items) }
-    ensures few { IfOk result (λ d. length d.points.items ≤ MOST_CANDIDATES) }
-    ensures short { IfOk result (λ d. (n : ℕ) → length (slice_index_or d.rows.items n []) ≤ 2 ^ 16) }
-    ensures anys { IfOk result (λ d. d.anys.items ≡ map (is_any sub.now above.now bound) d.points.items) }
-    ensures keeps { IfOk result (λ d. d.keeps.items ≡ map (is_keeping sub.now above.now bound) d.points.items) }
-    ensures cut { IfOk result (λ d. d.cut ≡ list_any (is_cut sub.now above.now bound) d.points.items) }
-    ensures choosing { IfOk result (λ d. d.choosing ≡ list_any (is_choosing sub.now above.now bound) d.points.items) }
+    ensures found { IfOk result (λ d. IsDiscovery (nexts_within sub.now above.now bound) (start_spot sub.now above.now) d.table.spots d.table.rows) }
+    ensures few { IfOk result (λ d. length d.table.spots ≤ MOST_CANDIDATES) }
+    ensures short { IfOk result (λ d. (n : ℕ) → length (slice_index_or d.table.rows n []) ≤ 2 ^ 16) }
+    ensures anys { IfOk result (λ d. d.anys.items ≡ map (is_any sub.now above.now bound) d.table.spots) }
+    ensures keeps { IfOk result (λ d. d.keeps.items ≡ map (is_keeping sub.now above.now bound) d.table.spots) }
+    ensures cut { IfOk result (λ d. d.cut ≡ list_any (is_cut sub.now above.now bound) d.table.spots) }
+    ensures choosing { IfOk result (λ d. d.choosing ≡ list_any (is_choosing sub.now above.now bound) d.table.spots) }
     ensures err { IfErr result (λ e. SearchRefuses sub.now above.now bound e) }
     ensures cost { IfErr result (λ e. (steps : ℕ) → Costs sub.now above.now bound e steps steps) }
 {
@@ -61,25 +61,29 @@ pub fn explore<L: Ledger>(
     found: Candidates,
     steps: &mut Steps<L>,
 ) -> Result<Survey, SearchFault>
-    requires found { IsDiscovery (nexts_within sub.now above.now bound) (start_spot sub.now above.now) found.points.items found.rows.items }
-    requires few { length found.points.items ≤ MOST_CANDIDATES }
-    requires short { (n : ℕ) → length (slice_index_or found.rows.items n []) ≤ 2 ^ 16 }
-    requires anys { found.anys.items ≡ map (is_any sub.now above.now bound) found.points.items }
-    requires keeps { found.keeps.items ≡ map (is_keeping sub.now above.now bound) found.points.items }
-    requires cut { found.cut ≡ list_any (is_cut sub.now above.now bound) found.points.items }
-    ensures found { IfOk result (λ s. IsDiscovery (nexts_within sub.now above.now bound) (start_spot sub.now above.now) s.found.points.items s.found.rows.items) }
-    ensures short { IfOk result (λ s. (n : ℕ) → length (slice_index_or s.found.rows.items n []) ≤ 2 ^ 16) }
-    ensures keeps { IfOk result (λ s. s.found.keeps.items ≡ map (is_keeping sub.now above.now bound) s.found.points.items) }
-    ensures small { IfOk result (λ s. length s.found.points.items ≤ MOST_CANDIDATES) }
-    ensures anys { IfOk result (λ s. s.found.anys.items ≡ map (is_any sub.now above.now bound) s.found.points.items) }
-    ensures built { IfOk result (λ s. IsBuilt s.found.anys.items s.found.rows.items (length s.found.rows.items) s.graph) }
+    requires found { IsDiscovery (nexts_within sub.now above.now bound) (start_spot sub.now above.now) found.table.spots found.table.rows }
+    requires few { length found.table.spots ≤ MOST_CANDIDATES }
+    requires short { (n : ℕ) → length (slice_index_or found.table.rows n []) ≤ 2 ^ 16 }
+    requires anys { found.anys.items ≡ map (is_any sub.now above.now bound) found.table.spots }
+    requires keeps { found.keeps.items ≡ map (is_keeping sub.now above.now bound) found.table.spots }
+    requires cut { found.cut ≡ list_any (is_cut sub.now above.now bound) found.table.spots }
+    ensures found { IfOk result (λ s. IsDiscovery (nexts_within sub.now above.now bound) (start_spot sub.now above.now) s.found.table.spots s.found.table.rows) }
+    ensures short { IfOk result (λ s. (n : ℕ) → length (slice_index_or s.found.table.rows n []) ≤ 2 ^ 16) }
+    ensures keeps { IfOk result (λ s. s.found.keeps.items ≡ map (is_keeping sub.now above.now bound) s.found.table.spots) }
+    ensures small { IfOk result (λ s. length s.found.table.spots ≤ MOST_CANDIDATES) }
+    ensures anys { IfOk result (λ s. s.found.anys.items ≡ map (is_any sub.now above.now bound) s.found.table.spots) }
+    ensures built { IfOk result (λ s. IsBuilt s.found.anys.items s.found.table.rows (length s.found.table.rows) s.graph) }
     ensures left { IfOk result (λ s. IsRemoval s.graph.outs s.left.current.items s.left.order.items) }
     ensures start { IfOk result (λ s. at s.left.current.items 0 < moves_at s.graph.outs 0) }
     ensures err { IfErr result (λ e. SearchRefuses sub.now above.now bound e) }
     ensures steps { IfOk result (λ s. steps.new ≡ steps.old + sum_by (λ n. cost_of s.graph.intos n) s.left.order.items) }
     ensures cost { IfErr result (λ e. Costs sub.now above.now bound e steps.old steps.new) }
 {
-    let graph = match graph_of(alloc, found.anys.as_slice(), found.rows.as_slice()) {
+    let rows = match found.table.copy_rows(alloc) {
+        Ok(rows) => rows,
+        Err(_) => return Err(SearchFault::NoMemory),
+    };
+    let graph = match graph_of(alloc, found.anys.as_slice(), rows.as_slice()) {
         Ok(graph) => graph,
         Err(_) => return Err(SearchFault::NoMemory),
     };

@@ -1,69 +1,19 @@
 //! What a spot can do within the bound: choose one of some spots, or go on to all of them.
-ghost use Rattle.std.specs.Prelude.{◌≡◌, ◌≢◌, ◌<◌, ◌≤◌, ◌^◌, [], ◌∷◌, ◌++◌, ◌==◌, ◌&&◌, IfOk, IfSome, length, not, Some, None, true, false};
+ghost use Rattle.std.specs.Prelude.{◌≡◌, ◌<◌, ◌≤◌, ◌^◌, ◌==◌, ◌&&◌, ℕ, List, IfSome, length, not, Some, None, true, false};
+ghost use Rattle.rs_model.specs.declared.machines.Act.{Act};
+ghost use Rattle.rs_derive.specs.Checks.{target_spot};
 ghost use Rattle.rs_derive.specs.Due.{due_at};
 ghost use Rattle.rs_derive.specs.Moves.{spot};
 ghost use Rattle.rs_derive.specs.Rules.{RuleFits, arms_at, due_by};
 ghost use Rattle.rs_prefix.specs.Earliest.{without};
-ghost use Rattle.rs_derive.specs.Derivations.{IsProper};
-ghost use Rattle.rs_derive.specs.Within.{HasLabelsOnce};
+ghost use Rattle.rs_derive.specs.Derivations.{IsProper, spot_of};
+ghost use Rattle.rs_derive.specs.Within.{HasLabelsOnce, IsPlaceWithin};
+ghost use Rattle.rs_derive.specs.declared.targets.Change.{Change};
 ghost use Rattle.rs_search.specs.Turns.{arms_in, turn_with_cut, cuts, may_choose, owing_by, turn_by_code, turn_of, turn_within};
 
-use rs_derive::{Rule, arms_at, rule_at, same_acts};
-use rs_model::{Act, Arm, Machine, NoMemory, Role, State};
+use rs_derive::{Change, DNode, Rule, Target, arms_at, rule_at};
+use rs_model::{Act, Arm, Machine, Role, State};
 use rs_prefix::{Kind, Pending};
-use std::alloc::Global;
-use std::marker::Model;
-
-/// A state of the machine, the acts that are owed, and a state of the projection.
-#[derive(Drop, Debug)]
-pub struct Point {
-    pub state: u32,
-    pub pending: Pending,
-    pub above: u32,
-}
-
-impl Model for Point {
-    ghost use Rattle.rs_derive.specs.Moves.{Spot};
-
-    ghost Value = { Spot };
-
-    ghost view = { λ p. record { state = p.state; pending = p.pending; above = p.above } };
-}
-
-impl Point {
-    ghost use Rattle.std.specs.Prelude.{false, IfOk};
-    ghost use Rattle.rs_derive.specs.Checks.{same_spot};
-
-    /// Whether both are the same spot.
-    #[tactic(auto, using(crate::proofs::Same::spot_is, crate::proofs::Same::not_spot))]
-    #[inline(always)]
-    pub fn same(&self, other: &Point) -> bool
-        ensures same { result ≡ true → self.now ≡ other.now }
-        ensures other { result ≡ false → self.now ≢ other.now }
-    {
-        self.is_same(other)
-    }
-
-    /// The same spot in memory of its own.
-    pub fn copy(&self, alloc: Global) -> Result<Point, NoMemory>
-        ensures { IfOk result (λ p. p ≡ self.now) }
-    {
-        Ok(Point {
-            state: self.state,
-            pending: self.pending.copy(alloc)?,
-            above: self.above,
-        })
-    }
-
-    #[inline(always)]
-    fn is_same(&self, other: &Point) -> bool
-        ensures { result ≡ same_spot self.now other.now }
-    {
-        self.state == other.state
-            && self.above == other.above
-            && same_acts(self.pending.as_slice(), other.pending.as_slice())
-    }
-}
 
 /// What a spot can do. Each of the spots to which the rule leads is a move of its own where `any`; else all together are the
 /// one move. `keeps` tells whether its edges keep the oldest act that is owed, and `cut` whether the bound takes its moves away.
@@ -75,37 +25,48 @@ pub struct Turn {
     pub rule: Option<Rule>,
 }
 
-/// What the spot can do within the bound.
+/// What the spot can do within the bound, where these are the arms of the states at which it stands.
 #[inline(always)]
-pub fn turn_within(sub: &Machine, above: &Machine, bound: u8, p: &Point) -> Turn
+pub fn turn_within(
+    sub: &Machine,
+    above: &Machine,
+    bound: u8,
+    p: &DNode,
+    arms: &[Arm],
+    theirs: &[Arm],
+) -> Turn
     requires state { p.now.state < length sub.now.states }
     requires there { p.now.above < length above.now.states }
     requires short { length p.now.pending ≤ bound }
-    ensures turn { turn_by_code p.now (arms_in sub.now p.now.state) (arms_in above.now p.now.above) result ≡ turn_within sub.now above.now bound p.now }
-    ensures fits { IfSome result.rule (λ rule. RuleFits p.now.pending (arms_in sub.now p.now.state) (arms_in above.now p.now.above) rule) }
+    requires arms { arms.now ≡ arms_in sub.now p.now.state }
+    requires theirs { theirs.now ≡ arms_in above.now p.now.above }
+    ensures turn { turn_by_code (spot_of p.now) arms.now theirs.now result ≡ turn_within sub.now above.now bound (spot_of p.now) }
+    ensures fits { IfSome result.rule (λ rule. RuleFits p.now.pending arms.now theirs.now rule) }
 {
     let state = &sub.states[p.state as usize];
     let there = &above.states[p.above as usize];
-    turn_at(bound, p, state, there)
+    turn_at(bound, p, state, there, arms, theirs)
 }
 
 #[inline(always)]
-fn turn_at(bound: u8, p: &Point, state: &State, there: &State) -> Turn
+fn turn_at(bound: u8, p: &DNode, state: &State, there: &State, arms: &[Arm], theirs: &[Arm]) -> Turn
     requires short { length p.now.pending ≤ bound }
-    ensures turn { turn_by_code p.now (arms_at state.now) (arms_at there.now) result ≡ turn_with_cut bound (turn_of (due_at p.now (Some state.now) (Some there.now))) }
-    ensures fits { IfSome result.rule (λ rule. RuleFits p.now.pending (arms_at state.now) (arms_at there.now) rule) }
+    requires arms { arms.now ≡ arms_at state.now }
+    requires theirs { theirs.now ≡ arms_at there.now }
+    ensures turn { turn_by_code (spot_of p.now) arms.now theirs.now result ≡ turn_with_cut bound (turn_of (due_at (spot_of p.now) (Some state.now) (Some there.now))) }
+    ensures fits { IfSome result.rule (λ rule. RuleFits p.now.pending arms.now theirs.now rule) }
 {
     match rule_at(&p.pending, state, there) {
         None => no_turn(false),
-        Some(rule) => rule_within(bound, p, rule, arms_at(state), arms_at(there)),
+        Some(rule) => rule_within(bound, p, rule, arms, theirs),
     }
 }
 
 #[inline(always)]
-fn rule_within(bound: u8, p: &Point, rule: Rule, arms: &[Arm], theirs: &[Arm]) -> Turn
+fn rule_within(bound: u8, p: &DNode, rule: Rule, arms: &[Arm], theirs: &[Arm]) -> Turn
     requires fits { RuleFits p.now.pending arms.now theirs.now rule }
     requires short { length p.now.pending ≤ bound }
-    ensures turn { turn_by_code p.now arms.now theirs.now result ≡ turn_with_cut bound (turn_of (Some (due_by p.now arms.now theirs.now rule))) }
+    ensures turn { turn_by_code (spot_of p.now) arms.now theirs.now result ≡ turn_with_cut bound (turn_of (Some (due_by (spot_of p.now) arms.now theirs.now rule))) }
     ensures fits { IfSome result.rule (λ rule. RuleFits p.now.pending arms.now theirs.now rule) }
 {
     if is_cut(bound, &p.pending, theirs, rule) {
@@ -170,46 +131,37 @@ pub fn has_choice(any: bool, spots: usize) -> bool
     any && spots != 1
 }
 
-/// The spot behind the act that is owed at the place.
+/// Where making the act that is owed at the place leads.
 #[inline(always)]
-pub fn point_behind_payment(
-    alloc: Global,
-    p: &Point,
-    place: usize,
-    arm: Arm,
-) -> Result<Point, NoMemory>
-    requires { place < length p.now.pending }
-    ensures { IfOk result (λ r. r ≡ spot arm.next (without p.now.pending place) p.now.above) }
+pub fn target_behind_payment(p: &DNode, place: usize, arm: Arm) -> Target
+    ensures spot { (pending : List Act) → target_spot pending result ≡ spot arm.next (without pending place) p.now.above }
+    ensures change { result.change ≡ Change.Without place }
 {
-    Ok(Point {
+    Target {
         state: arm.next,
-        pending: p.pending.copy_without(alloc, place)?,
+        change: Change::Without(place),
         above: p.above,
-    })
+    }
 }
 
-/// The spot behind arms that both send.
+/// Where arms that both send lead.
 #[inline(always)]
-pub fn both(alloc: Global, p: &Point, arm: Arm, their: Arm) -> Result<Point, NoMemory>
-    ensures { IfOk result (λ r. r ≡ spot arm.next p.now.pending their.next) }
+pub fn target_of_both(arm: Arm, their: Arm) -> Target
+    ensures spot { (pending : List Act) → target_spot pending result ≡ spot arm.next pending their.next }
+    ensures change { result.change ≡ Change.Same }
 {
-    Ok(Point {
+    Target {
         state: arm.next,
-        pending: p.pending.copy(alloc)?,
+        change: Change::Same,
         above: their.next,
-    })
+    }
 }
 
-/// The spot behind an arm by which the projection has sent or received, which is owed from there on.
+/// Where an arm by which the projection has sent or received leads: the machine stays where it is, and owes the act.
 #[inline(always)]
-pub fn owing_by(
-    alloc: Global,
-    p: &Point,
-    kind: Kind,
-    peer: Role,
-    arm: Arm,
-) -> Result<Point, NoMemory>
-    ensures spot { IfOk result (λ r. r ≡ owing_by kind p.now peer arm) }
+pub fn target_owing(p: &DNode, kind: Kind, peer: Role, arm: Arm) -> Target
+    ensures spot { target_spot p.now.pending result ≡ owing_by kind (spot_of p.now) peer arm }
+    ensures within { (count : ℕ) → IsPlaceWithin count result.change }
     ensures label { arm.label.0 < 2 ^ 16 }
 {
     let label = arm.label;
@@ -218,17 +170,9 @@ pub fn owing_by(
         Kind::Send => Act::Puts { peer, label, sort },
         Kind::Receive => Act::Takes { peer, label, sort },
     };
-    owing(alloc, p, act, arm.next)
-}
-
-// The machine stays where it is, and owes the act.
-#[inline(always)]
-fn owing(alloc: Global, p: &Point, act: Act, above: u32) -> Result<Point, NoMemory>
-    ensures { IfOk result (λ r. r ≡ spot p.now.state (p.now.pending ++ act ∷ []) above) }
-{
-    Ok(Point {
+    Target {
         state: p.state,
-        pending: p.pending.copy_with(alloc, act)?,
-        above,
-    })
+        change: Change::With(act),
+        above: arm.next,
+    }
 }

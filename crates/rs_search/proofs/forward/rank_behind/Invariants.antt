@@ -3,4 +3,4 @@ use Rattle.rs_graph.proofs.Ranking.{Topped}
 use Rattle.rs_search.proofs.forward.rank_behind.Given as goal
 
 abbrev pub invariant-loop-i : goal.invariant-loop-i
-invariant-loop-i l = Topped l.row l.ranks l.rank l.i × (l.rank + l.number < length l.ranks) × (l.i ≤ length l.row) × ((k : ℕ) → k < l.i → l.number < slice_index_or l.row k 0)
+invariant-loop-i l = Topped l.row l.table.ranks l.rank l.i × (l.rank + l.number < length l.table.ranks) × (l.i ≤ length l.row) × ((k : ℕ) → k < l.i → l.number < slice_index_or l.row k 0)

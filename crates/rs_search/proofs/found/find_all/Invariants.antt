@@ -1,21 +1,18 @@
-use Rattle.std.proofs.Common.{◌≡◌, ℕ, ◌<◌, ◌≤◌, ◌-◌, ◌^◌, [], length, map, slice_index_or, take}
+use Rattle.std.proofs.Common.{◌≡◌, ℕ, ◌≤◌, ◌-◌, ◌^◌, [], length, map, slice_index_or, take}
 use Rattle.std.specs.List.{list_any}
-use Rattle.rs_search.specs.Buckets.{bucket_of}
 use Rattle.rs_search.specs.Candidates.{start_spot}
 use Rattle.rs_graph.specs.Discovery.{Growing}
-use Rattle.rs_search.specs.Index.{AreChained}
 use Rattle.rs_search.specs.Turns.{is_any, is_choosing, is_cut, is_keeping}
 use Rattle.rs_search.specs.Turns.{nexts_within}
 use Rattle.rs_search.proofs.found.find_all.Given as goal
 
 abbrev pub invariant-loop-alloc : goal.invariant-loop-alloc
-invariant-loop-alloc l = Growing (nexts_within l.sub l.above l.bound) (start_spot l.sub l.above) l.points.items l.rows.items × (length l.points.items ≤ l.limit)
-    × ((0 < length l.index.heads.items) × (length l.index.heads.items < 2 ^ 32)) × AreChained (bucket_of (length l.index.heads.items)) l.points.items l.index.heads.items l.index.links.items
-    × (l.anys.items ≡ map (is_any l.sub l.above l.bound) (take (length l.rows.items) l.points.items))
-    × (l.keeps.items ≡ map (is_keeping l.sub l.above l.bound) (take (length l.rows.items) l.points.items))
-    × (l.cut ≡ list_any (is_cut l.sub l.above l.bound) (take (length l.rows.items) l.points.items))
-    × (l.choosing ≡ list_any (is_choosing l.sub l.above l.bound) (take (length l.rows.items) l.points.items))
-    × ((n : ℕ) → length (slice_index_or l.rows.items n []) ≤ 2 ^ 16)
+invariant-loop-alloc l = Growing (nexts_within l.sub l.above l.bound) (start_spot l.sub l.above) l.table.spots l.table.rows × (length l.table.spots ≤ l.limit)
+    × (l.anys.items ≡ map (is_any l.sub l.above l.bound) (take (length l.table.rows) l.table.spots))
+    × (l.keeps.items ≡ map (is_keeping l.sub l.above l.bound) (take (length l.table.rows) l.table.spots))
+    × (l.cut ≡ list_any (is_cut l.sub l.above l.bound) (take (length l.table.rows) l.table.spots))
+    × (l.choosing ≡ list_any (is_choosing l.sub l.above l.bound) (take (length l.table.rows) l.table.spots))
+    × ((n : ℕ) → length (slice_index_or l.table.rows n []) ≤ 2 ^ 16)
 
 abbrev pub decreases-loop-alloc : goal.decreases-loop-alloc
-decreases-loop-alloc l = l.limit - length l.rows.items
+decreases-loop-alloc l = l.limit - length l.table.rows

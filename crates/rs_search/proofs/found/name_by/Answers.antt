@@ -13,52 +13,52 @@ use Rattle.rs_search.proofs.found.name_by.Goals as goal
 
 pub returns-in-Stops-clause-named : goal.returns-in-Stops-clause-named
 returns-in-Stops-clause-named c = λ p h.
-    subst (λ (r : Rule). AreNamed c.args.found.now.items (concat (nexts_by p c.args.arms.now c.args.theirs.now r)) c.args.found.now.items c.new-none.result) (sym c.in-Stops.is)
-    (rw c.new-none.ensures (named_none c.args.found.now.items))
+    subst (λ (r : Rule). AreNamed c.args.table.now.spots (concat (nexts_by p c.args.arms.now c.args.theirs.now r)) c.args.table.now.spots c.new-none.result) (sym c.in-Stops.is)
+    (rw c.new-none.ensures (named_none c.args.table.now.spots))
 
 pub name_paid-requires-clause-owed : goal.name_paid-requires-clause-owed
 name_paid-requires-clause-owed c = λ p e. subst (λ (r : Rule). RuleFits p.pending c.args.arms.now c.args.theirs.now r) c.in-Pays.is (c.requires.fits p e)
 
 pub returns-in-Pays-clause-named : goal.returns-in-Pays-clause-named
 returns-in-Pays-clause-named c =
-    subst (λ (r : Rule). IfOk c.name_paid.result (λ row. AreNamedAt (λ p. concat (nexts_by p c.args.arms.now c.args.theirs.now r)) c.args.found.now.items c.args.k c.name_paid.new.found.items row)) (sym c.in-Pays.is) c.name_paid.ensures.named
+    subst (λ (r : Rule). IfOk c.name_paid.result (λ row. AreNamedAt (λ p. concat (nexts_by p c.args.arms.now c.args.theirs.now r)) c.args.table.now.spots c.args.k c.name_paid.new.table.spots row)) (sym c.in-Pays.is) c.name_paid.ensures.named
 
 pub returns-in-Pays-clause-grown : goal.returns-in-Pays-clause-grown
 returns-in-Pays-clause-grown c =
-    subst (λ (r : Rule). OnErr c.name_paid.result (GrowsBy (λ p. concat (nexts_by p c.args.arms.now c.args.theirs.now r)) c.args.found.now.items c.args.k c.name_paid.new.found.items)) (sym c.in-Pays.is) c.name_paid.ensures.grown
+    subst (λ (r : Rule). OnErr c.name_paid.result (GrowsBy (λ p. concat (nexts_by p c.args.arms.now c.args.theirs.now r)) c.args.table.now.spots c.args.k c.name_paid.new.table.spots)) (sym c.in-Pays.is) c.name_paid.ensures.grown
 
 pub returns-in-SendsBoth-clause-named : goal.returns-in-SendsBoth-clause-named
 returns-in-SendsBoth-clause-named c =
-    subst (λ (r : Rule). IfOk c.name_both.result (λ row. AreNamedAt (λ p. concat (nexts_by p c.args.arms.now c.args.theirs.now r)) c.args.found.now.items c.args.k c.name_both.new.found.items row)) (sym c.in-SendsBoth.is) c.name_both.ensures.named
+    subst (λ (r : Rule). IfOk c.name_both.result (λ row. AreNamedAt (λ p. concat (nexts_by p c.args.arms.now c.args.theirs.now r)) c.args.table.now.spots c.args.k c.name_both.new.table.spots row)) (sym c.in-SendsBoth.is) c.name_both.ensures.named
 
 pub returns-in-SendsBoth-clause-grown : goal.returns-in-SendsBoth-clause-grown
 returns-in-SendsBoth-clause-grown c =
-    subst (λ (r : Rule). OnErr c.name_both.result (GrowsBy (λ p. concat (nexts_by p c.args.arms.now c.args.theirs.now r)) c.args.found.now.items c.args.k c.name_both.new.found.items)) (sym c.in-SendsBoth.is) c.name_both.ensures.grown
+    subst (λ (r : Rule). OnErr c.name_both.result (GrowsBy (λ p. concat (nexts_by p c.args.arms.now c.args.theirs.now r)) c.args.table.now.spots c.args.k c.name_both.new.table.spots)) (sym c.in-SendsBoth.is) c.name_both.ensures.grown
 
 pub returns-in-Guesses-clause-named : goal.returns-in-Guesses-clause-named
 returns-in-Guesses-clause-named c =
-    subst (λ (r : Rule). IfOk c.name_owing.result (λ row. AreNamedAt (λ p. concat (nexts_by p c.args.arms.now c.args.theirs.now r)) c.args.found.now.items c.args.k c.name_owing.new.found.items row)) (sym c.in-Guesses.is)
-    (IfOk-weaker c.name_owing.result (λ row. AreNamedAt (λ p. map (λ b. owing_send p c.in-Guesses.peer b) c.args.theirs.now) c.args.found.now.items c.args.k c.name_owing.new.found.items row)
-    (λ row. AreNamedAt (λ p. concat (nexts_by p c.args.arms.now c.args.theirs.now (Guesses c.in-Guesses.peer))) c.args.found.now.items c.args.k c.name_owing.new.found.items row)
-    (λ row n p h. subst (λ (z : List Spot). AreNamed c.args.found.now.items z c.name_owing.new.found.items row) (sym (guessed_is p c.in-Guesses.peer c.args.theirs.now)) (n p h)) c.name_owing.ensures.named)
+    subst (λ (r : Rule). IfOk c.name_owing.result (λ row. AreNamedAt (λ p. concat (nexts_by p c.args.arms.now c.args.theirs.now r)) c.args.table.now.spots c.args.k c.name_owing.new.table.spots row)) (sym c.in-Guesses.is)
+    (IfOk-weaker c.name_owing.result (λ row. AreNamedAt (λ p. map (λ b. owing_send p c.in-Guesses.peer b) c.args.theirs.now) c.args.table.now.spots c.args.k c.name_owing.new.table.spots row)
+    (λ row. AreNamedAt (λ p. concat (nexts_by p c.args.arms.now c.args.theirs.now (Guesses c.in-Guesses.peer))) c.args.table.now.spots c.args.k c.name_owing.new.table.spots row)
+    (λ row n p h. subst (λ (z : List Spot). AreNamed c.args.table.now.spots z c.name_owing.new.table.spots row) (sym (guessed_is p c.in-Guesses.peer c.args.theirs.now)) (n p h)) c.name_owing.ensures.named)
 
 pub returns-in-Guesses-clause-grown : goal.returns-in-Guesses-clause-grown
 returns-in-Guesses-clause-grown c =
-    let f : GrowsBy (λ p. map (λ b. owing_send p c.in-Guesses.peer b) c.args.theirs.now) c.args.found.now.items c.args.k c.name_owing.new.found.items → GrowsBy (λ p. concat (nexts_by p c.args.arms.now c.args.theirs.now (Guesses c.in-Guesses.peer))) c.args.found.now.items c.args.k c.name_owing.new.found.items =
-    λ g p h. subst (λ (z : List Spot). Grown c.args.found.now.items z c.name_owing.new.found.items) (sym (guessed_is p c.in-Guesses.peer c.args.theirs.now)) (g p h) in
-    subst (λ (r : Rule). OnErr c.name_owing.result (GrowsBy (λ p. concat (nexts_by p c.args.arms.now c.args.theirs.now r)) c.args.found.now.items c.args.k c.name_owing.new.found.items)) (sym c.in-Guesses.is)
+    let f : GrowsBy (λ p. map (λ b. owing_send p c.in-Guesses.peer b) c.args.theirs.now) c.args.table.now.spots c.args.k c.name_owing.new.table.spots → GrowsBy (λ p. concat (nexts_by p c.args.arms.now c.args.theirs.now (Guesses c.in-Guesses.peer))) c.args.table.now.spots c.args.k c.name_owing.new.table.spots =
+    λ g p h. subst (λ (z : List Spot). Grown c.args.table.now.spots z c.name_owing.new.table.spots) (sym (guessed_is p c.in-Guesses.peer c.args.theirs.now)) (g p h) in
+    subst (λ (r : Rule). OnErr c.name_owing.result (GrowsBy (λ p. concat (nexts_by p c.args.arms.now c.args.theirs.now r)) c.args.table.now.spots c.args.k c.name_owing.new.table.spots)) (sym c.in-Guesses.is)
     (on_err_weaker c.name_owing.result f c.name_owing.ensures.grown)
 
 pub returns-in-Follows-clause-named : goal.returns-in-Follows-clause-named
 returns-in-Follows-clause-named c =
-    subst (λ (r : Rule). IfOk c.name_owing-in-Follows.result (λ row. AreNamedAt (λ p. concat (nexts_by p c.args.arms.now c.args.theirs.now r)) c.args.found.now.items c.args.k c.name_owing-in-Follows.new.found.items row)) (sym c.in-Follows.is)
-    (IfOk-weaker c.name_owing-in-Follows.result (λ row. AreNamedAt (λ p. map (λ b. owing_receive p c.in-Follows.peer b) c.args.theirs.now) c.args.found.now.items c.args.k c.name_owing-in-Follows.new.found.items row)
-    (λ row. AreNamedAt (λ p. concat (nexts_by p c.args.arms.now c.args.theirs.now (Follows c.in-Follows.peer))) c.args.found.now.items c.args.k c.name_owing-in-Follows.new.found.items row)
-    (λ row n p h. subst (λ (z : List Spot). AreNamed c.args.found.now.items z c.name_owing-in-Follows.new.found.items row) (sym (followed_is p c.in-Follows.peer c.args.theirs.now)) (n p h)) c.name_owing-in-Follows.ensures.named)
+    subst (λ (r : Rule). IfOk c.name_owing-in-Follows.result (λ row. AreNamedAt (λ p. concat (nexts_by p c.args.arms.now c.args.theirs.now r)) c.args.table.now.spots c.args.k c.name_owing-in-Follows.new.table.spots row)) (sym c.in-Follows.is)
+    (IfOk-weaker c.name_owing-in-Follows.result (λ row. AreNamedAt (λ p. map (λ b. owing_receive p c.in-Follows.peer b) c.args.theirs.now) c.args.table.now.spots c.args.k c.name_owing-in-Follows.new.table.spots row)
+    (λ row. AreNamedAt (λ p. concat (nexts_by p c.args.arms.now c.args.theirs.now (Follows c.in-Follows.peer))) c.args.table.now.spots c.args.k c.name_owing-in-Follows.new.table.spots row)
+    (λ row n p h. subst (λ (z : List Spot). AreNamed c.args.table.now.spots z c.name_owing-in-Follows.new.table.spots row) (sym (followed_is p c.in-Follows.peer c.args.theirs.now)) (n p h)) c.name_owing-in-Follows.ensures.named)
 
 pub returns-in-Follows-clause-grown : goal.returns-in-Follows-clause-grown
 returns-in-Follows-clause-grown c =
-    let f : GrowsBy (λ p. map (λ b. owing_receive p c.in-Follows.peer b) c.args.theirs.now) c.args.found.now.items c.args.k c.name_owing-in-Follows.new.found.items → GrowsBy (λ p. concat (nexts_by p c.args.arms.now c.args.theirs.now (Follows c.in-Follows.peer))) c.args.found.now.items c.args.k c.name_owing-in-Follows.new.found.items =
-    λ g p h. subst (λ (z : List Spot). Grown c.args.found.now.items z c.name_owing-in-Follows.new.found.items) (sym (followed_is p c.in-Follows.peer c.args.theirs.now)) (g p h) in
-    subst (λ (r : Rule). OnErr c.name_owing-in-Follows.result (GrowsBy (λ p. concat (nexts_by p c.args.arms.now c.args.theirs.now r)) c.args.found.now.items c.args.k c.name_owing-in-Follows.new.found.items)) (sym c.in-Follows.is)
+    let f : GrowsBy (λ p. map (λ b. owing_receive p c.in-Follows.peer b) c.args.theirs.now) c.args.table.now.spots c.args.k c.name_owing-in-Follows.new.table.spots → GrowsBy (λ p. concat (nexts_by p c.args.arms.now c.args.theirs.now (Follows c.in-Follows.peer))) c.args.table.now.spots c.args.k c.name_owing-in-Follows.new.table.spots =
+    λ g p h. subst (λ (z : List Spot). Grown c.args.table.now.spots z c.name_owing-in-Follows.new.table.spots) (sym (followed_is p c.in-Follows.peer c.args.theirs.now)) (g p h) in
+    subst (λ (r : Rule). OnErr c.name_owing-in-Follows.result (GrowsBy (λ p. concat (nexts_by p c.args.arms.now c.args.theirs.now r)) c.args.table.now.spots c.args.k c.name_owing-in-Follows.new.table.spots)) (sym c.in-Follows.is)
     (on_err_weaker c.name_owing-in-Follows.result f c.name_owing-in-Follows.ensures.grown)

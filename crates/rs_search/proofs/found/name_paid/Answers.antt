@@ -1,31 +1,31 @@
-use Rattle.std.proofs.Common.{arith, ◌≡◌, ◌∙◌, [], ◌∷◌, ℕ, List, length, ap, subst, sym}
+use Rattle.std.proofs.Common.{◌≡◌, ◌∙◌, [], ◌∷◌, length, ap, subst, sym}
 use Rattle.std.proofs.lemmas.Option.{same_Some}
+use Rattle.std.proofs.lemmas.Result.{IfOk-weaker, on_err_weaker}
+use Rattle.rs_derive.specs.Checks.{target_spot}
+use Rattle.rs_derive.specs.Derivations.{spot_of}
 use Rattle.rs_derive.specs.Moves.{Spot, spot}
+use Rattle.rs_derive.specs.Within.{IsPlaceWithin}
+use Rattle.rs_derive.specs.declared.targets.Change.{Change}
 use Rattle.rs_prefix.specs.Earliest.{without}
 use Rattle.rs_graph.specs.Discovery.{Grown}
-use Rattle.rs_graph.proofs.Growth.{at_short, reads_at}
-use Rattle.rs_search.specs.Itself.{AreNamed, GrowsBy}
-use Rattle.rs_search.proofs.Alike.{named_none, named_push}
-use Rattle.rs_search.proofs.Naming.{grown_one, on_err}
+use Rattle.rs_search.specs.Itself.{AreNamed, AreNamedAt, GrowsBy}
 use Rattle.rs_search.proofs.found.name_paid.Goals as goal
 
-pub returns-in_err-n-clause-grown : goal.returns-in_err-n-clause-grown
-returns-in_err-n-clause-grown c =
-    let w : GrowsBy (λ z. spot c.args.arm.next (without z.pending c.args.place) z.above ∷ []) c.args.found.now.items c.args.k c.number_of.new.found.items = λ p h.
-    let q : c.index.result.now ≡ p = same_Some c.index.result.now p (sym (reads_at c.args.found.now.items c.args.k c.index.result.now c.index.result.now (at_short c.args.found.now.items c.args.k p h) (sym (grind arith))) ∙ h) in
-    subst (λ (z : Spot). Grown c.args.found.now.items (spot c.args.arm.next (without z.pending c.args.place) z.above ∷ []) c.number_of.new.found.items) q
-    (subst (λ (z : Spot). Grown c.args.found.now.items (z ∷ []) c.number_of.new.found.items) c.in_ok-spot.ensures
-    (grown_one c.args.found.now.items c.number_of.new.found.items c.in_ok-spot.spot c.number_of.ensures.adds)) in
-    on_err _ w
+pub name_one-requires-clause-place : goal.name_one-requires-clause-place
+name_one-requires-clause-place c = λ p h. subst (λ (z : Change). IsPlaceWithin (length p.pending) z) (sym c.target_behind_payment-target.ensures.change) (c.requires.owed p h)
 
 pub returns-clause-named : goal.returns-clause-named
-returns-clause-named c = λ p h.
-    let e = c.in_ok-n.ensures in
-    let q : c.index.result.now ≡ p = same_Some c.index.result.now p (sym (reads_at c.args.found.now.items c.args.k c.index.result.now c.index.result.now (at_short c.args.found.now.items c.args.k p h) (sym (grind arith))) ∙ h) in
-    subst (λ (z : Spot). AreNamed c.args.found.now.items (spot c.args.arm.next (without z.pending c.args.place) z.above ∷ []) c.number_of.new.found.items c.of_one.result) q
-    (subst (λ (z : Spot). AreNamed c.args.found.now.items (z ∷ []) c.number_of.new.found.items c.of_one.result) c.in_ok-spot.ensures
-    (named_push c.args.found.now.items [] c.args.found.now.items c.number_of.new.found.items c.in_ok-spot.spot c.in_ok-n.n [] c.of_one.result (named_none c.args.found.now.items) e.adds e.at e.old e.fresh c.number_of.ensures.longer c.of_one.ensures))
+returns-clause-named c =
+    IfOk-weaker c.name_one.result (λ row. AreNamedAt (λ p. target_spot p.pending c.target_behind_payment-target.result ∷ []) c.args.table.now.spots c.args.k c.name_one.new.table.spots row)
+    (λ row. AreNamedAt (λ p. spot c.args.arm.next (without p.pending c.args.place) p.above ∷ []) c.args.table.now.spots c.args.k c.name_one.new.table.spots row)
+    (λ row n p h.
+    let q : spot_of c.node.result.now ≡ p = same_Some (spot_of c.node.result.now) p (sym c.node.ensures ∙ h) in
+    subst (λ (z : Spot). AreNamed c.args.table.now.spots (z ∷ []) c.name_one.new.table.spots row) (c.target_behind_payment-target.ensures.spot p.pending ∙ ap (λ (z : Spot). spot c.args.arm.next (without p.pending c.args.place) z.above) q) (n p h)) c.name_one.ensures.named
 
-pub returns-clause-short : goal.returns-clause-short
-returns-clause-short c =
-    let e = c.of_one.ensures in let l : length c.of_one.result ≡ 1 = ap (λ (z : List ℕ). length z) e in omega arith
+pub returns-clause-grown : goal.returns-clause-grown
+returns-clause-grown c =
+    let f : GrowsBy (λ p. target_spot p.pending c.target_behind_payment-target.result ∷ []) c.args.table.now.spots c.args.k c.name_one.new.table.spots → GrowsBy (λ p. spot c.args.arm.next (without p.pending c.args.place) p.above ∷ []) c.args.table.now.spots c.args.k c.name_one.new.table.spots =
+    λ g p h.
+    let q : spot_of c.node.result.now ≡ p = same_Some (spot_of c.node.result.now) p (sym c.node.ensures ∙ h) in
+    subst (λ (z : Spot). Grown c.args.table.now.spots (z ∷ []) c.name_one.new.table.spots) (c.target_behind_payment-target.ensures.spot p.pending ∙ ap (λ (z : Spot). spot c.args.arm.next (without p.pending c.args.place) z.above) q) (g p h) in
+    on_err_weaker c.name_one.result f c.name_one.ensures.grown

@@ -2,7 +2,6 @@ use Rattle.std.proofs.Common.{arith, ◌≡◌, ◌<◌, [], List, ℕ, Bool, le
 use Rattle.rs_model.specs.declared.limits.TheConstants.{MOST_CANDIDATES}
 use Rattle.rs_model.specs.declared.graph.Role.{Role}
 use Rattle.rs_model.specs.Data.{Machine_data}
-use Rattle.rs_derive.specs.Moves.{Spot}
 use Rattle.rs_graph.specs.Ranks.{Edge}
 use Rattle.rs_graph.specs.Removal.{IsRemoval}
 use Rattle.rs_graph.specs.Unranked.{Unranks}
@@ -19,15 +18,15 @@ use Rattle.rs_search.proofs.searches.search_among.Goals as goal
 pub kept_rows-requires-clause-within : goal.kept_rows-requires-clause-within
 kept_rows-requires-clause-within g c = λ n m.
     let s = c.in-Ok.survey in let e = c.in-Ok.ensures in
-    let pic = pictures c.args.sub.now c.args.above.now c.args.bound s.found.points.items s.found.rows.items s.found.anys.items s.graph e.found e.anys e.built in
-    let w = all_within c.args.sub.now c.args.above.now c.args.bound s.found.points.items s.graph c.as_slice-current.result.now c.in-Ok-number_all.numbers.items.items c.as_slice-items.result.now pic c.in-Ok-number_all.ensures.stay c.as_slice-items.ensures.value n m in
-    let l : length c.as_slice.result.now ≡ length s.found.points.items = ap (λ (z : List Bool). length z) (c.as_slice.ensures.value ∙ e.keeps) ∙ length-map (is_keeping c.args.sub.now c.args.above.now c.args.bound) s.found.points.items in
+    let pic = pictures c.args.sub.now c.args.above.now c.args.bound s.found.table.spots s.found.table.rows s.found.anys.items s.graph e.found e.anys e.built in
+    let w = all_within c.args.sub.now c.args.above.now c.args.bound s.found.table.spots s.graph c.as_slice-current.result.now c.in-Ok-number_all.numbers.items.items c.as_slice-items.result.now pic c.in-Ok-number_all.ensures.stay c.as_slice-items.ensures.value n m in
+    let l : length c.as_slice.result.now ≡ length s.found.table.spots = ap (λ (z : List Bool). length z) (c.as_slice.ensures.value ∙ e.keeps) ∙ length-map (is_keeping c.args.sub.now c.args.above.now c.args.bound) s.found.table.spots in
     omega arith
 
 pub rank_rows-requires-clause-few : goal.rank_rows-requires-clause-few
 rank_rows-requires-clause-few g c = λ n.
     let s = c.in-Ok.survey in let e = c.in-Ok.ensures in let d = c.in-Ok-number_all in
-    let f = nexts_few s.found.anys.items s.found.rows.items s.graph c.as_slice-current.result.now d.numbers.items.items d.numbers.nexts.items MOST_CANDIDATES e.built e.short d.ensures.found in
+    let f = nexts_few s.found.anys.items s.found.table.rows s.graph c.as_slice-current.result.now d.numbers.items.items d.numbers.nexts.items MOST_CANDIDATES e.built e.short d.ensures.found in
     let a = same_kept c.as_slice.result.now c.as_slice.result.now d.numbers.items.items c.as_slice-items.result.now d.numbers.nexts.items c.as_slice-nexts.result.now c.in-Ok-kept_rows.kept.items refl c.as_slice-items.ensures.value c.as_slice-nexts.ensures.value c.in-Ok-kept_rows.ensures in
     let k = kept_few c.as_slice.result.now d.numbers.items.items d.numbers.nexts.items c.in-Ok-kept_rows.kept.items 65537 a d.ensures.found.all f n in
     let l : length (slice_index_or c.as_slice-2.result.now n []) ≡ length (slice_index_or c.in-Ok-kept_rows.kept.items n []) = ap (λ (z : List (List ℕ)). length (slice_index_or z n [])) c.as_slice-2.ensures.value in
@@ -43,27 +42,27 @@ rank_rows-requires-clause-within g c =
 pub returns-in-Err-OnCycle-clause-err : goal.returns-in-Err-OnCycle-clause-err
 returns-in-Err-OnCycle-clause-err g c =
     let s = c.in-Ok.survey in let e = c.in-Ok.ensures in let d = c.in-Ok-number_all in
-    let a = same_kept (map (is_keeping c.args.sub.now c.args.above.now c.args.bound) s.found.points.items) c.as_slice.result.now d.numbers.items.items c.as_slice-items.result.now d.numbers.nexts.items c.as_slice-nexts.result.now c.in-Ok-kept_rows.kept.items
+    let a = same_kept (map (is_keeping c.args.sub.now c.args.above.now c.args.bound) s.found.table.spots) c.as_slice.result.now d.numbers.items.items c.as_slice-items.result.now d.numbers.nexts.items c.as_slice-nexts.result.now c.in-Ok-kept_rows.kept.items
     (c.as_slice.ensures.value ∙ e.keeps) c.as_slice-items.ensures.value c.as_slice-nexts.ensures.value c.in-Ok-kept_rows.ensures in
     let y : Unranks c.as_slice-2.result.now c.in-Err-OnCycle.field-0 = c.in-Err-OnCycle.ensures.cycle in
     let w = forgets c.args.sub.now c.args.above.now c.args.bound (record {
-      found = s.found.points.items;
-      rows = s.found.rows.items;
+      found = s.found.table.spots;
+      rows = s.found.table.rows;
       graph = s.graph;
       current = c.as_slice-current.result.now;
       order = s.left.order.items;
       items = d.numbers.items.items;
       nexts = d.numbers.nexts.items;
       ranks = [];
-      nodes = unranked s.found.points.items d.numbers.items.items d.numbers.nexts.items;
+      nodes = unranked s.found.table.spots d.numbers.items.items d.numbers.nexts.items;
       proper = c.requires.theirs;
       discovery = e.found;
       few = e.small;
-      pictures = pictures c.args.sub.now c.args.above.now c.args.bound s.found.points.items s.found.rows.items s.found.anys.items s.graph e.found e.anys e.built;
+      pictures = pictures c.args.sub.now c.args.above.now c.args.bound s.found.table.spots s.found.table.rows s.found.anys.items s.graph e.found e.anys e.built;
       left = subst (λ (z : List ℕ). IsRemoval s.graph.outs z s.left.order.items) (sym c.as_slice-current.ensures.value) e.left;
       numbers = d.ensures.found;
       stay = d.ensures.stay;
-      made = unranked_are s.found.points.items d.numbers.items.items d.numbers.nexts.items d.ensures.found.all;
+      made = unranked_are s.found.table.spots d.numbers.items.items d.numbers.nexts.items d.ensures.found.all;
     }) c.in-Ok-kept_rows.kept.items c.in-Err-OnCycle.node a in
     let y' : Unranks c.as_slice-2.result.now (OnCycle c.in-Err-OnCycle.node) = subst (λ (f : RankFault). Unranks c.as_slice-2.result.now f) c.in-Err-OnCycle.field-0-is y in
     let z : IsLeastOnCycle (Edge c.in-Ok-kept_rows.kept.items) c.in-Err-OnCycle.node = subst (λ (rows : List (List ℕ)). IsLeastOnCycle (Edge rows) c.in-Err-OnCycle.node) c.as_slice-2.ensures.value y' in
@@ -72,10 +71,9 @@ returns-in-Err-OnCycle-clause-err g c =
 pub nodes_of-requires-clause-within : goal.nodes_of-requires-clause-within
 nodes_of-requires-clause-within g c = λ n m.
     let s = c.in-Ok.survey in let e = c.in-Ok.ensures in
-    let pic = pictures c.args.sub.now c.args.above.now c.args.bound s.found.points.items s.found.rows.items s.found.anys.items s.graph e.found e.anys e.built in
-    let w = all_within c.args.sub.now c.args.above.now c.args.bound s.found.points.items s.graph c.as_slice-current.result.now c.in-Ok-number_all.numbers.items.items c.as_slice-items.result.now pic c.in-Ok-number_all.ensures.stay c.as_slice-items.ensures.value n m in
-    let l : length c.as_slice-points.result.now ≡ length s.found.points.items = ap (λ (z : List Spot). length z) c.as_slice-points.ensures.value in
-    omega arith
+    let pic = pictures c.args.sub.now c.args.above.now c.args.bound s.found.table.spots s.found.table.rows s.found.anys.items s.graph e.found e.anys e.built in
+    let w = all_within c.args.sub.now c.args.above.now c.args.bound s.found.table.spots s.graph c.as_slice-current.result.now c.in-Ok-number_all.numbers.items.items c.as_slice-items.result.now pic c.in-Ok-number_all.ensures.stay c.as_slice-items.ensures.value n m in
+    w
 
 pub nodes_of-requires-clause-ranks : goal.nodes_of-requires-clause-ranks
 nodes_of-requires-clause-ranks g c =
@@ -84,12 +82,12 @@ nodes_of-requires-clause-ranks g c =
 pub returns-in-Ok-nodes_of-clause-ok : goal.returns-in-Ok-nodes_of-clause-ok
 returns-in-Ok-nodes_of-clause-ok g c =
     let s = c.in-Ok.survey in let e = c.in-Ok.ensures in let d = c.in-Ok-number_all in
-    let a = same_kept (map (is_keeping c.args.sub.now c.args.above.now c.args.bound) s.found.points.items) c.as_slice.result.now d.numbers.items.items c.as_slice-items.result.now d.numbers.nexts.items c.as_slice-nexts.result.now c.in-Ok-kept_rows.kept.items
+    let a = same_kept (map (is_keeping c.args.sub.now c.args.above.now c.args.bound) s.found.table.spots) c.as_slice.result.now d.numbers.items.items c.as_slice-items.result.now d.numbers.nexts.items c.as_slice-nexts.result.now c.in-Ok-kept_rows.kept.items
     (c.as_slice.ensures.value ∙ e.keeps) c.as_slice-items.ensures.value c.as_slice-nexts.ensures.value c.in-Ok-kept_rows.ensures in
     let r = c.in-Ok-rank_rows.ensures.ranks in
     let w = is_found c.args.sub.now c.args.above.now c.args.bound (record {
-      found = s.found.points.items;
-      rows = s.found.rows.items;
+      found = s.found.table.spots;
+      rows = s.found.table.rows;
       graph = s.graph;
       current = c.as_slice-current.result.now;
       order = s.left.order.items;
@@ -100,12 +98,12 @@ returns-in-Ok-nodes_of-clause-ok g c =
       proper = c.requires.theirs;
       discovery = e.found;
       few = e.small;
-      pictures = pictures c.args.sub.now c.args.above.now c.args.bound s.found.points.items s.found.rows.items s.found.anys.items s.graph e.found e.anys e.built;
+      pictures = pictures c.args.sub.now c.args.above.now c.args.bound s.found.table.spots s.found.table.rows s.found.anys.items s.graph e.found e.anys e.built;
       left = subst (λ (z : List ℕ). IsRemoval s.graph.outs z s.left.order.items) (sym c.as_slice-current.ensures.value) e.left;
       numbers = d.ensures.found;
       stay = d.ensures.stay;
-      made = same_nodes s.found.points.items c.as_slice-points.result.now d.numbers.items.items c.as_slice-items.result.now d.numbers.nexts.items c.as_slice-nexts.result.now c.in-Ok-rank_rows.ranks.items c.as_slice-3.result.now c.in-Ok-nodes_of.nodes.items
-          c.as_slice-points.ensures.value c.as_slice-items.ensures.value c.as_slice-nexts.ensures.value c.as_slice-3.ensures.value c.in-Ok-nodes_of.ensures;
+      made = same_nodes s.found.table.spots s.found.table.spots d.numbers.items.items c.as_slice-items.result.now d.numbers.nexts.items c.as_slice-nexts.result.now c.in-Ok-rank_rows.ranks.items c.as_slice-3.result.now c.in-Ok-nodes_of.nodes.items
+          refl c.as_slice-items.ensures.value c.as_slice-nexts.ensures.value c.as_slice-3.ensures.value c.in-Ok-nodes_of.ensures;
     }) c.in-Ok-kept_rows.kept.items a in
     let r' = subst (λ (rows : List (List ℕ)). (i : ℕ) → IsRank (Edge rows) i (slice_index_or c.in-Ok-rank_rows.ranks.items i 0)) c.as_slice-2.ensures.value r in
     subst (λ (q : Role). IsCanonical c.args.sub.now c.args.above.now c.args.bound (record { role = q; bound = c.args.bound; nodes = c.in-Ok-nodes_of.nodes.items })) (sym (ap (λ (m : Machine_data). m.role) c.sub.view_is)) (w r')
@@ -113,7 +111,7 @@ returns-in-Ok-nodes_of-clause-ok g c =
 pub returns-in-Err-OnCycle-clause-cost : goal.returns-in-Err-OnCycle-clause-cost
 returns-in-Err-OnCycle-clause-cost g c =
     let s = c.in-Ok.survey in let e = c.in-Ok.ensures in let d = c.in-Ok-number_all in
-    whole_cost c.args.sub.now c.args.above.now c.args.bound s.found.points.items s.found.rows.items s.found.anys.items s.graph c.as_slice-current.result.now s.left.order.items d.numbers.items.items d.numbers.nexts.items
+    whole_cost c.args.sub.now c.args.above.now c.args.bound s.found.table.spots s.found.table.rows s.found.anys.items s.graph c.as_slice-current.result.now s.left.order.items d.numbers.items.items d.numbers.nexts.items
     c.args.steps.now c.explore.new.steps c.number_all.new.steps e.found e.built
     (subst (λ (z : List ℕ). IsRemoval s.graph.outs z s.left.order.items) (sym c.as_slice-current.ensures.value) e.left)
     d.ensures.found d.ensures.stay e.steps d.ensures.steps
@@ -121,11 +119,11 @@ returns-in-Err-OnCycle-clause-cost g c =
 pub returns-in-Ok-nodes_of-clause-steps : goal.returns-in-Ok-nodes_of-clause-steps
 returns-in-Ok-nodes_of-clause-steps g c =
     let s = c.in-Ok.survey in let e = c.in-Ok.ensures in let d = c.in-Ok-number_all in
-    whole_cost c.args.sub.now c.args.above.now c.args.bound s.found.points.items s.found.rows.items s.found.anys.items s.graph c.as_slice-current.result.now s.left.order.items d.numbers.items.items d.numbers.nexts.items
+    whole_cost c.args.sub.now c.args.above.now c.args.bound s.found.table.spots s.found.table.rows s.found.anys.items s.graph c.as_slice-current.result.now s.left.order.items d.numbers.items.items d.numbers.nexts.items
     c.args.steps.now c.explore.new.steps c.number_all.new.steps e.found e.built
     (subst (λ (z : List ℕ). IsRemoval s.graph.outs z s.left.order.items) (sym c.as_slice-current.ensures.value) e.left)
     d.ensures.found d.ensures.stay e.steps d.ensures.steps
 
 pub number_all-requires-clause-short : goal.number_all-requires-clause-short
 number_all-requires-clause-short g c = λ n. (let s = c.in-Ok.survey in let e = c.in-Ok.ensures in
-    let k = next_few s.found.anys.items s.found.rows.items s.graph c.as_slice-current.result.now MOST_CANDIDATES e.built e.short n in omega arith)
+    let k = next_few s.found.anys.items s.found.table.rows s.graph c.as_slice-current.result.now MOST_CANDIDATES e.built e.short n in omega arith)

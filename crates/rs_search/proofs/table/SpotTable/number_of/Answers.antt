@@ -1,0 +1,164 @@
+use Rattle.std.proofs.Common.{arith, ◌≡◌, ◌≢◌, ◌<◌, ◌∙◌, ℕ, List, length, slice_get, Some, ap, sym, subst}
+use Rattle.std.proofs.lemmas.List.{get_or_default, length-map}
+use Rattle.std.proofs.lemmas.Option.{same_Some}
+use Rattle.rs_model.specs.declared.machines.Act.{Act}
+use Rattle.rs_derive.specs.Checks.{target_spot}
+use Rattle.rs_derive.specs.Data.{DNode_data}
+use Rattle.rs_derive.specs.Derivations.{spot_of}
+use Rattle.rs_derive.specs.Moves.{Spot}
+use Rattle.rs_derive.specs.Within.{IsPlaceWithin}
+use Rattle.rs_graph.proofs.Growth.{at_short}
+use Rattle.rs_search.specs.Buckets.{acts_code, bucket_by, bucket_of}
+use Rattle.rs_search.specs.Index.{Chained}
+use Rattle.rs_search.specs.Table.{SpotTable_data, links_of, spots_of}
+use Rattle.rs_search.specs.declared.table.Entry.{Entry}
+use Rattle.rs_search.proofs.Filing.{added_at, code_at, entry_there, is_added, node_there, spot_there}
+use Rattle.rs_search.proofs.table.SpotTable.number_of.Goals as goal
+
+pub code_behind-code-requires-clause-within : goal.code_behind-code-requires-clause-within
+code_behind-code-requires-clause-within c =
+    let nodes = c.self.inside.nodes.items in
+    let heads = c.self.inside.index.heads.items in
+    let entries = c.self.inside.index.entries.items in
+    let spots = c.args.self.now.spots in
+    let k = c.args.k in
+    let x = c.index-from.result.now in
+    let es : spots_of nodes ≡ spots = ap (λ (t : SpotTable_data). t.spots) c.self.view_is in
+    let at : slice_get spots k ≡ Some (spot_of x) = spot_there nodes spots k x es c.requires.there c.index-from.ensures in
+    let pe : x.pending ≡ c.as_slice-pending.result.now = ap (λ (n : DNode_data). n.pending) (sym c.from.view_is) ∙ sym c.as_slice-pending.ensures in
+    subst (λ (z : List Act). IsPlaceWithin (length z) c.args.target.change) pe (c.requires.place (spot_of x) at)
+
+pub code_behind-code-requires-clause-code : goal.code_behind-code-requires-clause-code
+code_behind-code-requires-clause-code c =
+    let nodes = c.self.inside.nodes.items in
+    let heads = c.self.inside.index.heads.items in
+    let entries = c.self.inside.index.entries.items in
+    let spots = c.args.self.now.spots in
+    let k = c.args.k in
+    let x = c.index-from.result.now in
+    let es : spots_of nodes ≡ spots = ap (λ (t : SpotTable_data). t.spots) c.self.view_is in
+    let at : slice_get spots k ≡ Some (spot_of x) = spot_there nodes spots k x es c.requires.there c.index-from.ensures in
+    let pe : x.pending ≡ c.as_slice-pending.result.now = ap (λ (n : DNode_data). n.pending) (sym c.from.view_is) ∙ sym c.as_slice-pending.ensures in
+    let n = node_there nodes spots k x es c.requires.there c.index-from.ensures in
+    code_at nodes entries k x c.index.result.now c.self.invariant.coded n (entry_there nodes heads entries c.self.inside.known k c.index.result.now c.self.invariant (at_short nodes k x n) c.index.ensures) ∙ ap (acts_code 0) pe
+
+pub seek-requires-clause-within : goal.seek-requires-clause-within
+seek-requires-clause-within c =
+    let nodes = c.self.inside.nodes.items in
+    let heads = c.self.inside.index.heads.items in
+    let b = c.bucket_by-bucket.result in
+    let lt : b < length heads = (let l = c.len.ensures in let w = c.bucket_by-bucket.ensures.within in omega arith) in
+    let h = c.index-head.ensures ∙ get_or_default heads b c.index-head.result.now 0 lt in
+    let w = c.self.invariant.chained.within b in
+    let l = length-map nodes spot_of in
+    let d = ap (λ (z : List DNode_data). length z) c.deref.ensures.value in
+    omega arith
+
+pub seek-requires-clause-place : goal.seek-requires-clause-place
+seek-requires-clause-place c =
+    let nodes = c.self.inside.nodes.items in
+    let heads = c.self.inside.index.heads.items in
+    let entries = c.self.inside.index.entries.items in
+    let spots = c.args.self.now.spots in
+    let k = c.args.k in
+    let x = c.index-from.result.now in
+    let es : spots_of nodes ≡ spots = ap (λ (t : SpotTable_data). t.spots) c.self.view_is in
+    let at : slice_get spots k ≡ Some (spot_of x) = spot_there nodes spots k x es c.requires.there c.index-from.ensures in
+    let pe : x.pending ≡ c.as_slice-pending.result.now = ap (λ (n : DNode_data). n.pending) (sym c.from.view_is) ∙ sym c.as_slice-pending.ensures in
+    subst (λ (z : List Act). IsPlaceWithin (length z) c.args.target.change) pe (c.requires.place (spot_of x) at)
+
+pub returns-in-Some-clause-at : goal.returns-in-Some-clause-at
+returns-in-Some-clause-at c =
+    let nodes = c.self.inside.nodes.items in
+    let heads = c.self.inside.index.heads.items in
+    let entries = c.self.inside.index.entries.items in
+    let spots = c.args.self.now.spots in
+    let k = c.args.k in
+    let x = c.index-from.result.now in
+    let es : spots_of nodes ≡ spots = ap (λ (t : SpotTable_data). t.spots) c.self.view_is in
+    let at : slice_get spots k ≡ Some (spot_of x) = spot_there nodes spots k x es c.requires.there c.index-from.ensures in
+    let pe : x.pending ≡ c.as_slice-pending.result.now = ap (λ (n : DNode_data). n.pending) (sym c.from.view_is) ∙ sym c.as_slice-pending.ensures in
+    λ p h.
+    ap (λ (z : List Spot). slice_get z c.in-Some.n) (sym (ap spots_of c.deref.ensures.value ∙ es)) ∙ c.in-Some.ensures ∙ ap (λ (z : List Act). Some (target_spot z c.args.target)) (sym pe ∙ ap (λ (s : Spot). s.pending) (same_Some (spot_of x) p (sym at ∙ h)))
+
+pub returns-in-Some-clause-old : goal.returns-in-Some-clause-old
+returns-in-Some-clause-old c = λ same.
+    let es : spots_of c.self.inside.nodes.items ≡ c.args.self.now.spots = ap (λ (t : SpotTable_data). t.spots) c.self.view_is in
+    let s = at_short (spots_of c.deref.result.now) c.in-Some.n (target_spot c.as_slice-pending.result.now c.args.target) c.in-Some.ensures in
+    let l = ap (λ (z : List Spot). length z) (ap spots_of c.deref.ensures.value ∙ es) in
+    omega arith
+
+pub node_at-requires : goal.node_at-requires
+node_at-requires c =
+    let nodes = c.self.inside.nodes.items in
+    let heads = c.self.inside.index.heads.items in
+    let entries = c.self.inside.index.entries.items in
+    let spots = c.args.self.now.spots in
+    let k = c.args.k in
+    let x = c.index-from.result.now in
+    let es : spots_of nodes ≡ spots = ap (λ (t : SpotTable_data). t.spots) c.self.view_is in
+    let at : slice_get spots k ≡ Some (spot_of x) = spot_there nodes spots k x es c.requires.there c.index-from.ensures in
+    subst (λ (z : List Act). IsPlaceWithin (length z) c.args.target.change) (ap (λ (n : DNode_data). n.pending) (sym c.from.view_is)) (c.requires.place (spot_of x) at)
+
+pub returns-then-n-limit-clause-adds : goal.returns-then-n-limit-clause-adds
+returns-then-n-limit-clause-adds c =
+    let nodes = c.self.inside.nodes.items in
+    let heads = c.self.inside.index.heads.items in
+    let entries = c.self.inside.index.entries.items in
+    let spots = c.args.self.now.spots in
+    let k = c.args.k in
+    let x = c.index-from.result.now in
+    let es : spots_of nodes ≡ spots = ap (λ (t : SpotTable_data). t.spots) c.self.view_is in
+    let at : slice_get spots k ≡ Some (spot_of x) = spot_there nodes spots k x es c.requires.there c.index-from.ensures in
+    let pe : x.pending ≡ c.as_slice-pending.result.now = ap (λ (n : DNode_data). n.pending) (sym c.from.view_is) ∙ sym c.as_slice-pending.ensures in
+    let q = target_spot c.as_slice-pending.result.now c.args.target in
+    let el : c.len.result ≡ length heads = grind (arith, c.len.ensures) in
+    let lt : c.bucket_by-bucket.result < length heads = (let b = c.bucket_by-bucket.ensures.within in omega arith) in
+    let eb : c.bucket_by-bucket.result ≡ bucket_of (length heads) q =
+    c.bucket_by-bucket.ensures.is ∙ ap (λ (z : ℕ). bucket_by z c.code_behind-code.result c.args.target.state c.args.target.above) el ∙ ap (λ (z : ℕ). bucket_by (length heads) z c.args.target.state c.args.target.above) c.code_behind-code.ensures in
+    let eh = c.index-head.ensures ∙ get_or_default heads c.bucket_by-bucket.result c.index-head.result.now 0 lt in
+    let none : (n : ℕ) → Chained (links_of entries) c.index-head.result.now n → slice_get (spots_of nodes) n ≢ Some q = λ n ch e.
+    c.in_default.ensures n (subst (λ (z : List Entry). Chained (links_of z) c.index-head.result.now n) (sym c.deref-2.ensures.value) ch) (ap (λ (z : List DNode_data). slice_get (spots_of z) n) c.deref.ensures.value ∙ e) in
+    let ep : spot_of c.in_ok-node.node ≡ q = c.in_ok-node.ensures.spot ∙ ap (λ (z : List Act). target_spot z c.args.target) (sym c.as_slice-pending.ensures) in
+    λ p h.
+    let er : q ≡ target_spot p.pending c.args.target = ap (λ (z : List Act). target_spot z c.args.target) (sym pe ∙ ap (λ (s : Spot). s.pending) (same_Some (spot_of x) p (sym at ∙ h))) in
+    is_added nodes c.add.new.nodes.items spots heads entries q (target_spot p.pending c.args.target) c.bucket_by-bucket.result c.index-head.result.now c.in_ok-node.node es c.self.invariant.chained eb eh none c.in_ok-add.ensures.nodes ep er
+
+pub returns-clause-adds : goal.returns-clause-adds
+returns-clause-adds c =
+    let nodes = c.self.inside.nodes.items in
+    let heads = c.self.inside.index.heads.items in
+    let entries = c.self.inside.index.entries.items in
+    let spots = c.args.self.now.spots in
+    let k = c.args.k in
+    let x = c.index-from.result.now in
+    let es : spots_of nodes ≡ spots = ap (λ (t : SpotTable_data). t.spots) c.self.view_is in
+    let at : slice_get spots k ≡ Some (spot_of x) = spot_there nodes spots k x es c.requires.there c.index-from.ensures in
+    let pe : x.pending ≡ c.as_slice-pending.result.now = ap (λ (n : DNode_data). n.pending) (sym c.from.view_is) ∙ sym c.as_slice-pending.ensures in
+    let q = target_spot c.as_slice-pending.result.now c.args.target in
+    let el : c.len.result ≡ length heads = grind (arith, c.len.ensures) in
+    let lt : c.bucket_by-bucket.result < length heads = (let b = c.bucket_by-bucket.ensures.within in omega arith) in
+    let eb : c.bucket_by-bucket.result ≡ bucket_of (length heads) q =
+    c.bucket_by-bucket.ensures.is ∙ ap (λ (z : ℕ). bucket_by z c.code_behind-code.result c.args.target.state c.args.target.above) el ∙ ap (λ (z : ℕ). bucket_by (length heads) z c.args.target.state c.args.target.above) c.code_behind-code.ensures in
+    let eh = c.index-head.ensures ∙ get_or_default heads c.bucket_by-bucket.result c.index-head.result.now 0 lt in
+    let none : (n : ℕ) → Chained (links_of entries) c.index-head.result.now n → slice_get (spots_of nodes) n ≢ Some q = λ n ch e.
+    c.in_default.ensures n (subst (λ (z : List Entry). Chained (links_of z) c.index-head.result.now n) (sym c.deref-2.ensures.value) ch) (ap (λ (z : List DNode_data). slice_get (spots_of z) n) c.deref.ensures.value ∙ e) in
+    let ep : spot_of c.in_ok-node.node ≡ q = c.in_ok-node.ensures.spot ∙ ap (λ (z : List Act). target_spot z c.args.target) (sym c.as_slice-pending.ensures) in
+    λ p h.
+    let er : q ≡ target_spot p.pending c.args.target = ap (λ (z : List Act). target_spot z c.args.target) (sym pe ∙ ap (λ (s : Spot). s.pending) (same_Some (spot_of x) p (sym at ∙ h))) in
+    is_added nodes c.add.new.nodes.items spots heads entries q (target_spot p.pending c.args.target) c.bucket_by-bucket.result c.index-head.result.now c.in_ok-node.node es c.self.invariant.chained eb eh none c.in_ok-add.ensures.nodes ep er
+
+pub returns-clause-at : goal.returns-clause-at
+returns-clause-at c =
+    let nodes = c.self.inside.nodes.items in
+    let heads = c.self.inside.index.heads.items in
+    let entries = c.self.inside.index.entries.items in
+    let spots = c.args.self.now.spots in
+    let k = c.args.k in
+    let x = c.index-from.result.now in
+    let es : spots_of nodes ≡ spots = ap (λ (t : SpotTable_data). t.spots) c.self.view_is in
+    let at : slice_get spots k ≡ Some (spot_of x) = spot_there nodes spots k x es c.requires.there c.index-from.ensures in
+    let pe : x.pending ≡ c.as_slice-pending.result.now = ap (λ (n : DNode_data). n.pending) (sym c.from.view_is) ∙ sym c.as_slice-pending.ensures in
+    λ p h.
+    let er : spot_of c.in_ok-node.node ≡ target_spot p.pending c.args.target = c.in_ok-node.ensures.spot ∙ ap (λ (z : List Act). target_spot z c.args.target) (sym c.as_slice-pending.ensures ∙ sym pe ∙ ap (λ (s : Spot). s.pending) (same_Some (spot_of x) p (sym at ∙ h))) in
+    added_at nodes c.add.new.nodes.items spots (target_spot p.pending c.args.target) c.len-n.result c.in_ok-node.node es c.in_ok-add.ensures.nodes er (grind (arith, c.len-n.ensures))
