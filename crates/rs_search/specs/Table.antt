@@ -1,5 +1,5 @@
 -- Steps: spots that are numbered in order of first sight, and what they lead to.
-use Rattle.std.specs.Prelude.{◌≡◌, ℕ, ◌<◌, ◌≤◌, ◌^◌, List, length, map, slice_get, Some}
+use Rattle.std.specs.Prelude.{◌≡◌, ℕ, ◌<◌, ◌≤◌, ◌^◌, List, [], ◌∷◌, length, map, slice_get, Some}
 use Rattle.rs_derive.specs.Checks.{target_spot}
 use Rattle.rs_derive.specs.Data.{DNode_data}
 use Rattle.rs_derive.specs.Derivations.{spot_of}
@@ -8,6 +8,8 @@ use Rattle.rs_derive.specs.Within.{IsPlaceWithin}
 use Rattle.rs_derive.specs.declared.targets.Target.{Target}
 use Rattle.rs_graph.specs.Discovery.{Adds}
 use Rattle.rs_search.specs.Buckets.{bucket_of, codes_of}
+use Rattle.rs_search.specs.declared.found.Nexts.{Nexts}
+use Rattle.rs_search.specs.declared.found.Nexts.TheVariants.{One, Several}
 use Rattle.rs_search.specs.declared.table.Entry.{Entry}
 use Rattle.rs_search.specs.Index.{AreChained}
 
@@ -56,3 +58,8 @@ AddsAt old k target new = (p : Spot) → slice_get old k ≡ Some p → Adds old
 -- .. and has this number
 abbrev pub IsAddedAt : List Spot → ℕ → Target → List Spot → ℕ → Type 0
 IsAddedAt old k target new n = (p : Spot) → slice_get old k ≡ Some p → slice_get new n ≡ Some (target_spot p.pending target)
+
+-- the numbers of what a spot leads to
+abbrev pub numbers_of : Nexts → List ℕ
+numbers_of (One n) = n ∷ []
+numbers_of (Several row) = row

@@ -28,17 +28,18 @@ fn rank_behind(row: &[u32], number: usize, table: &SpotTable) -> Option<u32>
 }
 
 // The same where the row is kept; 0 where it isn't.
-fn rank_of(keeps: bool, row: &[u32], number: usize, table: &SpotTable) -> Option<u32>
+fn rank_of(keeps: bool, number: usize, table: &SpotTable) -> Option<u32>
     requires few { length table.now.ranks < 2 ^ 32 }
     requires here { number < length table.now.ranks }
-    requires within { (j : ℕ) → Among row.now j → j < length table.now.ranks }
+    requires known { number < length table.now.rows }
+    requires within { (j : ℕ) → Among (slice_index_or table.now.rows number []) j → j < length table.now.ranks }
     requires low { (j : ℕ) → number < j → j < length table.now.ranks → slice_index_or table.now.ranks j 0 + j < length table.now.ranks }
-    ensures fits { IfSome result (λ rank. RankFits (kept_row keeps row.now) table.now.ranks rank) }
-    ensures on { IfSome result (λ rank. (j : ℕ) → Among (kept_row keeps row.now) j → number < j) }
+    ensures fits { IfSome result (λ rank. RankFits (kept_row keeps (slice_index_or table.now.rows number [])) table.now.ranks rank) }
+    ensures on { IfSome result (λ rank. (j : ℕ) → Among (kept_row keeps (slice_index_or table.now.rows number [])) j → number < j) }
     ensures low { IfSome result (λ rank. rank + number < length table.now.ranks) }
 {
     if keeps {
-        rank_behind(row, number, table)
+        rank_behind(table.row(number).as_slice(), number, table)
     } else {
         Some(0)
     }
@@ -58,8 +59,7 @@ pub fn forward_ranks(keeps: &[bool], table: &mut SpotTable) -> bool
     let mut number = table.known();
     while number > 0 {
         number -= 1;
-        let row = table.row(number).as_slice();
-        match rank_of(keeps[number], row, number, table) {
+        match rank_of(keeps[number], number, table) {
             Some(rank) => table.set_rank(number, rank),
             None => return false,
         }

@@ -10,7 +10,7 @@ ghost use Rattle.rs_derive.specs.Within.{HasLabelsOnce};
 ghost use Rattle.rs_prefix.specs.Earliest.{without};
 ghost use Rattle.rs_search.specs.Candidates.{start_spot};
 ghost use Rattle.rs_search.specs.Itself.{AreNamed, AreNamedAt, GrowsBy};
-ghost use Rattle.rs_search.specs.Table.{AddsAt, IsWithinAt};
+ghost use Rattle.rs_search.specs.Table.{AddsAt, IsWithinAt, numbers_of};
 ghost use Rattle.rs_graph.specs.Discovery.{IsDiscovery, MoreThan};
 ghost use Rattle.rs_graph.specs.Lists.{concat};
 ghost use Rattle.rs_search.specs.Turns.{nexts_within, owing_by, spots_by};
@@ -75,6 +75,33 @@ pub struct Candidates {
     pub choosing: bool,
 }
 
+/// What a spot leads to: the number of one spot, or those of several.
+#[derive(Drop, Debug)]
+pub enum Nexts {
+    One(u32),
+    Several(Row),
+}
+
+#[inline(always)]
+fn count_of(nexts: &Nexts) -> usize
+    ensures { result ≡ length (numbers_of nexts.now) }
+{
+    match nexts {
+        Nexts::One(_) => 1,
+        Nexts::Several(row) => row.as_slice().len(),
+    }
+}
+
+#[inline(always)]
+fn row_of(alloc: Global, nexts: Nexts) -> Row
+    ensures { result ≡ numbers_of nexts }
+{
+    match nexts {
+        Nexts::One(n) => Row::of_one(alloc, n),
+        Nexts::Several(row) => row,
+    }
+}
+
 // Adds the number of the spot of the target to the row; the spot is added where it is new.
 #[inline(always)]
 fn name(
@@ -109,20 +136,19 @@ fn name_one(
     k: usize,
     target: Target,
     limit: usize,
-) -> Result<Row, Fault>
+) -> Result<u32, Fault>
     requires limit { limit + 1 < 2 ^ 32 }
     requires few { length table.old.spots ≤ limit }
     requires there { k < length table.old.spots }
     requires place { IsWithinAt table.old.spots k target }
-    ensures named { IfOk result (λ row. AreNamedAt (λ p. target_spot p.pending target ∷ []) table.old.spots k table.new.spots row) }
-    ensures short { IfOk result (λ row. length row ≤ 2 ^ 16) }
+    ensures named { IfOk result (λ n. AreNamedAt (λ p. target_spot p.pending target ∷ []) table.old.spots k table.new.spots (n ∷ [])) }
     ensures large { IfErr result (λ e. e ≡ TooLarge → limit < length table.new.spots) }
     ensures grown { OnErr result (GrowsBy (λ p. target_spot p.pending target ∷ []) table.old.spots k table.new.spots) }
     ensures few { OnOk result (length table.new.spots ≤ limit) }
     ensures rows { table.new.rows ≡ table.old.rows }
 {
     let n = table.number_of(alloc, k, target, limit)?;
-    Ok(Row::of_one(alloc, n))
+    Ok(n)
 }
 
 // The number of the spot behind the act that is owed at the place.
@@ -134,13 +160,12 @@ fn name_paid(
     place: usize,
     arm: Arm,
     limit: usize,
-) -> Result<Row, Fault>
+) -> Result<u32, Fault>
     requires limit { limit + 1 < 2 ^ 32 }
     requires few { length table.old.spots ≤ limit }
     requires there { k < length table.old.spots }
     requires owed { (p : Spot) → slice_get table.old.spots k ≡ Some p → place < length p.pending }
-    ensures named { IfOk result (λ row. AreNamedAt (λ p. spot arm.next (without p.pending place) p.above ∷ []) table.old.spots k table.new.spots row) }
-    ensures short { IfOk result (λ row. length row ≤ 2 ^ 16) }
+    ensures named { IfOk result (λ n. AreNamedAt (λ p. spot arm.next (without p.pending place) p.above ∷ []) table.old.spots k table.new.spots (n ∷ [])) }
     ensures large { IfErr result (λ e. e ≡ TooLarge → limit < length table.new.spots) }
     ensures grown { OnErr result (GrowsBy (λ p. spot arm.next (without p.pending place) p.above ∷ []) table.old.spots k table.new.spots) }
     ensures few { OnOk result (length table.new.spots ≤ limit) }
@@ -160,13 +185,13 @@ fn name_owing(
     peer: Role,
     theirs: &[Arm],
     limit: usize,
-) -> Result<Row, Fault>
+) -> Result<Nexts, Fault>
     requires limit { limit + 1 < 2 ^ 32 }
     requires few { length table.old.spots ≤ limit }
     requires there { k < length table.old.spots }
     requires once { HasLabelsOnce theirs.now }
-    ensures named { IfOk result (λ row. AreNamedAt (λ p. map (λ b. owing_by kind p peer b) theirs.now) table.old.spots k table.new.spots row) }
-    ensures short { IfOk result (λ row. length row ≤ 2 ^ 16) }
+    ensures named { IfOk result (λ nexts. AreNamedAt (λ p. map (λ b. owing_by kind p peer b) theirs.now) table.old.spots k table.new.spots (numbers_of nexts)) }
+    ensures short { IfOk result (λ nexts. length (numbers_of nexts) ≤ 2 ^ 16) }
     ensures large { IfErr result (λ e. e ≡ TooLarge → limit < length table.new.spots) }
     ensures grown { OnErr result (GrowsBy (λ p. map (λ b. owing_by kind p peer b) theirs.now) table.old.spots k table.new.spots) }
     ensures few { OnOk result (length table.new.spots ≤ limit) }
@@ -175,9 +200,13 @@ fn name_owing(
     match theirs {
         [arm] => {
             let target = target_owing(table.node(k), kind, peer, *arm);
-            name_one(alloc, table, k, target, limit)
+            let n = name_one(alloc, table, k, target, limit)?;
+            Ok(Nexts::One(n))
         }
-        _ => name_each_owing(alloc, table, k, kind, peer, theirs, limit),
+        _ => {
+            let row = name_each_owing(alloc, table, k, kind, peer, theirs, limit)?;
+            Ok(Nexts::Several(row))
+        }
     }
 }
 
@@ -278,15 +307,15 @@ fn name_by(
     arms: &[Arm],
     theirs: &[Arm],
     limit: usize,
-) -> Result<Row, Fault>
+) -> Result<Nexts, Fault>
     requires limit { limit + 1 < 2 ^ 32 }
     requires few { length table.old.spots ≤ limit }
     requires there { k < length table.old.spots }
     requires ours { HasLabelsOnce arms.now }
     requires theirs { HasLabelsOnce theirs.now }
     requires fits { (p : Spot) → slice_get table.old.spots k ≡ Some p → RuleFits p.pending arms.now theirs.now rule }
-    ensures named { IfOk result (λ row. AreNamedAt (λ p. concat (nexts_by p arms.now theirs.now rule)) table.old.spots k table.new.spots row) }
-    ensures short { IfOk result (λ row. length row ≤ 2 ^ 16) }
+    ensures named { IfOk result (λ nexts. AreNamedAt (λ p. concat (nexts_by p arms.now theirs.now rule)) table.old.spots k table.new.spots (numbers_of nexts)) }
+    ensures short { IfOk result (λ nexts. length (numbers_of nexts) ≤ 2 ^ 16) }
     ensures large { IfErr result (λ e. e ≡ TooLarge → limit < length table.new.spots) }
     ensures grown { OnErr result (GrowsBy (λ p. concat (nexts_by p arms.now theirs.now rule)) table.old.spots k table.new.spots) }
     ensures few { OnOk result (length table.new.spots ≤ limit) }
@@ -295,10 +324,16 @@ fn name_by(
     match rule {
         Rule::Stops => {
             let none = Row::new(alloc);
-            Ok(none)
+            Ok(Nexts::Several(none))
         }
-        Rule::Pays { place, arm } => name_paid(alloc, table, k, place, arm, limit),
-        Rule::SendsBoth => name_both(alloc, table, k, arms, theirs, limit),
+        Rule::Pays { place, arm } => {
+            let n = name_paid(alloc, table, k, place, arm, limit)?;
+            Ok(Nexts::One(n))
+        }
+        Rule::SendsBoth => {
+            let row = name_both(alloc, table, k, arms, theirs, limit)?;
+            Ok(Nexts::Several(row))
+        }
         Rule::Guesses { peer } => name_owing(alloc, table, k, Kind::Send, peer, theirs, limit),
         Rule::Follows { peer } => name_owing(alloc, table, k, Kind::Receive, peer, theirs, limit),
     }
@@ -314,15 +349,15 @@ fn name_all(
     arms: &[Arm],
     theirs: &[Arm],
     limit: usize,
-) -> Result<Row, Fault>
+) -> Result<Nexts, Fault>
     requires limit { limit + 1 < 2 ^ 32 }
     requires few { length table.old.spots ≤ limit }
     requires there { k < length table.old.spots }
     requires ours { HasLabelsOnce arms.now }
     requires theirs { HasLabelsOnce theirs.now }
     requires fits { (p : Spot) → slice_get table.old.spots k ≡ Some p → IfSome rule (λ r. RuleFits p.pending arms.now theirs.now r) }
-    ensures named { IfOk result (λ row. AreNamedAt (λ p. spots_by p arms.now theirs.now rule) table.old.spots k table.new.spots row) }
-    ensures short { IfOk result (λ row. length row ≤ 2 ^ 16) }
+    ensures named { IfOk result (λ nexts. AreNamedAt (λ p. spots_by p arms.now theirs.now rule) table.old.spots k table.new.spots (numbers_of nexts)) }
+    ensures short { IfOk result (λ nexts. length (numbers_of nexts) ≤ 2 ^ 16) }
     ensures large { IfErr result (λ e. e ≡ TooLarge → limit < length table.new.spots) }
     ensures grown { OnErr result (GrowsBy (λ p. spots_by p arms.now theirs.now rule) table.old.spots k table.new.spots) }
     ensures few { OnOk result (length table.new.spots ≤ limit) }
@@ -331,7 +366,7 @@ fn name_all(
     match rule {
         None => {
             let none = Row::new(alloc);
-            Ok(none)
+            Ok(Nexts::Several(none))
         }
         Some(one) => name_by(alloc, table, k, one, arms, theirs, limit),
     }
@@ -404,12 +439,12 @@ pub fn find_all(
         anys.push(turn.any)?;
         keeps.push(turn.keeps)?;
         cut = either(cut, turn.cut);
-        let row = match name_all(alloc, &mut table, k, turn.rule, arms, theirs, limit) {
-            Ok(row) => row,
+        let nexts = match name_all(alloc, &mut table, k, turn.rule, arms, theirs, limit) {
+            Ok(nexts) => nexts,
             Err(fault) => return Err(fault),
         };
-        choosing = either(choosing, has_choice(turn.any, row.as_slice().len()));
-        table.push_row(row);
+        choosing = either(choosing, has_choice(turn.any, count_of(&nexts)));
+        table.push_row(row_of(alloc, nexts));
     }
     Ok(Candidates {
         table,

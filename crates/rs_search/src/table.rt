@@ -1,5 +1,5 @@
 //! Spots, numbered in order of first sight and found again by an index.
-ghost use Rattle.std.specs.Prelude.{◌≡◌, ◌≢◌, ◌<◌, ◌≤◌, ◌+◌, ◌^◌, [], ◌∷◌, ◌++◌, List, ℕ, OnOk, OnErr, IfOk, IfErr, MatchOption, length, map, slice_get, Some, replicate, true, false};
+ghost use Rattle.std.specs.Prelude.{◌≡◌, ◌≢◌, ◌<◌, ◌≤◌, ◌+◌, ◌^◌, [], ◌∷◌, ◌++◌, List, ℕ, OnOk, OnErr, IfOk, IfErr, MatchOption, length, map, slice_get, Some, replicate, true, false, slice_index_or};
 ghost use Rattle.rs_derive.specs.Checks.{owed_behind, target_spot};
 ghost use Rattle.rs_derive.specs.Data.{DNode_data};
 ghost use Rattle.rs_derive.specs.Derivations.{spot_of};
@@ -205,21 +205,22 @@ fn node_at(alloc: Global, pending: &Pending, target: Target) -> Result<DNode, No
     })
 }
 
-// Adds a node, with the code of what it owes, at the head of the chain of its bucket.
+// Adds a node, with what is filed of it, at the head of the chain of its bucket.
 #[inline(always)]
 fn add(
     nodes: &mut Vec<DNode>,
     index: &mut Index,
     node: DNode,
-    code: u64,
+    entry: Entry,
     bucket: usize,
 ) -> Result<(), Fault>
     requires within { bucket < length index.old.heads.items }
+    requires link { entry.link ≡ slice_index_or index.old.heads.items bucket 0 }
     requires fits { length nodes.old.items + 1 < 2 ^ 32 }
     requires is { bucket ≡ bucket_of (length index.old.heads.items) (spot_of node) }
     requires chained { AreChained (bucket_of (length index.old.heads.items)) (spots_of nodes.old.items) index.old.heads.items (links_of index.old.entries.items) }
     ensures nodes { OnOk result (nodes.new.items ≡ nodes.old.items ++ node ∷ []) }
-    ensures codes { OnOk result (codes_in index.new.entries.items ≡ codes_in index.old.entries.items ++ code ∷ []) }
+    ensures codes { OnOk result (codes_in index.new.entries.items ≡ codes_in index.old.entries.items ++ entry.code ∷ []) }
     ensures chained { OnOk result (AreChained (bucket_of (length index.old.heads.items)) (spots_of nodes.new.items) index.new.heads.items (links_of index.new.entries.items)) }
     ensures size { length index.new.heads.items ≡ length index.old.heads.items }
     ensures err { IfErr result (λ e. e ≡ Memory) }
@@ -230,9 +231,8 @@ fn add(
     nodes.reserve(1)?;
     index.entries.reserve(1)?;
     let number = nodes.len() as u32;
-    let link = index.heads[bucket];
     nodes.push_reserved(node);
-    index.entries.push_reserved(Entry { code, link });
+    index.entries.push_reserved(entry);
     index.heads[bucket] = number + 1;
     Ok(())
 }
@@ -360,13 +360,14 @@ impl SpotTable {
         let pending = from.pending.as_slice();
         let code = code_behind(self.index.entries[k].code, pending, target.change);
         let bucket = bucket_by(self.index.heads.len(), code, target.state, target.above);
-        let head = self.index.heads[bucket];
-        if let Some(n) = seek(&self.nodes, &self.index.entries, head, pending, target) {
+        let link = self.index.heads[bucket];
+        if let Some(n) = seek(&self.nodes, &self.index.entries, link, pending, target) {
             return Ok(n);
         }
         let node = node_at(alloc, &from.pending, target)?;
         let n = self.nodes.len();
-        add(&mut self.nodes, &mut self.index, node, code, bucket)?;
+        let entry = Entry { code, link };
+        add(&mut self.nodes, &mut self.index, node, entry, bucket)?;
         if n == limit {
             return Err(Fault::TooLarge);
         }

@@ -1,8 +1,5 @@
-use Rattle.std.proofs.Common.{arith, false, ◌<◌, slice_index_or, [], ◌≡◌, ◌-◌, ℕ, List, length, sym, subst, refl, ◌∙◌, ap}
+use Rattle.std.proofs.Common.{arith, ◌≡◌, ◌-◌, [], ℕ, List, length, slice_index_or, subst, refl, ap}
 use Rattle.rs_graph.specs.Lists.{Among}
-use Rattle.rs_graph.specs.Ranks.{RankFits}
-use Rattle.rs_search.specs.Forward.{kept_row}
-use Rattle.rs_graph.proofs.Buckets.{got}
 use Rattle.rs_search.proofs.Rising.{forward_none, forward_on}
 use Rattle.rs_search.proofs.forward.forward_ranks.Goals as goal
 
@@ -16,8 +13,7 @@ pub rank_of-requires-clause-within : goal.rank_of-requires-clause-within
 rank_of-requires-clause-within c = λ j m.
     let i = c.loop-number.invariant in
     let n = c.loop-number.number - 1 in
-    let row : slice_index_or c.loop-number.table.rows n [] ≡ c.as_slice-row.result.now = got c.loop-number.table.rows n c.row.result.now [] c.row.ensures ∙ sym c.as_slice-row.ensures in
-    let w = c.requires.within n j (subst (λ (z : List (List ℕ)). Among (slice_index_or z n []) j) i.2 (subst (λ (z : List ℕ). Among z j) (sym row) m)) in
+    let w = c.requires.within n j (subst (λ (z : List (List ℕ)). Among (slice_index_or z n []) j) i.2 m) in
     let s = i.0.size in
     let l = ap (λ (z : List (List ℕ)). length z) i.2 in
     omega arith
@@ -26,11 +22,7 @@ pub loop-number-preserved : goal.loop-number-preserved
 loop-number-preserved c =
     let i = c.loop-number.invariant in
     let t = c.loop-number.table in
-    let n = c.loop-number.number - 1 in
     let some = c.loop-number-test.true in
     let e = c.in-Some.ensures in
-    let row : slice_index_or t.rows n [] ≡ c.as_slice-row.result.now = got t.rows n c.row.result.now [] c.row.ensures ∙ sym c.as_slice-row.ensures in
-    let f = forward_on c.args.keeps.now t.rows t.ranks c.loop-number.number n c.in-Some.rank (omega arith) i.1 i.0
-    (subst (λ (z : List ℕ). RankFits (kept_row (slice_index_or c.args.keeps.now n false) z) t.ranks c.in-Some.rank) (sym row) e.fits)
-    (subst (λ (z : List ℕ). (j : ℕ) → Among (kept_row (slice_index_or c.args.keeps.now n false) z) j → n < j) (sym row) e.on) e.low in
+    let f = forward_on c.args.keeps.now t.rows t.ranks c.loop-number.number (c.loop-number.number - 1) c.in-Some.rank (omega arith) i.1 i.0 e.fits e.on e.low in
     rw (c.set_rank.ensures.rows, c.set_rank.ensures.ranks, c.set_rank.ensures.spots) (f, (let b = i.1 in omega arith), i.2, i.3)

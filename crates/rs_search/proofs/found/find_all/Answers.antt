@@ -7,6 +7,7 @@ use Rattle.rs_search.specs.Candidates.{start_spot}
 use Rattle.rs_graph.specs.Discovery.{Grown}
 use Rattle.rs_search.specs.Turns.{arms_in, has_choice, is_any, is_choosing, is_cut, is_keeping, turn_by_code, turn_within}
 use Rattle.rs_search.specs.Itself.{AreNamed}
+use Rattle.rs_search.specs.Table.{numbers_of}
 use Rattle.rs_derive.specs.Rules.{RuleFits}
 use Rattle.std.proofs.lemmas.Option.{same_Some}
 use Rattle.rs_search.specs.Turns.{Turn_data, nexts_within}
@@ -29,16 +30,16 @@ loop-alloc-preserved c =
     let spots = c.loop-alloc.table.spots in
     let rows = c.loop-alloc.table.rows in
     let new = c.name_all.new.table.spots in
-    let row = c.in-Ok.row in
+    let row = numbers_of c.in-Ok.nexts in
     let h : slice_get spots (length rows) ≡ Some p = subst (λ (z : ℕ). slice_get spots z ≡ Some p) c.known-k.ensures.is c.node-node.ensures in
     let t : turn_by_code p c.arms_in-arms.result.now c.arms_in-theirs.result.now c.turn_within-turn.result ≡ turn_within c.args.sub.now c.args.above.now c.args.bound p = c.turn_within-turn.ensures.turn in
     let n : AreNamed spots (nexts_within c.args.sub.now c.args.above.now c.args.bound p) new row = subst (λ (z : List Spot). AreNamed spots z new row) (ap (λ (u : Turn_data). u.spots) t) (c.in-Ok.ensures.named p c.node-node.ensures) in
     let gr = n.grown in
-    let many : length c.as_slice.result.now ≡ length (nexts_within c.args.sub.now c.args.above.now c.args.bound p) = ap (λ (z : List ℕ). length z) c.as_slice.ensures ∙ names_length new row (nexts_within c.args.sub.now c.args.above.now c.args.bound p) n.names in
+    let many : c.count_of.result ≡ length (nexts_within c.args.sub.now c.args.above.now c.args.bound p) = c.count_of.ensures ∙ names_length new row (nexts_within c.args.sub.now c.args.above.now c.args.bound p) n.names in
     let chooses : c.has_choice.result ≡ has_choice (turn_within c.args.sub.now c.args.above.now c.args.bound p) =
-    c.has_choice.ensures ∙ ap (λ (b : Bool). b && not (eqb (length c.as_slice.result.now) 1)) (ap (λ (u : Turn_data). u.any) t) ∙ ap (λ (w : ℕ). (turn_within c.args.sub.now c.args.above.now c.args.bound p).any && not (eqb w 1)) many in
+    c.has_choice.ensures ∙ ap (λ (b : Bool). b && not (eqb c.count_of.result 1)) (ap (λ (u : Turn_data). u.any) t) ∙ ap (λ (w : ℕ). (turn_within c.args.sub.now c.args.above.now c.args.bound p).any && not (eqb w 1)) many in
     let es : c.push_row.new.self.spots ≡ new = c.push_row.ensures.spots in
-    let er : c.push_row.new.self.rows ≡ rows ++ row ∷ [] = c.push_row.ensures.rows ∙ ap (λ (z : List (List ℕ)). z ++ row ∷ []) c.name_all.ensures.rows in
+    let er : c.push_row.new.self.rows ≡ rows ++ row ∷ [] = c.push_row.ensures.rows ∙ ap (λ (z : List ℕ). c.name_all.new.table.rows ++ z ∷ []) c.row_of.ensures ∙ ap (λ (z : List (List ℕ)). z ++ row ∷ []) c.name_all.ensures.rows in
     let m : length (rows ++ row ∷ []) ≡ length rows + 1 = (let l = length-append rows (row ∷ []) in omega arith) in
     rw (es, er) (
       growing_on (nexts_within c.args.sub.now c.args.above.now c.args.bound) (start_spot c.args.sub.now c.args.above.now) spots rows p new row i.0 h gr n.names n.numbered n.longer,

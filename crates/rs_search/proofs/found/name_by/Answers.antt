@@ -1,4 +1,4 @@
-use Rattle.std.proofs.Common.{List, subst, sym, map, IfOk, OnErr}
+use Rattle.std.proofs.Common.{[], ◌∷◌, List, subst, sym, map, IfOk, OnErr}
 use Rattle.std.proofs.lemmas.Result.{IfOk-weaker, on_err_weaker}
 use Rattle.rs_derive.specs.Moves.{Spot, owing_receive, owing_send}
 use Rattle.rs_derive.specs.Rules.{RuleFits, nexts_by}
@@ -7,7 +7,9 @@ use Rattle.rs_derive.specs.declared.rules.Rule.TheVariants.{Guesses, Follows}
 use Rattle.rs_graph.specs.Discovery.{Grown}
 use Rattle.rs_graph.specs.Lists.{concat}
 use Rattle.rs_search.specs.Itself.{AreNamed, AreNamedAt, GrowsBy}
+use Rattle.rs_search.specs.Table.{numbers_of}
 use Rattle.rs_search.proofs.Alike.{named_none}
+use Rattle.rs_search.proofs.Naming.{on_err}
 use Rattle.rs_search.proofs.Turning.{followed_is, guessed_is}
 use Rattle.rs_search.proofs.found.name_by.Goals as goal
 
@@ -19,28 +21,28 @@ returns-in-Stops-clause-named c = λ p h.
 pub name_paid-requires-clause-owed : goal.name_paid-requires-clause-owed
 name_paid-requires-clause-owed c = λ p e. subst (λ (r : Rule). RuleFits p.pending c.args.arms.now c.args.theirs.now r) c.in-Pays.is (c.requires.fits p e)
 
-pub returns-in-Pays-clause-named : goal.returns-in-Pays-clause-named
-returns-in-Pays-clause-named c =
-    subst (λ (r : Rule). IfOk c.name_paid.result (λ row. AreNamedAt (λ p. concat (nexts_by p c.args.arms.now c.args.theirs.now r)) c.args.table.now.spots c.args.k c.name_paid.new.table.spots row)) (sym c.in-Pays.is) c.name_paid.ensures.named
+pub returns-in_ok-n-in-Pays-clause-named : goal.returns-in_ok-n-in-Pays-clause-named
+returns-in_ok-n-in-Pays-clause-named c =
+    subst (λ (r : Rule). AreNamedAt (λ p. concat (nexts_by p c.args.arms.now c.args.theirs.now r)) c.args.table.now.spots c.args.k c.name_paid.new.table.spots (c.in_ok-n-in-Pays.n ∷ [])) (sym c.in-Pays.is) c.in_ok-n-in-Pays.ensures.named
 
-pub returns-in-Pays-clause-grown : goal.returns-in-Pays-clause-grown
-returns-in-Pays-clause-grown c =
-    subst (λ (r : Rule). OnErr c.name_paid.result (GrowsBy (λ p. concat (nexts_by p c.args.arms.now c.args.theirs.now r)) c.args.table.now.spots c.args.k c.name_paid.new.table.spots)) (sym c.in-Pays.is) c.name_paid.ensures.grown
+pub returns-in_err-n-in-Pays-clause-grown : goal.returns-in_err-n-in-Pays-clause-grown
+returns-in_err-n-in-Pays-clause-grown c =
+    on_err _ (subst (λ (r : Rule). GrowsBy (λ p. concat (nexts_by p c.args.arms.now c.args.theirs.now r)) c.args.table.now.spots c.args.k c.name_paid.new.table.spots) (sym c.in-Pays.is) c.in_err-n-in-Pays.ensures.grown)
 
-pub returns-in-SendsBoth-clause-named : goal.returns-in-SendsBoth-clause-named
-returns-in-SendsBoth-clause-named c =
-    subst (λ (r : Rule). IfOk c.name_both.result (λ row. AreNamedAt (λ p. concat (nexts_by p c.args.arms.now c.args.theirs.now r)) c.args.table.now.spots c.args.k c.name_both.new.table.spots row)) (sym c.in-SendsBoth.is) c.name_both.ensures.named
+pub returns-in_ok-row-in-SendsBoth-clause-named : goal.returns-in_ok-row-in-SendsBoth-clause-named
+returns-in_ok-row-in-SendsBoth-clause-named c =
+    subst (λ (r : Rule). AreNamedAt (λ p. concat (nexts_by p c.args.arms.now c.args.theirs.now r)) c.args.table.now.spots c.args.k c.name_both.new.table.spots c.in_ok-row-in-SendsBoth.row) (sym c.in-SendsBoth.is) c.in_ok-row-in-SendsBoth.ensures.named
 
-pub returns-in-SendsBoth-clause-grown : goal.returns-in-SendsBoth-clause-grown
-returns-in-SendsBoth-clause-grown c =
-    subst (λ (r : Rule). OnErr c.name_both.result (GrowsBy (λ p. concat (nexts_by p c.args.arms.now c.args.theirs.now r)) c.args.table.now.spots c.args.k c.name_both.new.table.spots)) (sym c.in-SendsBoth.is) c.name_both.ensures.grown
+pub returns-in_err-row-in-SendsBoth-clause-grown : goal.returns-in_err-row-in-SendsBoth-clause-grown
+returns-in_err-row-in-SendsBoth-clause-grown c =
+    on_err _ (subst (λ (r : Rule). GrowsBy (λ p. concat (nexts_by p c.args.arms.now c.args.theirs.now r)) c.args.table.now.spots c.args.k c.name_both.new.table.spots) (sym c.in-SendsBoth.is) c.in_err-row-in-SendsBoth.ensures.grown)
 
 pub returns-in-Guesses-clause-named : goal.returns-in-Guesses-clause-named
 returns-in-Guesses-clause-named c =
-    subst (λ (r : Rule). IfOk c.name_owing.result (λ row. AreNamedAt (λ p. concat (nexts_by p c.args.arms.now c.args.theirs.now r)) c.args.table.now.spots c.args.k c.name_owing.new.table.spots row)) (sym c.in-Guesses.is)
-    (IfOk-weaker c.name_owing.result (λ row. AreNamedAt (λ p. map (λ b. owing_send p c.in-Guesses.peer b) c.args.theirs.now) c.args.table.now.spots c.args.k c.name_owing.new.table.spots row)
-    (λ row. AreNamedAt (λ p. concat (nexts_by p c.args.arms.now c.args.theirs.now (Guesses c.in-Guesses.peer))) c.args.table.now.spots c.args.k c.name_owing.new.table.spots row)
-    (λ row n p h. subst (λ (z : List Spot). AreNamed c.args.table.now.spots z c.name_owing.new.table.spots row) (sym (guessed_is p c.in-Guesses.peer c.args.theirs.now)) (n p h)) c.name_owing.ensures.named)
+    subst (λ (r : Rule). IfOk c.name_owing.result (λ row. AreNamedAt (λ p. concat (nexts_by p c.args.arms.now c.args.theirs.now r)) c.args.table.now.spots c.args.k c.name_owing.new.table.spots (numbers_of row))) (sym c.in-Guesses.is)
+    (IfOk-weaker c.name_owing.result (λ row. AreNamedAt (λ p. map (λ b. owing_send p c.in-Guesses.peer b) c.args.theirs.now) c.args.table.now.spots c.args.k c.name_owing.new.table.spots (numbers_of row))
+    (λ row. AreNamedAt (λ p. concat (nexts_by p c.args.arms.now c.args.theirs.now (Guesses c.in-Guesses.peer))) c.args.table.now.spots c.args.k c.name_owing.new.table.spots (numbers_of row))
+    (λ row n p h. subst (λ (z : List Spot). AreNamed c.args.table.now.spots z c.name_owing.new.table.spots (numbers_of row)) (sym (guessed_is p c.in-Guesses.peer c.args.theirs.now)) (n p h)) c.name_owing.ensures.named)
 
 pub returns-in-Guesses-clause-grown : goal.returns-in-Guesses-clause-grown
 returns-in-Guesses-clause-grown c =
@@ -51,10 +53,10 @@ returns-in-Guesses-clause-grown c =
 
 pub returns-in-Follows-clause-named : goal.returns-in-Follows-clause-named
 returns-in-Follows-clause-named c =
-    subst (λ (r : Rule). IfOk c.name_owing-in-Follows.result (λ row. AreNamedAt (λ p. concat (nexts_by p c.args.arms.now c.args.theirs.now r)) c.args.table.now.spots c.args.k c.name_owing-in-Follows.new.table.spots row)) (sym c.in-Follows.is)
-    (IfOk-weaker c.name_owing-in-Follows.result (λ row. AreNamedAt (λ p. map (λ b. owing_receive p c.in-Follows.peer b) c.args.theirs.now) c.args.table.now.spots c.args.k c.name_owing-in-Follows.new.table.spots row)
-    (λ row. AreNamedAt (λ p. concat (nexts_by p c.args.arms.now c.args.theirs.now (Follows c.in-Follows.peer))) c.args.table.now.spots c.args.k c.name_owing-in-Follows.new.table.spots row)
-    (λ row n p h. subst (λ (z : List Spot). AreNamed c.args.table.now.spots z c.name_owing-in-Follows.new.table.spots row) (sym (followed_is p c.in-Follows.peer c.args.theirs.now)) (n p h)) c.name_owing-in-Follows.ensures.named)
+    subst (λ (r : Rule). IfOk c.name_owing-in-Follows.result (λ row. AreNamedAt (λ p. concat (nexts_by p c.args.arms.now c.args.theirs.now r)) c.args.table.now.spots c.args.k c.name_owing-in-Follows.new.table.spots (numbers_of row))) (sym c.in-Follows.is)
+    (IfOk-weaker c.name_owing-in-Follows.result (λ row. AreNamedAt (λ p. map (λ b. owing_receive p c.in-Follows.peer b) c.args.theirs.now) c.args.table.now.spots c.args.k c.name_owing-in-Follows.new.table.spots (numbers_of row))
+    (λ row. AreNamedAt (λ p. concat (nexts_by p c.args.arms.now c.args.theirs.now (Follows c.in-Follows.peer))) c.args.table.now.spots c.args.k c.name_owing-in-Follows.new.table.spots (numbers_of row))
+    (λ row n p h. subst (λ (z : List Spot). AreNamed c.args.table.now.spots z c.name_owing-in-Follows.new.table.spots (numbers_of row)) (sym (followed_is p c.in-Follows.peer c.args.theirs.now)) (n p h)) c.name_owing-in-Follows.ensures.named)
 
 pub returns-in-Follows-clause-grown : goal.returns-in-Follows-clause-grown
 returns-in-Follows-clause-grown c =

@@ -1,4 +1,4 @@
-use Rattle.std.proofs.Common.{arith, ◌≡◌, [], ◌∷◌, ℕ, List, length, ap}
+use Rattle.std.proofs.Common.{[], ◌∷◌, refl}
 use Rattle.rs_derive.specs.Checks.{target_spot}
 use Rattle.rs_search.specs.Itself.{GrowsBy}
 use Rattle.rs_search.proofs.Alike.{named_none, named_push}
@@ -14,8 +14,4 @@ returns-in_err-n-clause-grown c =
 pub returns-clause-named : goal.returns-clause-named
 returns-clause-named c = λ p h.
     let e = c.in_ok-n.ensures in
-    named_push c.args.table.now.spots [] c.args.table.now.spots c.number_of.new.self.spots (target_spot p.pending c.args.target) c.in_ok-n.n [] c.of_one.result (named_none c.args.table.now.spots) (c.number_of.ensures.adds p h) (e.at p h) e.old e.fresh c.number_of.ensures.longer c.of_one.ensures
-
-pub returns-clause-short : goal.returns-clause-short
-returns-clause-short c =
-    let e = c.of_one.ensures in let l : length c.of_one.result ≡ 1 = ap (λ (z : List ℕ). length z) e in omega arith
+    named_push c.args.table.now.spots [] c.args.table.now.spots c.number_of.new.self.spots (target_spot p.pending c.args.target) c.in_ok-n.n [] (c.in_ok-n.n ∷ []) (named_none c.args.table.now.spots) (c.number_of.ensures.adds p h) (e.at p h) e.old e.fresh c.number_of.ensures.longer refl

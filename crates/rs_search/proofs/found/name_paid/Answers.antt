@@ -16,11 +16,11 @@ name_one-requires-clause-place c = λ p h. subst (λ (z : Change). IsPlaceWithin
 
 pub returns-clause-named : goal.returns-clause-named
 returns-clause-named c =
-    IfOk-weaker c.name_one.result (λ row. AreNamedAt (λ p. target_spot p.pending c.target_behind_payment-target.result ∷ []) c.args.table.now.spots c.args.k c.name_one.new.table.spots row)
-    (λ row. AreNamedAt (λ p. spot c.args.arm.next (without p.pending c.args.place) p.above ∷ []) c.args.table.now.spots c.args.k c.name_one.new.table.spots row)
-    (λ row n p h.
+    IfOk-weaker c.name_one.result (λ m. AreNamedAt (λ p. target_spot p.pending c.target_behind_payment-target.result ∷ []) c.args.table.now.spots c.args.k c.name_one.new.table.spots (m ∷ []))
+    (λ m. AreNamedAt (λ p. spot c.args.arm.next (without p.pending c.args.place) p.above ∷ []) c.args.table.now.spots c.args.k c.name_one.new.table.spots (m ∷ []))
+    (λ m n p h.
     let q : spot_of c.node.result.now ≡ p = same_Some (spot_of c.node.result.now) p (sym c.node.ensures ∙ h) in
-    subst (λ (z : Spot). AreNamed c.args.table.now.spots (z ∷ []) c.name_one.new.table.spots row) (c.target_behind_payment-target.ensures.spot p.pending ∙ ap (λ (z : Spot). spot c.args.arm.next (without p.pending c.args.place) z.above) q) (n p h)) c.name_one.ensures.named
+    subst (λ (z : Spot). AreNamed c.args.table.now.spots (z ∷ []) c.name_one.new.table.spots (m ∷ [])) (c.target_behind_payment-target.ensures.spot p.pending ∙ ap (λ (z : Spot). spot c.args.arm.next (without p.pending c.args.place) z.above) q) (n p h)) c.name_one.ensures.named
 
 pub returns-clause-grown : goal.returns-clause-grown
 returns-clause-grown c =

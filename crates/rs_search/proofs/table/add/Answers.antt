@@ -1,5 +1,5 @@
 use Rattle.std.proofs.Common.{◌≡◌, ◌++◌, ◌∷◌, [], List, length, ap, sym, subst, ◌∙◌, ◌+◌, arith, refl, set}
-use Rattle.std.proofs.lemmas.List.{get_or_default, length-map, map_push}
+use Rattle.std.proofs.lemmas.List.{length-map, map_push}
 use Rattle.rs_derive.specs.Data.{DNode_data}
 use Rattle.rs_derive.specs.Derivations.{spot_of}
 use Rattle.rs_derive.specs.Moves.{Spot}
@@ -15,7 +15,7 @@ returns-clause-chained c =
     let nodes = c.args.nodes.now.items in
     let heads = c.args.index.now.heads.items in
     let entries = c.args.index.now.entries.items in
-    let entry : Entry = record { code = c.args.code; link = c.index-link.result.now } in
+    let entry = c.args.entry in
     let en : c.push_reserved.new.self.items ≡ nodes ++ c.args.node ∷ [] = c.push_reserved.ensures.items ∙ ap (λ (z : List DNode_data). z ++ c.args.node ∷ []) c.in_ok-reserve.ensures.items in
     let ee : c.push_reserved-2.new.self.items ≡ entries ++ entry ∷ [] = c.push_reserved-2.ensures.items ∙ ap (λ (z : List Entry). z ++ entry ∷ []) c.in_ok-reserve-2.ensures.items in
     let spots : spots_of c.push_reserved.new.self.items ≡ spots_of nodes ++ spot_of c.args.node ∷ [] = ap spots_of en ∙ map_push spot_of nodes c.args.node in
@@ -23,4 +23,4 @@ returns-clause-chained c =
     let number : c.len-number.result ≡ length (spots_of nodes) = (let l = length-map nodes spot_of in let m = ap (λ (z : List DNode_data). length z) c.in_ok-reserve.ensures.items in grind (arith, c.len-number.ensures)) in
     subst (λ (z : List Spot). AreChained (bucket_of (length heads)) z (set heads c.args.bucket (c.len-number.result + 1)) (links_of c.push_reserved-2.new.self.items)) (sym spots)
     (chained_push (bucket_of (length heads)) (spots_of nodes) heads (links_of entries) (set heads c.args.bucket (c.len-number.result + 1)) (links_of c.push_reserved-2.new.self.items) (spot_of c.args.node) c.args.bucket entry.link c.len-number.result c.requires.is c.requires.within number
-    (c.index-link.ensures ∙ get_or_default heads c.args.bucket c.index-link.result.now 0 c.requires.within) links refl c.requires.chained)
+    c.requires.link links refl c.requires.chained)

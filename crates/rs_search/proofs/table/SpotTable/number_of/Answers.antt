@@ -48,7 +48,7 @@ seek-requires-clause-within c =
     let heads = c.self.inside.index.heads.items in
     let b = c.bucket_by-bucket.result in
     let lt : b < length heads = (let l = c.len.ensures in let w = c.bucket_by-bucket.ensures.within in omega arith) in
-    let h = c.index-head.ensures ∙ get_or_default heads b c.index-head.result.now 0 lt in
+    let h = c.index-link.ensures ∙ get_or_default heads b c.index-link.result.now 0 lt in
     let w = c.self.invariant.chained.within b in
     let l = length-map nodes spot_of in
     let d = ap (λ (z : List DNode_data). length z) c.deref.ensures.value in
@@ -116,13 +116,13 @@ returns-then-n-limit-clause-adds c =
     let lt : c.bucket_by-bucket.result < length heads = (let b = c.bucket_by-bucket.ensures.within in omega arith) in
     let eb : c.bucket_by-bucket.result ≡ bucket_of (length heads) q =
     c.bucket_by-bucket.ensures.is ∙ ap (λ (z : ℕ). bucket_by z c.code_behind-code.result c.args.target.state c.args.target.above) el ∙ ap (λ (z : ℕ). bucket_by (length heads) z c.args.target.state c.args.target.above) c.code_behind-code.ensures in
-    let eh = c.index-head.ensures ∙ get_or_default heads c.bucket_by-bucket.result c.index-head.result.now 0 lt in
-    let none : (n : ℕ) → Chained (links_of entries) c.index-head.result.now n → slice_get (spots_of nodes) n ≢ Some q = λ n ch e.
-    c.in_default.ensures n (subst (λ (z : List Entry). Chained (links_of z) c.index-head.result.now n) (sym c.deref-2.ensures.value) ch) (ap (λ (z : List DNode_data). slice_get (spots_of z) n) c.deref.ensures.value ∙ e) in
+    let eh = c.index-link.ensures ∙ get_or_default heads c.bucket_by-bucket.result c.index-link.result.now 0 lt in
+    let none : (n : ℕ) → Chained (links_of entries) c.index-link.result.now n → slice_get (spots_of nodes) n ≢ Some q = λ n ch e.
+    c.in_default.ensures n (subst (λ (z : List Entry). Chained (links_of z) c.index-link.result.now n) (sym c.deref-2.ensures.value) ch) (ap (λ (z : List DNode_data). slice_get (spots_of z) n) c.deref.ensures.value ∙ e) in
     let ep : spot_of c.in_ok-node.node ≡ q = c.in_ok-node.ensures.spot ∙ ap (λ (z : List Act). target_spot z c.args.target) (sym c.as_slice-pending.ensures) in
     λ p h.
     let er : q ≡ target_spot p.pending c.args.target = ap (λ (z : List Act). target_spot z c.args.target) (sym pe ∙ ap (λ (s : Spot). s.pending) (same_Some (spot_of x) p (sym at ∙ h))) in
-    is_added nodes c.add.new.nodes.items spots heads entries q (target_spot p.pending c.args.target) c.bucket_by-bucket.result c.index-head.result.now c.in_ok-node.node es c.self.invariant.chained eb eh none c.in_ok-add.ensures.nodes ep er
+    is_added nodes c.add.new.nodes.items spots heads entries q (target_spot p.pending c.args.target) c.bucket_by-bucket.result c.index-link.result.now c.in_ok-node.node es c.self.invariant.chained eb eh none c.in_ok-add.ensures.nodes ep er
 
 pub returns-clause-adds : goal.returns-clause-adds
 returns-clause-adds c =
@@ -140,13 +140,13 @@ returns-clause-adds c =
     let lt : c.bucket_by-bucket.result < length heads = (let b = c.bucket_by-bucket.ensures.within in omega arith) in
     let eb : c.bucket_by-bucket.result ≡ bucket_of (length heads) q =
     c.bucket_by-bucket.ensures.is ∙ ap (λ (z : ℕ). bucket_by z c.code_behind-code.result c.args.target.state c.args.target.above) el ∙ ap (λ (z : ℕ). bucket_by (length heads) z c.args.target.state c.args.target.above) c.code_behind-code.ensures in
-    let eh = c.index-head.ensures ∙ get_or_default heads c.bucket_by-bucket.result c.index-head.result.now 0 lt in
-    let none : (n : ℕ) → Chained (links_of entries) c.index-head.result.now n → slice_get (spots_of nodes) n ≢ Some q = λ n ch e.
-    c.in_default.ensures n (subst (λ (z : List Entry). Chained (links_of z) c.index-head.result.now n) (sym c.deref-2.ensures.value) ch) (ap (λ (z : List DNode_data). slice_get (spots_of z) n) c.deref.ensures.value ∙ e) in
+    let eh = c.index-link.ensures ∙ get_or_default heads c.bucket_by-bucket.result c.index-link.result.now 0 lt in
+    let none : (n : ℕ) → Chained (links_of entries) c.index-link.result.now n → slice_get (spots_of nodes) n ≢ Some q = λ n ch e.
+    c.in_default.ensures n (subst (λ (z : List Entry). Chained (links_of z) c.index-link.result.now n) (sym c.deref-2.ensures.value) ch) (ap (λ (z : List DNode_data). slice_get (spots_of z) n) c.deref.ensures.value ∙ e) in
     let ep : spot_of c.in_ok-node.node ≡ q = c.in_ok-node.ensures.spot ∙ ap (λ (z : List Act). target_spot z c.args.target) (sym c.as_slice-pending.ensures) in
     λ p h.
     let er : q ≡ target_spot p.pending c.args.target = ap (λ (z : List Act). target_spot z c.args.target) (sym pe ∙ ap (λ (s : Spot). s.pending) (same_Some (spot_of x) p (sym at ∙ h))) in
-    is_added nodes c.add.new.nodes.items spots heads entries q (target_spot p.pending c.args.target) c.bucket_by-bucket.result c.index-head.result.now c.in_ok-node.node es c.self.invariant.chained eb eh none c.in_ok-add.ensures.nodes ep er
+    is_added nodes c.add.new.nodes.items spots heads entries q (target_spot p.pending c.args.target) c.bucket_by-bucket.result c.index-link.result.now c.in_ok-node.node es c.self.invariant.chained eb eh none c.in_ok-add.ensures.nodes ep er
 
 pub returns-clause-at : goal.returns-clause-at
 returns-clause-at c =
@@ -162,3 +162,9 @@ returns-clause-at c =
     λ p h.
     let er : spot_of c.in_ok-node.node ≡ target_spot p.pending c.args.target = c.in_ok-node.ensures.spot ∙ ap (λ (z : List Act). target_spot z c.args.target) (sym c.as_slice-pending.ensures ∙ sym pe ∙ ap (λ (s : Spot). s.pending) (same_Some (spot_of x) p (sym at ∙ h))) in
     added_at nodes c.add.new.nodes.items spots (target_spot p.pending c.args.target) c.len-n.result c.in_ok-node.node es c.in_ok-add.ensures.nodes er (grind (arith, c.len-n.ensures))
+
+pub add-requires-clause-link : goal.add-requires-clause-link
+add-requires-clause-link c =
+    let heads = c.self.inside.index.heads.items in
+    let el : c.len.result ≡ length heads = grind (arith, c.len.ensures) in
+    c.index-link.ensures ∙ get_or_default heads c.bucket_by-bucket.result c.index-link.result.now 0 (let b = c.bucket_by-bucket.ensures.within in omega arith)
