@@ -41,6 +41,7 @@ impl Model for Spelling {
 }
 
 /// The number of a target, where the end has the number `last`.
+#[inline(always)]
 pub(crate) fn settled_number(last: u32, target: Option<u32>) -> u32
     ensures { result ≡ settled_target last target }
 {
@@ -67,16 +68,35 @@ pub(crate) fn points(alloc: Global, drafts: &[Draft], last: u32) -> Result<Vec<P
     Ok(points)
 }
 
+// An arm, where the end has the number `last`.
+#[inline(always)]
+fn settled_arm(last: u32, arm: DraftArm) -> Arm
+    ensures { result ≡ settled_arm last arm }
+{
+    Arm {
+        label: arm.label,
+        sort: arm.sort,
+        next: settled_number(last, arm.next),
+    }
+}
+
+#[inline(always)]
 fn arms(alloc: Global, drafts: &[DraftArm], last: u32) -> Result<Arms, NoMemory>
+    ensures { IfOk result (λ arms. arms ≡ map (settled_arm last) drafts.now) }
+{
+    match drafts {
+        [arm] => Ok(Arms::of_one(alloc, settled_arm(last, *arm))),
+        _ => several_arms(alloc, drafts, last),
+    }
+}
+
+#[inline(never)]
+fn several_arms(alloc: Global, drafts: &[DraftArm], last: u32) -> Result<Arms, NoMemory>
     ensures { IfOk result (λ arms. arms ≡ map (settled_arm last) drafts.now) }
 {
     let mut arms = Arms::new(alloc);
     for arm in drafts {
-        arms.push(Arm {
-            label: arm.label,
-            sort: arm.sort,
-            next: settled_number(last, arm.next),
-        })?;
+        arms.push(settled_arm(last, *arm))?;
     }
     Ok(arms)
 }
