@@ -13,10 +13,10 @@ use Rattle.rs_search.specs.Turns.{owing_by}
 use Rattle.rs_derive.specs.Data.{DNode_data}
 use Rattle.rs_derive.specs.Derivations.{spot_of}
 use Rattle.rs_derive.specs.Moves.{Spot}
-use Rattle.rs_search.specs.Buckets.{acts_code, bucket_of, codes_of}
+use Rattle.rs_search.specs.Buckets.{acts_code, bucket_by, bucket_of, codes_of}
 use Rattle.rs_graph.specs.Discovery.{Adds}
 use Rattle.rs_graph.specs.Lists.{Among}
-use Rattle.rs_graph.proofs.Growth.{push_new, reads_at}
+use Rattle.rs_graph.proofs.Growth.{at_short, push_new, reads_at, take_on}
 use Rattle.rs_search.specs.Index.{AreChained, Chained}
 use Rattle.rs_search.specs.Nodes.{AreNodes, node_of, places_of}
 use Rattle.rs_search.specs.Table.{IsTable, codes_in, links_of, nexts_of, ranks_of, spots_of}
@@ -207,3 +207,24 @@ pub owing_one : (kind : Kind) (peer : Role) (arms : List Arm) (d : Arm) (t : Tar
 owing_one kind peer arms d t x p some few e q =
     ap (λ (z : Spot). z ∷ []) (ap (λ (z : Spot). target_spot z.pending t) (sym q) ∙ e ∙ ap (λ (z : Spot). owing_by kind z peer (get_or arms 0 d)) q)
     ∙ ap (λ (z : List Arm). map (λ b. owing_by kind p peer b) z) (sym (one_item arms d some few))
+
+-- one spot more is filed again
+pub refiled : (nodes : List DNode_data) (entries : List Entry) (heads : List ℕ) (buckets number bucket head : ℕ) (node : DNode_data) (entry new : Entry) → slice_get nodes number ≡ Some node → slice_get entries number ≡ Some entry
+    → codes_in entries ≡ codes_of (spots_of nodes) → bucket ≡ bucket_by buckets entry.code node.state node.above → bucket < length heads → head ≡ get_or heads bucket 0 → new.link ≡ head
+    → AreChained (bucket_of buckets) (take number (spots_of nodes)) heads (take number (links_of entries))
+    → AreChained (bucket_of buckets) (take (number + 1) (spots_of nodes)) (set heads bucket (number + 1)) (take (number + 1) (links_of (set entries number new)))
+refiled nodes entries heads buckets number bucket head node entry new gn ge coded eb lt eh el a =
+    let p = spot_of node in
+    let b : bucket ≡ bucket_of buckets p = eb ∙ ap (λ (z : ℕ). bucket_by buckets z node.state node.above) (code_at nodes entries number node entry coded gn ge) in
+    let sn = at_short nodes number node gn in
+    let se = at_short entries number entry ge in
+    let long : number ≡ length (take number (spots_of nodes)) = sym (take_long (spots_of nodes) number (let l = length-map nodes spot_of in omega arith)) in
+    let links : take (number + 1) (links_of (set entries number new)) ≡ take number (links_of entries) ++ head ∷ [] =
+    ap (take (number + 1)) (map-set (λ (e : Entry). e.link) entries number new) ∙ take_set (links_of entries) number new.link (let l = length-map entries (λ (e : Entry). e.link) in omega arith)
+    ∙ ap (λ (z : ℕ). take number (links_of entries) ++ z ∷ []) el in
+    subst (λ (z : List Spot). AreChained (bucket_of buckets) z (set heads bucket (number + 1)) (take (number + 1) (links_of (set entries number new)))) (sym (take_on (spots_of nodes) number p (map_get spot_of nodes number node gn)))
+    (chained_push (bucket_of buckets) (take number (spots_of nodes)) heads (take number (links_of entries)) (set heads bucket (number + 1)) (take (number + 1) (links_of (set entries number new))) p bucket head number b lt long eh links refl a)
+
+-- the codes stay
+pub same_codes : (entries : List Entry) (k : ℕ) (old new : Entry) → old ≡ get_or entries k old → new.code ≡ old.code → codes_in (set entries k new) ≡ codes_in entries
+same_codes entries k old new e h = same_results (λ (x : Entry). x.code) entries k new old (h ∙ ap (λ (x : Entry). x.code) e)

@@ -1,5 +1,5 @@
 //! The candidates: the spots that are reached within the bound, numbered in order of first sight.
-ghost use Rattle.std.specs.Prelude.{◌≡◌, ◌<◌, ◌≤◌, ◌+◌, ◌^◌, [], ◌∷◌, ◌++◌, List, ℕ, OnOk, OnErr, IfOk, IfErr, IfSome, length, map, slice_get, slice_index_or, Some, ◌||◌};
+ghost use Rattle.std.specs.Prelude.{◌*◌, ◌≡◌, ◌<◌, ◌≤◌, ◌+◌, ◌^◌, [], ◌∷◌, ◌++◌, List, ℕ, OnOk, OnErr, IfOk, IfErr, IfSome, length, map, slice_get, slice_index_or, Some, ◌||◌};
 ghost use Rattle.std.specs.List.{list_any};
 ghost use Rattle.rs_derive.specs.Checks.{target_spot};
 ghost use Rattle.rs_derive.specs.Derivations.{IsProper, spot_of};
@@ -394,12 +394,20 @@ fn first_room(sub: &Machine, above: &Machine) -> usize
     pairs.min(MOST_CANDIDATES) + 16
 }
 
-// How many buckets there are: one for two pairs of states, as far as these are few, and some for each state.
-fn bucket_count(sub: &Machine, above: &Machine) -> usize
+// How many buckets there are at first: some for each state.
+fn few_buckets(sub: &Machine, above: &Machine) -> usize
+    ensures some { 0 < result }
+    ensures few { result ≤ MOST_STATES * 4 + 1 }
+{
+    (state_count(sub) + state_count(above)) * 2 + 1
+}
+
+// How many there are once the candidates are more: one for two pairs of states, as far as these are few.
+fn many_buckets(sub: &Machine, above: &Machine) -> usize
     ensures some { 0 < result }
     ensures few { result < 2 ^ 32 }
 {
-    first_room(sub, above) / 2 + (state_count(sub) + state_count(above)) * 4 + 1
+    first_room(sub, above) / 2 + few_buckets(sub, above)
 }
 
 /// The candidates within the bound, if they number no more than the limit.
@@ -424,13 +432,15 @@ pub fn find_all(
     ensures large { IfErr result (λ e. e ≡ TooLarge → MoreThan limit (nexts_within sub.now above.now bound) (start_spot sub.now above.now)) }
 {
     let room = first_room(sub, above);
-    let buckets = bucket_count(sub, above);
-    let mut table = SpotTable::new(alloc, sub.start, above.start, buckets, room)?;
+    let few = few_buckets(sub, above);
+    let many = many_buckets(sub, above);
+    let mut table = SpotTable::new(alloc, sub.start, above.start, few, room)?;
     let mut anys = Vec::with_capacity(alloc, room)?;
     let mut keeps = Vec::with_capacity(alloc, room)?;
     let mut cut = false;
     let mut choosing = false;
     while table.known() < table.len() {
+        table.spread(alloc, many)?;
         let k = table.known();
         let node = table.node(k);
         let arms = arms_in(sub, node.state);

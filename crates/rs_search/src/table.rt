@@ -237,6 +237,34 @@ fn add(
     Ok(())
 }
 
+// The heads of the chains of all nodes in so many buckets; the links are made anew.
+fn refiled(
+    alloc: Global,
+    nodes: &[DNode],
+    entries: &mut Vec<Entry>,
+    buckets: usize,
+) -> Result<Vec<u32>, NoMemory>
+    requires some { 0 < buckets }
+    requires few { buckets < 2 ^ 32 }
+    requires fits { length nodes.now < 2 ^ 32 }
+    requires coded { codes_in entries.old.items ≡ codes_of (spots_of nodes.now) }
+    ensures codes { codes_in entries.new.items ≡ codes_in entries.old.items }
+    ensures size { IfOk result (λ heads. length heads.items ≡ buckets) }
+    ensures chained { IfOk result (λ heads. AreChained (bucket_of buckets) (spots_of nodes.now) heads.items (links_of entries.new.items)) }
+    ensures same { OnErr result (entries.new.items ≡ entries.old.items) }
+{
+    let mut heads = empty_heads(alloc, buckets)?;
+    for number in 0..nodes.len() {
+        let node = &nodes[number];
+        let code = entries[number].code;
+        let bucket = bucket_by(buckets, code, node.state, node.above);
+        let link = heads[bucket];
+        entries[number] = Entry { code, link };
+        heads[bucket] = number as u32 + 1;
+    }
+    Ok(heads)
+}
+
 impl SpotTable {
     ghost use Rattle.std.specs.Prelude.{◌≡◌, ◌<◌, ◌≤◌, ◌+◌, ◌^◌, [], ◌∷◌, ◌++◌, OnOk, IfOk, IfErr, length, slice_get, slice_set, Some};
     ghost use Rattle.rs_derive.specs.Derivations.{spot_of};
@@ -372,6 +400,37 @@ impl SpotTable {
             return Err(Fault::TooLarge);
         }
         Ok(n as u32)
+    }
+
+    /// Files the spots in so many buckets, once there are more of them than buckets.
+    #[inline(always)]
+    pub fn spread(&mut self, alloc: Global, buckets: usize) -> Result<(), NoMemory>
+        requires some { 0 < buckets }
+        requires few { buckets < 2 ^ 32 }
+        requires fits { length self.old.spots < 2 ^ 32 }
+        ensures spots { self.new.spots ≡ self.old.spots }
+        ensures rows { self.new.rows ≡ self.old.rows }
+        ensures ranks { self.new.ranks ≡ self.old.ranks }
+    {
+        let size = self.index.heads.len();
+        if size < self.nodes.len() && size < buckets {
+            return self.refile(alloc, buckets);
+        }
+        Ok(())
+    }
+
+    #[inline(never)]
+    fn refile(&mut self, alloc: Global, buckets: usize) -> Result<(), NoMemory>
+        requires some { 0 < buckets }
+        requires few { buckets < 2 ^ 32 }
+        requires fits { length self.old.spots < 2 ^ 32 }
+        ensures spots { self.new.spots ≡ self.old.spots }
+        ensures rows { self.new.rows ≡ self.old.rows }
+        ensures ranks { self.new.ranks ≡ self.old.ranks }
+    {
+        let heads = refiled(alloc, &self.nodes, &mut self.index.entries, buckets)?;
+        self.index.heads = heads;
+        Ok(())
     }
 
     /// Notes what the first spot of which it isn't known leads to.
