@@ -22,7 +22,7 @@ pub enum ReadStop {
 }
 
 // The most bytes that the first turn asks for.
-const FIRST_PIECE: usize = 2_048;
+const FIRST_PIECE: usize = 1_024;
 
 // The most bytes that any turn asks for.
 const PIECE: usize = 65_536;

@@ -136,7 +136,7 @@ fn no_turn_is_idle_or_asks_past_the_limit(rt: HostRuntime) -> Result<(), Fail> {
 
 #[test]
 fn turns_that_give_all_lead_to_wider_ones(rt: HostRuntime) -> Result<(), Fail> {
-    for (piece, calls, reach) in [(10_000, 4, 18_192), (2_000, 6, 12_048)] {
+    for (piece, calls, reach) in [(10_000, 5, 18_192), (2_000, 7, 12_048)] {
         let mut source = Watched {
             piece,
             bytes: 10_000,

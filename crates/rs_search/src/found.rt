@@ -397,9 +397,9 @@ fn first_room(sub: &Machine, above: &Machine) -> usize
 // How many buckets there are at first: some for each state.
 fn few_buckets(sub: &Machine, above: &Machine) -> usize
     ensures some { 0 < result }
-    ensures few { result ≤ MOST_STATES * 4 + 1 }
+    ensures few { result ≤ MOST_STATES * 2 + 1 }
 {
-    (state_count(sub) + state_count(above)) * 2 + 1
+    state_count(sub) + state_count(above) + 1
 }
 
 // How many there are once the candidates are more: one for two pairs of states, as far as these are few.

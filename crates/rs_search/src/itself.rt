@@ -90,13 +90,10 @@ impl Position {
 fn pending_of(alloc: Global, owed: Option<Act>) -> Result<Pending, NoMemory>
     ensures { IfOk result (λ p. p ≡ owed_list owed) }
 {
-    let mut pending = Pending::new(alloc);
+    let none = Pending::new(alloc);
     match owed {
-        None => Ok(pending),
-        Some(act) => {
-            pending.push(act)?;
-            Ok(pending)
-        }
+        None => Ok(none),
+        Some(act) => none.copy_with(alloc, act),
     }
 }
 
@@ -147,14 +144,33 @@ fn come_to_one(
     ensures placed { OnOk result (ArePlaced found.new.items places.new.items) }
     ensures size { OnOk result (length places.new.items ≡ length places.old.items) }
 {
-    let mut row = Row::new(alloc);
     let n = come_to(found, places, state)?;
-    row.push(n)?;
-    Ok(row)
+    Ok(Row::of_one(alloc, n))
 }
 
 // The numbers of the spots behind arms that both send.
 fn come_to_all(
+    alloc: Global,
+    found: &mut Vec<Position>,
+    places: &mut Vec<Option<u32>>,
+    arms: &[Arm],
+) -> Result<Row, Fault>
+    requires there { (i : ℕ) (a : Arm) → slice_get arms.now i ≡ Some a → a.next < length places.old.items }
+    requires few { length found.old.items ≤ MOST_CANDIDATES }
+    requires placed { ArePlaced found.old.items places.old.items }
+    ensures named { IfOk result (λ row. AreNamed found.old.items (map (λ a. even a.next) arms.now) found.new.items row) }
+    ensures few { OnOk result (length found.new.items ≤ MOST_CANDIDATES) }
+    ensures placed { OnOk result (ArePlaced found.new.items places.new.items) }
+    ensures size { OnOk result (length places.new.items ≡ length places.old.items) }
+{
+    match arms {
+        [arm] => come_to_one(alloc, found, places, arm.next),
+        _ => come_to_each(alloc, found, places, arms),
+    }
+}
+
+// The same, arm by arm.
+fn come_to_each(
     alloc: Global,
     found: &mut Vec<Position>,
     places: &mut Vec<Option<u32>>,
@@ -176,8 +192,51 @@ fn come_to_all(
     Ok(row)
 }
 
+// The number of the spot behind an arm by which the projection receives, which is new.
+fn owe_one(
+    alloc: Global,
+    found: &mut Vec<Position>,
+    state: u32,
+    peer: Role,
+    arm: Arm,
+) -> Result<Row, Fault>
+    requires fresh { (p : Spot) → Among found.old.items p → p.state ≡ state → p.pending ≡ [] }
+    requires few { length found.old.items ≤ MOST_CANDIDATES }
+    ensures named { IfOk result (λ row. AreNamed found.old.items (owing_receive (even state) peer arm ∷ []) found.new.items row) }
+    ensures few { OnOk result (length found.new.items ≤ MOST_CANDIDATES) }
+    ensures placed { OnOk result ((places : List (Option ℕ)) → ArePlaced found.old.items places → ArePlaced found.new.items places) }
+{
+    let n = found.len();
+    if n == MOST_CANDIDATES {
+        return Err(Fault::TooLarge);
+    }
+    found.push(Position::owing(state, peer, arm))?;
+    Ok(Row::of_one(alloc, n as u32))
+}
+
 // The numbers of the spots behind arms by which the projection receives, which are all new.
 fn owe_all(
+    alloc: Global,
+    found: &mut Vec<Position>,
+    state: u32,
+    peer: Role,
+    arms: &[Arm],
+) -> Result<Row, Fault>
+    requires once { HasLabelsOnce arms.now }
+    requires fresh { (p : Spot) → Among found.old.items p → p.state ≡ state → p.pending ≡ [] }
+    requires few { length found.old.items ≤ MOST_CANDIDATES }
+    ensures named { IfOk result (λ row. AreNamed found.old.items (map (λ b. owing_receive (even state) peer b) arms.now) found.new.items row) }
+    ensures few { OnOk result (length found.new.items ≤ MOST_CANDIDATES) }
+    ensures placed { OnOk result ((places : List (Option ℕ)) → ArePlaced found.old.items places → ArePlaced found.new.items places) }
+{
+    match arms {
+        [arm] => owe_one(alloc, found, state, peer, *arm),
+        _ => owe_each(alloc, found, state, peer, arms),
+    }
+}
+
+// The same, arm by arm.
+fn owe_each(
     alloc: Global,
     found: &mut Vec<Position>,
     state: u32,

@@ -1,35 +1,17 @@
-use Rattle.std.proofs.Common.{arith, ◌≡◌, List, map, slice_index_or, subst, sym, ◌∙◌, refl, take, take_all}
+use Rattle.std.proofs.Common.{◌≡◌, List, map, IfOk, ap, sym, subst}
 use Rattle.rs_model.specs.declared.graph.Arm.{Arm}
 use Rattle.rs_model.specs.declared.values.Sort.TheVariants as sort
 use Rattle.rs_derive.specs.Moves.{Spot}
 use Rattle.rs_search.specs.Itself.{AreNamed, even}
-use Rattle.rs_search.proofs.Alike.{arm_reads, map_more, named_none, named_push}
+use Rattle.rs_search.proofs.Alike.{arm_reads}
+use Rattle.rs_search.proofs.Filing.{one_item}
 use Rattle.rs_search.proofs.itself.come_to_all.Goals as goal
 
-pub loop-i-init : goal.loop-i-init
-loop-i-init c = (rw c.new-row.ensures (named_none c.args.found.now.items), c.requires.few, c.requires.placed, refl)
+pub come_to_one-requires-clause-there : goal.come_to_one-requires-clause-there
+come_to_one-requires-clause-there c = c.requires.there 0 _ (arm_reads c.args.arms.now 0 (record { label = record { 0 = 0 }; sort = sort.Unit; next = 0 }) c.in-len1.len_at_least)
 
-pub come_to-requires-clause-there : goal.come_to-requires-clause-there
-come_to-requires-clause-there c =
-    let none : Arm = record { label = record { 0 = 0 }; sort = sort.Unit; next = 0 } in
-    let h = c.requires.there c.loop-i.i (slice_index_or c.args.arms.now c.loop-i.i none) (arm_reads c.args.arms.now c.loop-i.i none c.loop-i-test.true) in
-    let s = c.loop-i.invariant.3 in omega arith
-
-pub loop-i-preserved : goal.loop-i-preserved
-loop-i-preserved c =
-    let none : Arm = record { label = record { 0 = 0 }; sort = sort.Unit; next = 0 } in
-    let e = c.in_ok-n.ensures in
-    let i = c.loop-i.invariant in
-    let h = arm_reads c.args.arms.now c.loop-i.i none c.loop-i-test.true in
-    let m = map_more (λ (a : Arm). even a.next) c.args.arms.now c.loop-i.i (slice_index_or c.args.arms.now c.loop-i.i none) h in (
-      subst (λ (z : List Spot). AreNamed c.args.found.now.items z c.come_to.new.found.items c.push.new.self) (sym m)
-          (named_push c.args.found.now.items _ c.loop-i.found.items c.come_to.new.found.items _ c.in_ok-n.n c.loop-i.row c.push.new.self i.0 e.adds e.at e.old e.fresh e.longer c.in_ok-push.ensures.ok),
-      e.few,
-      e.placed,
-      e.size ∙ i.3,
-    )
-
-pub returns-clause-named : goal.returns-clause-named
-returns-clause-named c =
-    let all : take c.loop-i.i c.args.arms.now ≡ c.args.arms.now = take_all c.loop-i.i c.args.arms.now (grind arith) in
-    subst (λ (z : List Arm). AreNamed c.args.found.now.items (map (λ (a : Arm). even a.next) z) c.loop-i.found.items c.loop-i.row) all c.loop-i.invariant.0
+pub returns-in-len1-clause-named : goal.returns-in-len1-clause-named
+returns-in-len1-clause-named c =
+    let d : Arm = record { label = record { 0 = 0 }; sort = sort.Unit; next = 0 } in
+    subst (λ (z : List Spot). IfOk c.come_to_one.result (λ row. AreNamed c.args.found.now.items z c.come_to_one.new.found.items row))
+    (ap (λ (z : List Arm). map (λ (a : Arm). even a.next) z) (sym (one_item c.args.arms.now d c.in-len1.len_at_least c.in-len1.len_below))) c.come_to_one.ensures.named

@@ -1,39 +1,13 @@
-use Rattle.std.proofs.Common.{arith, inr, ◌≡◌, ◌≤◌, ◌+◌, ◌++◌, ◌∷◌, [], ◌∙◌, List, map, take, length, length-append, slice_get, slice_index_or, Some, subst, sym, ap, append-nil, append_assoc, take_all}
+use Rattle.std.proofs.Common.{◌≡◌, List, map, IfOk, ap, sym, subst}
 use Rattle.rs_model.specs.declared.graph.Arm.{Arm}
 use Rattle.rs_model.specs.declared.values.Sort.TheVariants as sort
 use Rattle.rs_derive.specs.Moves.{Spot, owing_receive}
-use Rattle.rs_graph.proofs.Growth.{push_new}
-use Rattle.rs_graph.specs.Lists.{Among}
 use Rattle.rs_search.specs.Itself.{AreNamed, even}
-use Rattle.rs_search.proofs.Alike.{arm_reads, map_more, named_none, named_push, not_yet, placed_owing}
+use Rattle.rs_search.proofs.Filing.{one_item}
 use Rattle.rs_search.proofs.itself.owe_all.Goals as goal
 
-pub loop-i-init : goal.loop-i-init
-loop-i-init c = (rw c.new-row.ensures (named_none c.args.found.now.items), c.requires.few, sym (append-nil c.args.found.now.items), λ places p. p)
-
-pub loop-i-preserved : goal.loop-i-preserved
-loop-i-preserved c =
-    let none : Arm = record { label = record { 0 = 0 }; sort = sort.Unit; next = 0 } in
-    let i = c.loop-i.invariant in
-    let f : Arm → Spot = λ (b : Arm). owing_receive (even c.args.state) c.args.peer b in
-    let b : Arm = slice_index_or c.args.arms.now c.loop-i.i none in
-    let h : slice_get c.args.arms.now c.loop-i.i ≡ Some b = arm_reads c.args.arms.now c.loop-i.i none c.loop-i-test.true in
-    let m : map f (take (c.loop-i.i + 1) c.args.arms.now) ≡ map f (take c.loop-i.i c.args.arms.now) ++ (f b ∷ []) = map_more f c.args.arms.now c.loop-i.i b h in
-    let p : c.push.new.self.items ≡ c.loop-i.found.items ++ (f b ∷ []) = c.in_ok-push.ensures.items ∙ ap (λ (z : Spot). c.loop-i.found.items ++ (z ∷ [])) c.owing.ensures in
-    let l : c.len-n.result ≡ length c.loop-i.found.items = grind (arith, c.len-n.ensures) in
-    let more : length c.push.new.self.items ≡ length c.loop-i.found.items + 1 = ap (λ (z : List Spot). length z) p ∙ length-append c.loop-i.found.items (f b ∷ []) in
-    let new : Among c.loop-i.found.items (f b) → ⊥ = λ a. not_yet c.args.found.now.items c.args.state c.args.peer c.args.arms.now c.loop-i.i b c.requires.once c.requires.fresh h (subst (λ (z : List Spot). Among z (f b)) i.2 a) in
-    let at' : slice_get c.push.new.self.items c.len-n.result ≡ Some (f b) = rw (p, l) (push_new c.loop-i.found.items (f b)) in
-    let room : length c.push.new.self.items ≤ 65536 = (let a = i.1 in let ne = c.if-n-eq-MOST_CANDIDATES.false in grind arith) in (
-      subst (λ (z : List Spot). AreNamed c.args.found.now.items z c.push.new.self.items c.push-in-loop-i.new.self) (sym m)
-          (named_push c.args.found.now.items (map f (take c.loop-i.i c.args.arms.now)) c.loop-i.found.items c.push.new.self.items (f b) c.len-n.result c.loop-i.row c.push-in-loop-i.new.self i.0 (inr (new, p)) at'
-          (λ q. let s : length c.push.new.self.items ≡ length c.loop-i.found.items = ap (λ (z : List Spot). length z) q in let bad : ⊥ = omega arith in absurd bad) (λ q. l) (omega arith) c.in_ok-push-2.ensures.ok),
-      room,
-      p ∙ ap (λ (z : List Spot). z ++ (f b ∷ [])) i.2 ∙ append_assoc c.args.found.now.items (map f (take c.loop-i.i c.args.arms.now)) (f b ∷ []) ∙ ap (λ (z : List Spot). c.args.found.now.items ++ z) (sym m),
-      λ places q. placed_owing c.loop-i.found.items c.push.new.self.items places (f b) p (λ z. absurd (cc (z))) (i.3 places q),
-    )
-
-pub returns-clause-named : goal.returns-clause-named
-returns-clause-named c =
-    let all : take c.loop-i.i c.args.arms.now ≡ c.args.arms.now = take_all c.loop-i.i c.args.arms.now (grind arith) in
-    subst (λ (z : List Arm). AreNamed c.args.found.now.items (map (λ (b : Arm). owing_receive (even c.args.state) c.args.peer b) z) c.loop-i.found.items c.loop-i.row) all c.loop-i.invariant.0
+pub returns-in-len1-clause-named : goal.returns-in-len1-clause-named
+returns-in-len1-clause-named c =
+    let d : Arm = record { label = record { 0 = 0 }; sort = sort.Unit; next = 0 } in
+    subst (λ (z : List Spot). IfOk c.owe_one.result (λ row. AreNamed c.args.found.now.items z c.owe_one.new.found.items row))
+    (ap (λ (z : List Arm). map (λ (b : Arm). owing_receive (even c.args.state) c.args.peer b) z) (sym (one_item c.args.arms.now d c.in-len1.len_at_least c.in-len1.len_below))) c.owe_one.ensures.named

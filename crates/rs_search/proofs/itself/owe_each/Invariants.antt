@@ -3,7 +3,7 @@ use Rattle.rs_model.specs.declared.limits.TheConstants.{MOST_CANDIDATES}
 use Rattle.rs_model.specs.declared.graph.Arm.{Arm}
 use Rattle.rs_derive.specs.Moves.{owing_receive}
 use Rattle.rs_search.specs.Itself.{AreNamed, ArePlaced, even}
-use Rattle.rs_search.proofs.itself.owe_all.Given as goal
+use Rattle.rs_search.proofs.itself.owe_each.Given as goal
 
 abbrev pub invariant-loop-i : goal.invariant-loop-i
 invariant-loop-i l = AreNamed l.fn.found.items (map (λ (b : Arm). owing_receive (even l.fn.state) l.fn.peer b) (take l.i l.arms)) l.found.items l.row × (length l.found.items ≤ MOST_CANDIDATES)
