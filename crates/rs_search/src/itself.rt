@@ -122,7 +122,8 @@ fn come_to(
             if n == MOST_CANDIDATES {
                 return Err(Fault::TooLarge);
             }
-            found.push(Position::even(state))?;
+            found.reserve(1)?;
+            found.push_reserved(Position::even(state));
             places[state as usize] = Some(n as u32);
             Ok(n as u32)
         }
@@ -210,7 +211,8 @@ fn owe_one(
     if n == MOST_CANDIDATES {
         return Err(Fault::TooLarge);
     }
-    found.push(Position::owing(state, peer, arm))?;
+    found.reserve(1)?;
+    found.push_reserved(Position::owing(state, peer, arm));
     Ok(Row::of_one(alloc, n as u32))
 }
 
