@@ -31,8 +31,9 @@ fn act_code(act: Act) -> u64
     ensures small { result < 2 ^ 26 }
 {
     match act {
-        Act::Puts { peer, label, .. } => u64::from(label.0) * 512 + u64::from(peer.0) * 2,
-        Act::Takes { peer, label, .. } => u64::from(label.0) * 512 + u64::from(peer.0) * 2 + 1,
+        Act::Puts { peer, label, .. } | Act::Takes { peer, label, .. } => {
+            u64::from(label.0) * 512 + u64::from(peer.0)
+        }
     }
 }
 
