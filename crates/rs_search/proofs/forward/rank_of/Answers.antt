@@ -1,4 +1,4 @@
-use Rattle.std.proofs.Common.{◌≡◌, ◌<◌, ◌∙◌, [], ℕ, List, slice_index_or, IfSome, true, Bool, subst, sym, ap}
+use Rattle.std.proofs.Common.{◌≡◌, ◌<◌, ◌∙◌, [], ℕ, List, slice_index_or, IfSome, Bool, subst, sym}
 use Rattle.rs_graph.specs.Lists.{Among}
 use Rattle.rs_graph.specs.Ranks.{RankFits}
 use Rattle.rs_graph.proofs.Buckets.{got}

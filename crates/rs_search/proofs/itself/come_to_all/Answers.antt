@@ -1,4 +1,4 @@
-use Rattle.std.proofs.Common.{◌≡◌, List, map, IfOk, ap, sym, subst}
+use Rattle.std.proofs.Common.{List, map, IfOk, ap, sym, subst}
 use Rattle.rs_model.specs.declared.graph.Arm.{Arm}
 use Rattle.rs_model.specs.declared.values.Sort.TheVariants as sort
 use Rattle.rs_derive.specs.Moves.{Spot}

@@ -1,4 +1,4 @@
-use Rattle.std.proofs.Common.{◌≡◌, ◌≤◌, length, take}
+use Rattle.std.proofs.Common.{◌≡◌, length, take}
 use Rattle.rs_search.specs.Buckets.{bucket_of}
 use Rattle.rs_search.specs.Index.{AreChained}
 use Rattle.rs_search.specs.Table.{codes_in, links_of, spots_of}
