@@ -209,11 +209,11 @@ owing_one kind peer arms d t x p some few e q =
     ∙ ap (λ (z : List Arm). map (λ b. owing_by kind p peer b) z) (sym (one_item arms d some few))
 
 -- one spot more is filed again
-pub refiled : (nodes : List DNode_data) (entries : List Entry) (heads : List ℕ) (buckets number bucket head : ℕ) (node : DNode_data) (entry new : Entry) → slice_get nodes number ≡ Some node → slice_get entries number ≡ Some entry
+pub files_one_more : (nodes : List DNode_data) (entries : List Entry) (heads : List ℕ) (buckets number bucket head : ℕ) (node : DNode_data) (entry new : Entry) → slice_get nodes number ≡ Some node → slice_get entries number ≡ Some entry
     → codes_in entries ≡ codes_of (spots_of nodes) → bucket ≡ bucket_by buckets entry.code node.state node.above → bucket < length heads → head ≡ get_or heads bucket 0 → new.link ≡ head
     → AreChained (bucket_of buckets) (take number (spots_of nodes)) heads (take number (links_of entries))
     → AreChained (bucket_of buckets) (take (number + 1) (spots_of nodes)) (set heads bucket (number + 1)) (take (number + 1) (links_of (set entries number new)))
-refiled nodes entries heads buckets number bucket head node entry new gn ge coded eb lt eh el a =
+files_one_more nodes entries heads buckets number bucket head node entry new gn ge coded eb lt eh el a =
     let p = spot_of node in
     let b : bucket ≡ bucket_of buckets p = eb ∙ ap (λ (z : ℕ). bucket_by buckets z node.state node.above) (code_at nodes entries number node entry coded gn ge) in
     let sn = at_short nodes number node gn in

@@ -239,7 +239,7 @@ fn add(
 }
 
 // The heads of the chains of all nodes in so many buckets; the links are made anew.
-fn refiled(
+fn new_heads(
     alloc: Global,
     nodes: &[DNode],
     entries: &mut Vec<Entry>,
@@ -429,7 +429,7 @@ impl SpotTable {
         ensures rows { self.new.rows ≡ self.old.rows }
         ensures ranks { self.new.ranks ≡ self.old.ranks }
     {
-        let heads = refiled(alloc, &self.nodes, &mut self.index.entries, buckets)?;
+        let heads = new_heads(alloc, &self.nodes, &mut self.index.entries, buckets)?;
         self.index.heads = heads;
         Ok(())
     }

@@ -7,8 +7,8 @@ use Rattle.rs_graph.proofs.Growth.{reads_at}
 use Rattle.rs_search.specs.Buckets.{acts_code, bucket_by, codes_of}
 use Rattle.rs_search.specs.Table.{codes_in, spots_of}
 use Rattle.rs_search.specs.declared.table.Entry.{Entry}
-use Rattle.rs_search.proofs.Filing.{refiled, same_codes}
-use Rattle.rs_search.proofs.table.refiled.Goals as goal
+use Rattle.rs_search.proofs.Filing.{files_one_more, same_codes}
+use Rattle.rs_search.proofs.table.new_heads.Goals as goal
 
 pub loop-number-preserved : goal.loop-number-preserved
 loop-number-preserved c =
@@ -30,4 +30,4 @@ loop-number-preserved c =
     let eb : bucket ≡ bucket_by c.args.buckets entry.code node.state node.above = c.bucket_by-bucket.ensures.is ∙ ap (λ (z : DNode_data). bucket_by c.args.buckets entry.code z.state z.above) c.node.view_is in
     let lt : bucket < length heads = (let w = c.bucket_by-bucket.ensures.within in let s = i.1 in omega arith) in
     let eh = c.index-link.ensures ∙ get_or_default heads bucket link 0 lt in
-    (same_codes entries n entry new c.index.ensures refl ∙ i.0, length-set heads bucket (n + 1) ∙ i.1, refiled nodes entries heads c.args.buckets n bucket link node entry new gn ge coded eb lt eh refl i.2)
+    (same_codes entries n entry new c.index.ensures refl ∙ i.0, length-set heads bucket (n + 1) ∙ i.1, files_one_more nodes entries heads c.args.buckets n bucket link node entry new gn ge coded eb lt eh refl i.2)

@@ -2,7 +2,7 @@ use Rattle.std.proofs.Common.{◌≡◌, length, take}
 use Rattle.rs_search.specs.Buckets.{bucket_of}
 use Rattle.rs_search.specs.Index.{AreChained}
 use Rattle.rs_search.specs.Table.{codes_in, links_of, spots_of}
-use Rattle.rs_search.proofs.table.refiled.Given as goal
+use Rattle.rs_search.proofs.table.new_heads.Given as goal
 
 abbrev pub invariant-loop-number : goal.invariant-loop-number
 invariant-loop-number l = (codes_in l.entries.items ≡ codes_in l.fn.entries.items) × (length l.heads.items ≡ l.buckets)
