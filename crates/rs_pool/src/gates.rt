@@ -2,10 +2,10 @@ use rs_model::Role;
 
 /// What is called round each turn of a worker, by that worker.
 pub trait Gate {
-    /// The worker with that number has taken the role's task, and makes a turn with it next.
+    /// The worker with that number has the role's task, and makes a turn with it next.
     fn before_turn(&self, worker: u8, role: Role);
 
-    /// The worker has made the turn, and gives the task back next.
+    /// The worker has made the turn. It makes another with the task, or gives it back.
     fn after_turn(&self, worker: u8, role: Role);
 }
 

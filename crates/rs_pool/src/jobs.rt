@@ -53,14 +53,6 @@ fn progress_after(turn: &Turn) -> Progress
     }
 }
 
-/// Whether a turn changed something.
-pub(crate) fn moves(turn: &Turn) -> bool {
-    match turn {
-        Turn::Waits(_) => false,
-        _ => true,
-    }
-}
-
 /// What is counted for a job.
 pub(crate) fn amount_of(progress: Progress) -> u64
     ensures { result ≡ amount_of progress }

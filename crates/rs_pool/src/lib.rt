@@ -1,5 +1,5 @@
 //! Runs of accepted sessions by several workers. The tasks of a session lie on a bench, an atomic table; each worker is a thread
-//! that takes a task, makes one turn with it, and gives it back, until all have ended or one has stopped.
+//! that takes a task, makes turns with it as long as it moves, and gives it back, until all have ended or one has stopped.
 #![tactic(auto)]
 
 mod bench;

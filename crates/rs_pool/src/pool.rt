@@ -285,11 +285,12 @@ fn play<R: Threads + Wait + Sync, A: Actor + Send, G: Gate + Sync>(
 /// all roles have ended, or one has made `limit` acts and hasn't ended.
 ///
 /// There is one actor for each role, and the capacity is at least the room of the session. A worker takes the task of some
-/// role, makes one turn with it between the gate's two calls, and gives it back. Who makes which turn isn't said, nor how long
-/// it takes: the call may wait for its workers. If it returns, the outcome is that of the plain run over unbounded queues: all
-/// have ended, with its transcripts and its actors; or the plain run is stopped too, and so is that role wherever all go on as
-/// long as they can. The session is closed, or given up where it stood. The one error is that memory was refused; then the
-/// actors are given up. But for the actors' own calls all memory is taken before the first worker begins.
+/// role, makes turns with it, each between the gate's two calls, and gives it back once it has to wait, is over, or has moved
+/// often enough. Who makes which turn isn't said, nor how long it takes: the call may wait for its workers. If it returns, the
+/// outcome is that of the plain run over unbounded queues: all have ended, with its transcripts and its actors; or the plain run
+/// is stopped too, and so is that role wherever all go on as long as they can. The session is closed, or given up where it
+/// stood. The one error is that memory was refused; then the actors are given up. But for the actors' own calls all memory is
+/// taken before the first worker begins.
 pub fn run_pool<R: Threads + Wait + Sync, A: Actor + Send, G: Gate + Sync>(
     rt: &R,
     alloc: Global,

@@ -1,19 +1,24 @@
 // The workers at the bench.
 ghost use Rattle.std.specs.Prelude.{◌≡◌, ◌+◌, ◌<◌, ◌≤◌, [], All, vec_len, vec_capacity};
 ghost use Rattle.rs_pool.specs.Calls.{HasFinished, IsSeated, SeatRests};
+ghost use Rattle.rs_pool.specs.Jobs.{JobFits};
 
 use crate::bench::{Bench, Desk};
 use crate::gates::Gate;
-use crate::jobs::{amount_of, moves};
+use crate::jobs::{Job, amount_of};
 use crate::plays::StartName;
 use crossbeam_utils::Backoff;
 use rs_core::Actor;
+use rs_exec::Turn;
 use rs_model::Role;
 use rs_session::Session;
 use std::alloc::Global;
 use std::sync::Wait;
 use std::thread;
 use std::thread::Threads;
+
+/// A task that moves makes so many turns at most before it is given back.
+const MOST_TURNS: u32 = 64;
 
 /// A worker's number and its seat.
 #[derive(Drop)]
@@ -23,7 +28,52 @@ pub(crate) struct Chair<A: Actor> {
 }
 
 impl<A: Actor, N: StartName<A>> Bench<A, N> {
-    /// One turn of the role's task, if it can be taken; whether something moved.
+    /// One turn of the role's task, between the gate's two calls.
+    fn turn<G: Gate>(
+        &self,
+        session: &Session,
+        gate: &G,
+        alloc: Global,
+        worker: u8,
+        role: u8,
+        job: &mut Job<A>,
+    ) -> Turn
+        requires session { session.now ≡ N.start.session }
+        requires fits { JobFits A.behaviour N.start role job.old }
+        ensures fits { JobFits A.behaviour N.start role job.new }
+    {
+        gate.before_turn(worker, Role(role));
+        let turn = job.turn(alloc, session);
+        gate.after_turn(worker, Role(role));
+        turn
+    }
+
+    /// Turns of the role's task as long as they move it, and at most so many; whether something moved.
+    fn turns<G: Gate>(
+        &self,
+        session: &Session,
+        gate: &G,
+        alloc: Global,
+        worker: u8,
+        role: u8,
+        job: &mut Job<A>,
+    ) -> bool
+        requires session { session.now ≡ N.start.session }
+        requires fits { JobFits A.behaviour N.start role job.old }
+        ensures fits { JobFits A.behaviour N.start role job.new }
+    {
+        let mut moved = false;
+        for _ in 0..MOST_TURNS {
+            match self.turn(session, gate, alloc, worker, role, job) {
+                Turn::Moved => moved = true,
+                Turn::Waits(_) => return moved,
+                _over => return true,
+            }
+        }
+        moved
+    }
+
+    /// Turns of the role's task, if it can be taken; whether something moved.
     fn serve<G: Gate>(
         &self,
         session: &Session,
@@ -43,12 +93,10 @@ impl<A: Actor, N: StartName<A>> Bench<A, N> {
         match self.claim(desk, role) {
             None => false,
             Some(mut job) => {
-                gate.before_turn(worker, Role(role));
-                let turn = job.turn(alloc, session);
-                gate.after_turn(worker, Role(role));
+                let moved = self.turns(session, gate, alloc, worker, role, &mut job);
                 let amount = amount_of(job.progress);
                 self.settle(desk, role, job, amount);
-                moves(&turn)
+                moved
             }
         }
     }

@@ -1,5 +1,5 @@
 -- The canonical derivation is a derivation that remembers what is owed.
-use Rattle.std.proofs.Common.{◌≡◌, inl, inr, ℕ, ◌<◌, ◌≤◌, List, [], ◌∷◌, length, map, refl, sym, ap, ◌∙◌, subst, arith, zero, suc, Some, None, slice_get}
+use Rattle.std.proofs.Common.{◌≡◌, inl, inr, ℕ, ◌+◌, ◌<◌, ◌≤◌, List, [], ◌∷◌, length, map, refl, sym, ap, ◌∙◌, subst, arith, zero, suc, Some, None, slice_get}
 use Rattle.std.proofs.lemmas.Bool.{cases_lt}
 use Rattle.std.proofs.lemmas.Option.{none-some, same_Some}
 use Rattle.rs_model.specs.Data.{Machine_data}
@@ -37,20 +37,20 @@ new-numbered known after _ (New _ _ ns w) j a b = elim (cases_lt known j) [
   | inr ge ↦ inl (let e : known ≡ j = omega arith in e)
 ]
 
--- .. and so each stands in some row
-new-worked : (k known after : ℕ) (rows : List (List ℕ)) → Worked k known rows after → (j : ℕ) → known ≤ j → j < after → (i : ℕ) × (row : List ℕ) × (slice_get rows i ≡ Some row) × Among row j
-new-worked k known _ _ (AllDone _ _) j a b = let bad : ⊥ = omega arith in absurd bad
-new-worked k known after _ (Next _ _ mid _ row rows h n w) j a b = elim (cases_lt j mid) [
-  | inl lt ↦ (zero, row, refl, new-numbered known mid row n j a lt)
-  | inr ge ↦ (let r = new-worked (suc k) mid after rows w j ge b in (suc r.0, r.1, r.2, r.3))
+-- .. and so each stands in some row before
+pub new_worked : (k known after : ℕ) (rows : List (List ℕ)) → Worked k known rows after → (j : ℕ) → known ≤ j → j < after → (i : ℕ) × (row : List ℕ) × (slice_get rows i ≡ Some row) × Among row j × (k + i < j)
+new_worked k known _ _ (AllDone _ _) j a b = let bad : ⊥ = omega arith in absurd bad
+new_worked k known after _ (Next _ _ mid _ row rows h n w) j a b = elim (cases_lt j mid) [
+  | inl lt ↦ (zero, row, refl, new-numbered known mid row n j a lt, omega arith)
+  | inr ge ↦ (let r = new_worked (suc k) mid after rows w j ge b in (suc r.0, r.1, r.2, r.3, (let l = r.4 in omega arith)))
 ]
 
-named-result : (spots : List Spot) (ns : List ℕ) (rs : List Spot) → Names spots ns rs → (j : ℕ) → Among ns j → (r : Spot) × (slice_get spots j ≡ Some r) × Among rs r
-named-result spots [] [] h j m = absurd m
-named-result spots [] (r ∷ rs) h j m = absurd h
-named-result spots (n ∷ ns) [] h j m = absurd h
-named-result spots (n ∷ ns) (r ∷ rs) h j (inl e) = (r, subst (λ (z : ℕ). slice_get spots z ≡ Some r) e h.0, inl refl)
-named-result spots (n ∷ ns) (r ∷ rs) h j (inr m) = let k = named-result spots ns rs h.1 j m in (k.0, k.1, inr k.2)
+pub named_result : (spots : List Spot) (ns : List ℕ) (rs : List Spot) → Names spots ns rs → (j : ℕ) → Among ns j → (r : Spot) × (slice_get spots j ≡ Some r) × Among rs r
+named_result spots [] [] h j m = absurd m
+named_result spots [] (r ∷ rs) h j m = absurd h
+named_result spots (n ∷ ns) [] h j m = absurd h
+named_result spots (n ∷ ns) (r ∷ rs) h j (inl e) = (r, subst (λ (z : ℕ). slice_get spots z ≡ Some r) e h.0, inl refl)
+named_result spots (n ∷ ns) (r ∷ rs) h j (inr m) = let k = named_result spots ns rs h.1 j m in (k.0, k.1, inr k.2)
 
 -- each node stands at a candidate
 pub nodes_are_candidates : (sub above : Machine_data) (bound : ℕ) (d : Derivation_data) → HasCanonicalNodes sub above bound d → (i : ℕ) (n : DNode_data) → slice_get d.nodes i ≡ Some n → IsCandidate sub above bound (spot_of n)
@@ -58,19 +58,19 @@ nodes_are_candidates sub above bound d c zero n e =
     let s : spot_of n ≡ start_spot sub above = same_Some (spot_of n) (start_spot sub above) (sym (map-at (λ (m : DNode_data). spot_of m) d.nodes zero n e) ∙ c.first) in
     subst (λ (z : Spot). IsCandidate sub above bound z) (sym s) Start
 nodes_are_candidates sub above bound d c (suc i) n e =
-    let w = new-worked 0 1 (length d.nodes) (map (λ (m : DNode_data). m.next) d.nodes) c.order (suc i) (omega arith) (at_short d.nodes (suc i) n e) in
+    let w = new_worked 0 1 (length d.nodes) (map (λ (m : DNode_data). m.next) d.nodes) c.order (suc i) (omega arith) (at_short d.nodes (suc i) n e) in
     let m = map-of (λ (m : DNode_data). m.next) d.nodes w.0 w.1 w.2 in
     let f = c.each w.0 m.0 m.1 in
-    let r = named-result (map (λ (m : DNode_data). spot_of m) d.nodes) m.0.next f.results f.names (suc i) (subst (λ (z : List ℕ). Among z (suc i)) (sym m.2) w.3) in
+    let r = named_result (map (λ (m : DNode_data). spot_of m) d.nodes) m.0.next f.results f.names (suc i) (subst (λ (z : List ℕ). Among z (suc i)) (sym m.2) w.3) in
     let s : spot_of n ≡ r.0 = same_Some (spot_of n) r.0 (sym (map-at (λ (m : DNode_data). spot_of m) d.nodes (suc i) n e) ∙ r.1) in
     let sv = f.chosen.survive r.0 r.2 in
     subst (λ (z : Spot). IsCandidate sub above bound z) (sym s) (sv.stand.candidates r.0 sv.among)
 
-names-are : (nodes : List DNode_data) (ns : List ℕ) (rs : List Spot) → Names (map (λ (m : DNode_data). spot_of m) nodes) ns rs → derivations.Names nodes ns rs
-names-are nodes [] [] h = tt
-names-are nodes [] (r ∷ rs) h = absurd h
-names-are nodes (n ∷ ns) [] h = absurd h
-names-are nodes (n ∷ ns) (r ∷ rs) h = (map-of (λ (m : DNode_data). spot_of m) nodes n r h.0, names-are nodes ns rs h.1)
+pub names_are : (nodes : List DNode_data) (ns : List ℕ) (rs : List Spot) → Names (map (λ (m : DNode_data). spot_of m) nodes) ns rs → derivations.Names nodes ns rs
+names_are nodes [] [] h = tt
+names_are nodes [] (r ∷ rs) h = absurd h
+names_are nodes (n ∷ ns) [] h = absurd h
+names_are nodes (n ∷ ns) (r ∷ rs) h = (map-of (λ (m : DNode_data). spot_of m) nodes n r h.0, names_are nodes ns rs h.1)
 
 pub derives : (sub above : Machine_data) (bound : ℕ) (d : Derivation_data) → IsProper sub → IsProper above → HasCanonicalNodes sub above bound d → IsDerivation d sub above
 derives sub above bound d ws wa c =
@@ -91,7 +91,7 @@ derives sub above bound d ws wa c =
             makes = f.chosen.move.makes;
             results = f.results;
             move = f.chosen.move.move;
-            named = names-are d.nodes n.next f.results f.names;
+            named = names_are d.nodes n.next f.results f.names;
           });
     }
 

@@ -237,11 +237,11 @@ from_chosen count (d ∷ e ∷ ds) rs s c = elim s.form [
 ]
 
 -- results stand among the spots
-chosen-among : (ds : List (List Spot)) (rs : List Spot) → Chosen ds rs → (r : Spot) → Among rs r → Among (concat ds) r
-chosen-among [] [] c r m = absurd m
-chosen-among [] (x ∷ rs) c r m = absurd c
-chosen-among (d ∷ ds) [] c r m = absurd c
-chosen-among (d ∷ ds) (x ∷ rs) c r (inl e) = left d (concat ds) r (at-among d c.0.0 x r c.0.1 e)
+pub chosen_among : (ds : List (List Spot)) (rs : List Spot) → Chosen ds rs → (r : Spot) → Among rs r → Among (concat ds) r
+chosen_among [] [] c r m = absurd m
+chosen_among [] (x ∷ rs) c r m = absurd c
+chosen_among (d ∷ ds) [] c r m = absurd c
+chosen_among (d ∷ ds) (x ∷ rs) c r (inl e) = left d (concat ds) r (at-among d c.0.0 x r c.0.1 e)
   where
     at-among : (ys : List Spot) (i : ℕ) (y r : Spot) → slice_get ys i ≡ Some y → y ≡ r → Among ys r
     at-among [] i y r g e = absurd (none-some y g)
@@ -252,7 +252,7 @@ chosen-among (d ∷ ds) (x ∷ rs) c r (inl e) = left d (concat ds) r (at-among 
     left [] ys x h = absurd h
     left (z ∷ xs) ys x (inl e) = inl e
     left (z ∷ xs) ys x (inr h) = inr (left xs ys x h)
-chosen-among (d ∷ ds) (x ∷ rs) c r (inr m) = right d (concat ds) r (chosen-among ds rs c.1 r m)
+chosen_among (d ∷ ds) (x ∷ rs) c r (inr m) = right d (concat ds) r (chosen_among ds rs c.1 r m)
   where
     right : (xs ys : List Spot) (x : Spot) → Among ys x → Among (xs ++ ys) x
     right [] ys x h = h
@@ -314,7 +314,7 @@ to_move sub above bound p rs h = go (due sub above p) refl h
       | inr f ↦ (let m' : Among (moves_of (eqb (length d.nexts) 1) (concat d.nexts)) rs = subst (λ (b : Bool). Among (moves_of (if b then no_turn true else turn_of (Some d)).any (if b then no_turn true else turn_of (Some d)).spots) rs) f m in
           let c = to_chosen (length p.pending) d.nexts rs (simple sub above p d e) m' in
           let s = sound sub above p d rs e c in
-          record { makes = s.makes; move = s.move; short = λ r k. more_no bound (concat d.nexts) f r (chosen-among d.nexts rs c r k) })
+          record { makes = s.makes; move = s.move; short = λ r k. more_no bound (concat d.nexts) f r (chosen_among d.nexts rs c r k) })
     ]
 
 no-results : (ds : List (List Spot)) (x : Spot) → Chosen ds [] → Among (concat ds) x → ⊥
@@ -333,7 +333,7 @@ from_move sub above bound p rs m =
     let s = simple sub above p t.d t.is' in
     subst (λ (o : Option Due). Among (moves_of (turn_with_cut bound (turn_of o)).any (turn_with_cut bound (turn_of o)).spots) rs) (sym t.is') (elim (bool_cases (owes_more bound (concat t.d.nexts))) [
       | inl y ↦ (let k = more_yes bound (concat t.d.nexts) y in
-          let q = s.level.all k.0 k.1 in absurd (too-long bound s.level.owes t.d.nexts rs t.picks (λ r h. s.level.all r (chosen-among t.d.nexts rs t.picks r h)) m.short (let a = k.2 in omega arith) k.0 k.1))
+          let q = s.level.all k.0 k.1 in absurd (too-long bound s.level.owes t.d.nexts rs t.picks (λ r h. s.level.all r (chosen_among t.d.nexts rs t.picks r h)) m.short (let a = k.2 in omega arith) k.0 k.1))
       | inr f ↦ subst (λ (b : Bool). Among (moves_of (if b then no_turn true else turn_of (Some t.d)).any (if b then no_turn true else turn_of (Some t.d)).spots) rs) (sym f) (from_chosen (length p.pending) t.d.nexts rs s t.picks)
     ])
 
@@ -358,5 +358,5 @@ from_cut sub above bound p c =
     let t = complete sub above p c.makes c.results c.move in
     subst (λ (o : Option Due). (turn_with_cut bound (turn_of o)).cut ≡ true) (sym t.is') (elim (bool_cases (owes_more bound (concat t.d.nexts))) [
       | inl y ↦ subst (λ (b : Bool). (if b then no_turn true else turn_of (Some t.d)).cut ≡ true) (sym y) refl
-      | inr n ↦ (let k = more_no bound (concat t.d.nexts) n c.result (chosen-among t.d.nexts c.results t.picks c.result c.among) in let l = c.longer in let bad : ⊥ = omega arith in absurd bad)
+      | inr n ↦ (let k = more_no bound (concat t.d.nexts) n c.result (chosen_among t.d.nexts c.results t.picks c.result c.among) in let l = c.longer in let bad : ⊥ = omega arith in absurd bad)
     ])

@@ -32,29 +32,29 @@ use Rattle.rs_search.specs.declared.faults.SearchFault.TheVariants.{NotFound, Fo
 
 -- a move is a guess, or what is due has one spot for each next
 
-abbrev SingleDue : Option Due → Type 0
+abbrev pub SingleDue : Option Due → Type 0
 SingleDue None = Unit {0}
 SingleDue (Some d) = Single d.nexts
 
-record IsGuess (sub above : Machine_data) (p : Spot) : Type 0 where
+pub record IsGuess (sub above : Machine_data) (p : Spot) : Type 0 where
   pub peer : Role
   pub theirs : List Arm
   pub there : slice_get above.states p.above ≡ Some (Puts peer theirs)
   pub due' : due sub above p ≡ guesses p peer theirs
 
-move-form : (sub above : Machine_data) (p : Spot) (makes : Option ℕ) (rs : List Spot) → HasMove sub above p makes rs → SingleDue (due sub above p) ⊎ IsGuess sub above p
-move-form sub above p makes rs (Stops st pe gt mk re) = inl (rw (st, gt, pe) tt)
-move-form sub above p makes rs (PaysSend q arm place so st found at sv mk re) =
+pub move_form : (sub above : Machine_data) (p : Spot) (makes : Option ℕ) (rs : List Spot) → HasMove sub above p makes rs → SingleDue (due sub above p) ⊎ IsGuess sub above p
+move_form sub above p makes rs (Stops st pe gt mk re) = inl (rw (st, gt, pe) tt)
+move_form sub above p makes rs (PaysSend q arm place so st found at sv mk re) =
     inl (rw (st, is p.pending Send q (At place) found, at, eq-eqb arm.label.0 arm.label.0 refl, serve arm.sort so sv) tt)
-move-form sub above p makes rs (SendsBoth q arms theirs st none gt mk both) =
+move_form sub above p makes rs (SendsBoth q arms theirs st none gt mk both) =
     (let k = both_serve theirs p.pending arms rs both in
     inl (rw (st, is p.pending Send q Absent none, gt, eq-eqb q.0 q.0 refl, k) (both-single theirs p.pending arms k)))
-move-form sub above p makes rs (Guesses q r arms theirs place b st none gt ne g mk re) =
+move_form sub above p makes rs (Guesses q r arms theirs place b st none gt ne g mk re) =
     inr record { peer = r; theirs = theirs; there = gt; due' = rw (st, is p.pending Send q Absent none, gt, ne_eqb r.0 q.0 (λ e. ne (role_is r q (eq-eqb r.0 q.0 e)))) refl }
-move-form sub above p makes rs (SendsAhead q r arms theirs st none gt mk re) = inl (rw (st, is p.pending Send q Absent none, gt) (follow-single p r theirs))
-move-form sub above p makes rs (PaysReceive q arms place label so arm st found at ch sv mk re) =
+move_form sub above p makes rs (SendsAhead q r arms theirs st none gt mk re) = inl (rw (st, is p.pending Send q Absent none, gt) (follow-single p r theirs))
+move_form sub above p makes rs (PaysReceive q arms place label so arm st found at ch sv mk re) =
     inl (rw (st, is p.pending Receive q (At place) found, at, ch, serve so arm.sort sv) tt)
-move-form sub above p makes rs (ReceivesAhead q r arms theirs st none gt mk re) = inl (rw (st, is p.pending Receive q Absent none, gt) (follow-single p r theirs))
+move_form sub above p makes rs (ReceivesAhead q r arms theirs st none gt mk re) = inl (rw (st, is p.pending Receive q Absent none, gt) (follow-single p r theirs))
 
 -- the chosen move is one
 
@@ -68,26 +68,26 @@ map-at f [] i x e = absurd (none-some x e)
 map-at f (y ∷ xs) zero x e = ap (λ z. Some (f z)) (same_Some y x e)
 map-at f (y ∷ xs) (suc i) x e = map-at f xs i x e
 
-record Guessed (p : Spot) (peer : Role) (theirs : List Arm) (rs : List Spot) : Type 0 where
+pub record Guessed (p : Spot) (peer : Role) (theirs : List Arm) (rs : List Spot) : Type 0 where
   pub place : ℕ
   pub arm : Arm
   pub is : slice_get theirs place ≡ Some arm
   pub results : rs ≡ owing_send p peer arm ∷ []
 
-guessed : (p : Spot) (peer : Role) (theirs : List Arm) (rs : List Spot) → Chosen (map (λ b. owing_send p peer b) theirs ∷ []) rs → Guessed p peer theirs rs
+pub guessed : (p : Spot) (peer : Role) (theirs : List Arm) (rs : List Spot) → Chosen (map (λ b. owing_send p peer b) theirs ∷ []) rs → Guessed p peer theirs rs
 guessed p peer theirs [] h = absurd h
 guessed p peer theirs (r ∷ s ∷ rs) h = absurd h.1
 guessed p peer theirs (r ∷ []) h =
     let k = map-of (λ b. owing_send p peer b) theirs h.0.0 r h.0.1 in
     record { place = h.0.0; arm = k.0; is = k.1; results = ap (λ (z : Spot). z ∷ []) (sym k.2) }
 
-due-nexts : (sub above : Machine_data) (p : Spot) (d : Due) (rs : List Spot) (o : Due) → due sub above p ≡ Some d → due sub above p ≡ Some o → Chosen d.nexts rs → Chosen o.nexts rs
-due-nexts sub above p d rs o e f c = subst (λ (z : Due). Chosen z.nexts rs) (same_Some d o (sym e ∙ f)) c
+pub due_nexts : (sub above : Machine_data) (p : Spot) (d : Due) (rs : List Spot) (o : Due) → due sub above p ≡ Some d → due sub above p ≡ Some o → Chosen d.nexts rs → Chosen o.nexts rs
+due_nexts sub above p d rs o e f c = subst (λ (z : Due). Chosen z.nexts rs) (same_Some d o (sym e ∙ f)) c
 
 chosen-arm : (sub above : Machine_data) (bound : ℕ) (p : Spot) (rs : List Spot) (g : IsGuess sub above p) → IsChosen sub above bound p rs → Guessed p g.peer g.theirs rs
 chosen-arm sub above bound p rs g c =
     let t = complete sub above p c.move.makes rs c.move.move in
-    guessed p g.peer g.theirs rs (due-nexts sub above p t.d rs (record { keeps = nat_lt 0 (length p.pending); nexts = map (λ b. owing_send p g.peer b) g.theirs ∷ [] }) t.is' g.due' t.picks)
+    guessed p g.peer g.theirs rs (due_nexts sub above p t.d rs (record { keeps = nat_lt 0 (length p.pending); nexts = map (λ b. owing_send p g.peer b) g.theirs ∷ [] }) t.is' g.due' t.picks)
 
 earlier-not : (sub above : Machine_data) (bound : ℕ) (p : Spot) (rs rs' : List Spot) (g : IsGuess sub above p) (a : Guessed p g.peer g.theirs rs) (b : Guessed p g.peer g.theirs rs') → IsChosen sub above bound p rs → IsChosen sub above bound p rs' → a.place < b.place → ⊥
 earlier-not sub above bound p rs rs' g a b c c' lt =
@@ -98,9 +98,9 @@ pub one_choice : (sub above : Machine_data) (bound : ℕ) (p : Spot) (rs rs' : L
 one_choice sub above bound p rs rs' c c' =
     let t = complete sub above p c.move.makes rs c.move.move in
     let u = complete sub above p c'.move.makes rs' c'.move.move in
-    elim (move-form sub above p c.move.makes rs c.move.move) [
+    elim (move_form sub above p c.move.makes rs c.move.move) [
       | inl s ↦ (let k : Single t.d.nexts = subst (λ (o : Option Due). SingleDue o) t.is' s in
-          single-is t.d.nexts rs k t.picks ∙ sym (single-is t.d.nexts rs' k (due-nexts sub above p u.d rs' t.d u.is' t.is' u.picks)))
+          single-is t.d.nexts rs k t.picks ∙ sym (single-is t.d.nexts rs' k (due_nexts sub above p u.d rs' t.d u.is' t.is' u.picks)))
       | inr g ↦ (let a = chosen-arm sub above bound p rs g c in let b = chosen-arm sub above bound p rs' g c' in
           elim (cases_lt a.place b.place) [
             | inl lt ↦ absurd (earlier-not sub above bound p rs rs' g a b c c' lt)

@@ -13,11 +13,15 @@ pub mod Forced
 pub mod Naming
 pub mod Noding
 pub mod Places
+pub mod Remembering
 pub mod Removing
 pub mod Rising
 pub mod Rounds
 pub mod Same
 pub mod Small
 pub mod Staying
+pub mod Surviving
 pub mod Turning
+pub mod Twins
+pub mod Uncut
 pub mod Verdicts

@@ -1,9 +1,9 @@
 -- Believed: the canonical derivation, and why there may be none.
-use Rattle.std.specs.Prelude.{◌≡◌, ◌↔◌, ℕ, List, length, map, slice_get, Bool, true, Option, Some}
+use Rattle.std.specs.Prelude.{◌≡◌, ◌↔◌, ℕ, ◌≤◌, List, length, map, slice_get, Bool, true, Option, Some}
 use Rattle.rs_model.specs.declared.limits.TheConstants.{MOST_CANDIDATES}
 use Rattle.rs_model.specs.Data.{Machine_data}
 use Rattle.rs_derive.specs.Data.{DNode_data, Derivation_data}
-use Rattle.rs_derive.specs.Derivations.{KeepsItsHead, spot_of}
+use Rattle.rs_derive.specs.Derivations.{IsDerivation, KeepsItsHead, Remembers, spot_of}
 use Rattle.rs_derive.specs.Moves.{Spot, HasMove}
 use Rattle.rs_search.specs.Candidates.{start_spot, IsCandidate, MeetsACut, AreMoreThan}
 use Rattle.rs_graph.specs.Discovery.{Worked}
@@ -75,6 +75,13 @@ pub record IsDerivable (sub above : Machine_data) (bound : ℕ) : Type 0 where
   pub few : AreMoreThan sub above bound MOST_CANDIDATES → ⊥
   pub survives : Survives sub above bound (start_spot sub above)
   pub remembers : IsForgetful sub above bound → ⊥
+
+-- some derivation within the bound forgets nothing that is owed
+pub record CanFollow (sub above : Machine_data) (bound : ℕ) : Type 0 where
+  pub derivation : Derivation_data
+  pub is : IsDerivation derivation sub above
+  pub remembers : Remembers derivation sub above
+  pub within : derivation.bound ≤ bound
 
 -- what each fault says; want of memory says nothing
 abbrev pub SearchRefuses : Machine_data → Machine_data → ℕ → SearchFault → Type 0

@@ -4,6 +4,7 @@ pub mod Canonical
 pub mod Costs
 pub mod Examples
 pub mod Forward
+pub mod Found
 pub mod Index
 pub mod Itself
 pub mod Nodes

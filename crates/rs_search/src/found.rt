@@ -1,6 +1,5 @@
 //! The candidates: the spots that are reached within the bound, numbered in order of first sight.
 ghost use Rattle.std.specs.Prelude.{◌*◌, ◌≡◌, ◌<◌, ◌≤◌, ◌+◌, ◌^◌, [], ◌∷◌, ◌++◌, List, ℕ, OnOk, OnErr, IfOk, IfErr, IfSome, length, map, slice_get, slice_index_or, Some, ◌||◌};
-ghost use Rattle.std.specs.List.{list_any};
 ghost use Rattle.rs_derive.specs.Checks.{target_spot};
 ghost use Rattle.rs_derive.specs.Derivations.{IsProper, spot_of};
 ghost use Rattle.rs_derive.specs.Due.{both_at};
@@ -9,12 +8,12 @@ ghost use Rattle.rs_derive.specs.Rules.{RuleFits, nexts_by};
 ghost use Rattle.rs_derive.specs.Within.{HasLabelsOnce};
 ghost use Rattle.rs_prefix.specs.Earliest.{without};
 ghost use Rattle.rs_search.specs.Candidates.{start_spot};
+ghost use Rattle.rs_search.specs.Found.{AreFound, AreFoundSoFar};
 ghost use Rattle.rs_search.specs.Itself.{AreNamed, AreNamedAt, GrowsBy};
 ghost use Rattle.rs_search.specs.Table.{AddsAt, IsWithinAt, numbers_of};
-ghost use Rattle.rs_graph.specs.Discovery.{IsDiscovery, MoreThan};
+ghost use Rattle.rs_graph.specs.Discovery.{MoreThan};
 ghost use Rattle.rs_graph.specs.Lists.{concat};
 ghost use Rattle.rs_search.specs.Turns.{nexts_within, owing_by, spots_by};
-ghost use Rattle.rs_search.specs.Turns.{is_any, is_choosing, is_cut, is_keeping};
 ghost use Rattle.rs_model.specs.declared.limits.TheConstants.{MOST_CANDIDATES, MOST_STATES};
 ghost use Rattle.rs_search.specs.declared.found.Fault.TheVariants.{TooLarge, Memory};
 
@@ -410,6 +409,48 @@ fn many_buckets(sub: &Machine, above: &Machine) -> usize
     first_room(sub, above) / 2 + few_buckets(sub, above)
 }
 
+// Notes of the next candidate what it may do within the bound, and numbers what it leads to.
+#[inline(always)]
+fn visit_next(
+    alloc: Global,
+    sub: &Machine,
+    above: &Machine,
+    bound: u8,
+    buckets: usize,
+    limit: usize,
+    found: &mut Candidates,
+) -> Result<(), Fault>
+    requires some { 0 < buckets }
+    requires buckets { buckets < 2 ^ 32 }
+    requires limit { limit + 1 < 2 ^ 32 }
+    requires ours { IsProper sub.now }
+    requires theirs { IsProper above.now }
+    requires next { length found.old.table.rows < length found.old.table.spots }
+    requires few { length found.old.table.spots ≤ limit }
+    requires found { AreFoundSoFar sub.now above.now bound found.old }
+    ensures next { OnOk result (length found.new.table.rows ≡ length found.old.table.rows + 1) }
+    ensures few { OnOk result (length found.new.table.spots ≤ limit) }
+    ensures found { OnOk result (AreFoundSoFar sub.now above.now bound found.new) }
+    ensures large { IfErr result (λ e. e ≡ TooLarge → MoreThan limit (nexts_within sub.now above.now bound) (start_spot sub.now above.now)) }
+{
+    found.table.spread(alloc, buckets)?;
+    let k = found.table.known();
+    let node = found.table.node(k);
+    let arms = arms_in(sub, node.state);
+    let theirs = arms_in(above, node.above);
+    let turn = turn_within(sub, above, bound, node, arms, theirs);
+    found.anys.push(turn.any)?;
+    found.keeps.push(turn.keeps)?;
+    found.cut = either(found.cut, turn.cut);
+    let nexts = match name_all(alloc, &mut found.table, k, turn.rule, arms, theirs, limit) {
+        Ok(nexts) => nexts,
+        Err(fault) => return Err(fault),
+    };
+    found.choosing = either(found.choosing, has_choice(turn.any, count_of(&nexts)));
+    found.table.push_row(row_of(alloc, nexts));
+    Ok(())
+}
+
 /// The candidates within the bound, if they number no more than the limit.
 pub fn find_all(
     alloc: Global,
@@ -422,45 +463,22 @@ pub fn find_all(
     requires limit { limit + 1 < 2 ^ 32 }
     requires ours { IsProper sub.now }
     requires theirs { IsProper above.now }
-    ensures found { IfOk result (λ d. IsDiscovery (nexts_within sub.now above.now bound) (start_spot sub.now above.now) d.table.spots d.table.rows) }
+    ensures found { IfOk result (AreFound sub.now above.now bound) }
     ensures few { IfOk result (λ d. length d.table.spots ≤ limit) }
-    ensures short { IfOk result (λ d. (n : ℕ) → length (slice_index_or d.table.rows n []) ≤ 2 ^ 16) }
-    ensures anys { IfOk result (λ d. d.anys.items ≡ map (is_any sub.now above.now bound) d.table.spots) }
-    ensures keeps { IfOk result (λ d. d.keeps.items ≡ map (is_keeping sub.now above.now bound) d.table.spots) }
-    ensures cut { IfOk result (λ d. d.cut ≡ list_any (is_cut sub.now above.now bound) d.table.spots) }
-    ensures choosing { IfOk result (λ d. d.choosing ≡ list_any (is_choosing sub.now above.now bound) d.table.spots) }
     ensures large { IfErr result (λ e. e ≡ TooLarge → MoreThan limit (nexts_within sub.now above.now bound) (start_spot sub.now above.now)) }
 {
     let room = first_room(sub, above);
     let few = few_buckets(sub, above);
     let many = many_buckets(sub, above);
-    let mut table = SpotTable::new(alloc, sub.start, above.start, few, room)?;
-    let mut anys = Vec::with_capacity(alloc, room)?;
-    let mut keeps = Vec::with_capacity(alloc, room)?;
-    let mut cut = false;
-    let mut choosing = false;
-    while table.known() < table.len() {
-        table.spread(alloc, many)?;
-        let k = table.known();
-        let node = table.node(k);
-        let arms = arms_in(sub, node.state);
-        let theirs = arms_in(above, node.above);
-        let turn = turn_within(sub, above, bound, node, arms, theirs);
-        anys.push(turn.any)?;
-        keeps.push(turn.keeps)?;
-        cut = either(cut, turn.cut);
-        let nexts = match name_all(alloc, &mut table, k, turn.rule, arms, theirs, limit) {
-            Ok(nexts) => nexts,
-            Err(fault) => return Err(fault),
-        };
-        choosing = either(choosing, has_choice(turn.any, count_of(&nexts)));
-        table.push_row(row_of(alloc, nexts));
+    let mut found = Candidates {
+        table: SpotTable::new(alloc, sub.start, above.start, few, room)?,
+        anys: Vec::with_capacity(alloc, room)?,
+        keeps: Vec::with_capacity(alloc, room)?,
+        cut: false,
+        choosing: false,
+    };
+    while found.table.known() < found.table.len() {
+        visit_next(alloc, sub, above, bound, many, limit, &mut found)?;
     }
-    Ok(Candidates {
-        table,
-        anys,
-        keeps,
-        cut,
-        choosing,
-    })
+    Ok(found)
 }

@@ -306,16 +306,31 @@ fn usual_size(states: &[State]) -> usize {
     size
 }
 
-// The nodes of the derivation of the machine from itself, within any bound that allows one act to be owed.
-fn nodes_itself(alloc: Global, machine: &Machine) -> Result<Vec<DNode>, Fault>
+// What there is at first: the start alone is found and has its place, and there are no nodes.
+fn first_lists(
+    alloc: Global,
+    machine: &Machine,
+) -> Result<(Vec<Option<u32>>, Vec<Position>, Vec<DNode>), Fault>
     requires proper { IsProper machine.now }
-    ensures { IfOk result (λ v. (bound : ℕ) → 0 < bound → IsCanonical machine.now machine.now bound (record { role = machine.now.role; bound = bound; nodes = v.items })) }
+    ensures found { IfOk result (λ t. t.1.items ≡ even machine.now.start ∷ []) }
+    ensures placed { IfOk result (λ t. ArePlaced t.1.items t.0.items) }
+    ensures size { IfOk result (λ t. length t.0.items ≡ length machine.now.states) }
+    ensures none { IfOk result (λ t. t.2.items ≡ []) }
 {
     let mut places: Vec<Option<u32>> = vec![in alloc; None; machine.states.len()]?;
     let room = usual_size(&machine.states);
     let mut found = Vec::with_capacity(alloc, room)?;
     come_to(&mut found, &mut places, machine.start)?;
-    let mut nodes = Vec::with_capacity(alloc, room)?;
+    let nodes = Vec::with_capacity(alloc, room)?;
+    Ok((places, found, nodes))
+}
+
+// The nodes of the derivation of the machine from itself, within any bound that allows one act to be owed.
+fn nodes_itself(alloc: Global, machine: &Machine) -> Result<Vec<DNode>, Fault>
+    requires proper { IsProper machine.now }
+    ensures { IfOk result (λ v. (bound : ℕ) → 0 < bound → IsCanonical machine.now machine.now bound (record { role = machine.now.role; bound = bound; nodes = v.items })) }
+{
+    let (mut places, mut found, mut nodes) = first_lists(alloc, machine)?;
     while nodes.len() < found.len() {
         let position = found[nodes.len()].copy();
         let next = nexts_of(alloc, machine, &mut found, &mut places, &position)?;

@@ -1,17 +1,17 @@
 //! Laws over the definitions that the contracts cite. The functions do nothing: the contract is the law.
-ghost use Rattle.std.specs.Prelude.{◌≡◌, ◌≢◌, ◌⊎◌, ◌↔◌, ◌≤◌, ℕ, length, None};
+ghost use Rattle.std.specs.Prelude.{◌≡◌, ◌≢◌, ◌⊎◌, ◌↔◌, ◌≤◌, ℕ, length, Bool, false, None};
 ghost use Rattle.rs_model.specs.Data.{Machine_data};
 ghost use Rattle.rs_model.specs.declared.limits.TheConstants.{MOST_CANDIDATES};
 ghost use Rattle.rs_derive.specs.Data.{Derivation_data};
 ghost use Rattle.rs_derive.specs.Derivations.{IsDerivation, IsProper, Remembers};
 ghost use Rattle.rs_derive.specs.Faults.{first_fault};
 ghost use Rattle.rs_derive.specs.Moves.{Spot};
-ghost use Rattle.rs_search.specs.Candidates.{IsCandidate, start_spot};
-ghost use Rattle.rs_search.specs.Canonical.{HasCanonicalNodes, IsDerivable, IsCanonical, SearchRefuses};
+ghost use Rattle.rs_search.specs.Candidates.{AreMoreThan, IsCandidate, start_spot};
+ghost use Rattle.rs_search.specs.Canonical.{CanFollow, HasCanonicalNodes, IsCanonical, IsDerivable, IsForgetful, IsNotFound, SearchRefuses, SomeCut};
 ghost use Rattle.rs_search.specs.Examples.{ended_machine, waiting};
 ghost use Rattle.rs_search.specs.Survives.{Survives};
 ghost use Rattle.rs_search.specs.declared.faults.SearchFault.{SearchFault};
-ghost use Rattle.rs_search.specs.declared.faults.SearchFault.TheVariants.{NoMemory};
+ghost use Rattle.rs_search.specs.declared.faults.SearchFault.TheVariants.{NoMemory, TooLarge};
 
 /// What the search answers is a derivation that forgets nothing, and passes each test of one.
 pub fn answers_are_accepted()
@@ -49,4 +49,43 @@ pub fn a_derivation_or_a_refusal()
 pub fn a_derivation_where_derivable()
     ensures { (sub above : Machine_data) (bound : ℕ) → IsProper sub → IsProper above
         → ((d : Derivation_data) × IsCanonical sub above bound d) ↔ IsDerivable sub above bound }
+{}
+
+/// No derivation is missed: each that lies within the bound makes the start survive, and where the start survives there is
+/// one. So where the search finds none there is none, of whatever ranks; and where there is none the search says so,
+/// unless there are too many candidates.
+pub fn derivations_are_not_missed()
+    ensures survives { (sub above : Machine_data) (bound : ℕ) (d : Derivation_data) → IsDerivation d sub above → d.bound ≤ bound → Survives sub above bound (start_spot sub above) }
+    ensures derives { (sub above : Machine_data) (bound : ℕ) → IsProper sub → IsProper above → Survives sub above bound (start_spot sub above)
+        → (d : Derivation_data) × IsDerivation d sub above × (d.bound ≡ bound) }
+    ensures none { (sub above : Machine_data) (bound : ℕ) (cut : Bool) (d : Derivation_data) → IsNotFound sub above bound cut → IsDerivation d sub above → d.bound ≤ bound → ⊥ }
+    ensures not_found { (sub above : Machine_data) (bound : ℕ) → IsProper sub → IsProper above → (AreMoreThan sub above bound MOST_CANDIDATES → ⊥)
+        → ((d : Derivation_data) → IsDerivation d sub above → d.bound ≤ bound → ⊥) → (cut : Bool) × IsNotFound sub above bound cut }
+{}
+
+/// What remembers is found: two well-formed machines have a canonical derivation exactly where some derivation within the
+/// bound forgets nothing, if there aren't too many candidates. So a derivation that forgets nothing is refused only where
+/// the search gives up; and where the canonical derivation forgets, each derivation does, of whatever bound.
+pub fn what_remembers_is_found()
+    ensures found { (sub above : Machine_data) (bound : ℕ) → IsProper sub → IsProper above
+        → ((d : Derivation_data) × IsCanonical sub above bound d) ↔ ((AreMoreThan sub above bound MOST_CANDIDATES → ⊥) × CanFollow sub above bound) }
+    ensures refused { (sub above : Machine_data) (bound : ℕ) (fault : SearchFault) → IsProper sub → IsProper above → CanFollow sub above bound
+        → SearchRefuses sub above bound fault → (fault ≡ TooLarge) ⊎ (fault ≡ NoMemory) }
+    ensures forgets { (sub above : Machine_data) (bound : ℕ) (d : Derivation_data) → IsProper sub → IsProper above → IsForgetful sub above bound
+        → IsDerivation d sub above → Remembers d sub above → ⊥ }
+{}
+
+/// Within a greater bound each candidate is still one, and each survivor survives; and the canonical derivation is the
+/// same, if there aren't too many candidates. Where no candidate meets a cut there are no others: a greater bound doesn't
+/// help, and where nothing was found there is no derivation of any bound.
+pub fn greater_bounds()
+    ensures candidates { (sub above : Machine_data) (bound more : ℕ) (p : Spot) → bound ≤ more → IsCandidate sub above bound p → IsCandidate sub above more p }
+    ensures survivors { (sub above : Machine_data) (bound more : ℕ) (p : Spot) → bound ≤ more → Survives sub above bound p → Survives sub above more p }
+    ensures large { (sub above : Machine_data) (bound more limit : ℕ) → bound ≤ more → AreMoreThan sub above bound limit → AreMoreThan sub above more limit }
+    ensures derivation { (sub above : Machine_data) (bound more : ℕ) (d : Derivation_data) → IsProper sub → IsProper above → bound ≤ more → (AreMoreThan sub above more MOST_CANDIDATES → ⊥)
+        → IsCanonical sub above bound d → IsCanonical sub above more (record d { bound = more }) }
+    ensures uncut_candidates { (sub above : Machine_data) (bound more : ℕ) (p : Spot) → (SomeCut sub above bound → ⊥) → bound ≤ more → IsCandidate sub above more p ↔ IsCandidate sub above bound p }
+    ensures uncut_survivors { (sub above : Machine_data) (bound more : ℕ) (p : Spot) → (SomeCut sub above bound → ⊥) → bound ≤ more → Survives sub above more p ↔ Survives sub above bound p }
+    ensures not_found { (sub above : Machine_data) (bound more : ℕ) → bound ≤ more → IsNotFound sub above bound false → IsNotFound sub above more false }
+    ensures none { (sub above : Machine_data) (bound : ℕ) (d : Derivation_data) → IsNotFound sub above bound false → IsDerivation d sub above → ⊥ }
 {}

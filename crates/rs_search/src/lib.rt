@@ -10,8 +10,6 @@ mod nodes;
 mod searches;
 mod survey;
 mod table;
-#[cfg(test)]
-mod tests;
 mod turns;
 
 pub use faults::SearchFault;

@@ -1,5 +1,5 @@
 //! The nodes of the derivation, from the numbered candidates.
-ghost use Rattle.std.specs.Prelude.{◌≡◌, ◌<◌, ◌≤◌, ◌+◌, ◌^◌, [], List, ℕ, IfOk, length, slice_get, slice_index_or, Some, if◌then◌else◌};
+ghost use Rattle.std.specs.Prelude.{◌≡◌, ◌<◌, ◌++◌, ◌∷◌, [], ℕ, IfOk, OnOk, length, if◌then◌else◌};
 ghost use Rattle.rs_graph.specs.Lists.{Among};
 ghost use Rattle.rs_derive.specs.Derivations.{spot_of};
 ghost use Rattle.rs_search.specs.Nodes.{AreKept, AreNodes, node_of};
@@ -22,6 +22,21 @@ fn make_node(alloc: Global, at: &DNode, rank: u32, row: &Row) -> Result<DNode, N
     })
 }
 
+// Appends the node at a spot.
+fn push_node(
+    alloc: Global,
+    nodes: &mut Vec<DNode>,
+    at: &DNode,
+    rank: u32,
+    row: &Row,
+) -> Result<(), NoMemory>
+    ensures { OnOk result (nodes.new.items ≡ nodes.old.items ++ node_of (spot_of at.now) rank row.now ∷ []) }
+{
+    let node = make_node(alloc, at, rank, row)?;
+    nodes.push(node)?;
+    Ok(())
+}
+
 /// The node of each item, with a copy of what it owes.
 pub fn nodes_of(
     alloc: Global,
@@ -37,7 +52,8 @@ pub fn nodes_of(
 {
     let mut nodes = Vec::new(alloc);
     for i in 0..items.len() {
-        nodes.push(make_node(alloc, table.node(items[i] as usize), ranks[i], &nexts[i])?)?;
+        let at = table.node(items[i] as usize);
+        push_node(alloc, &mut nodes, at, ranks[i], &nexts[i])?;
     }
     Ok(nodes)
 }

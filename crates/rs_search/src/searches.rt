@@ -1,15 +1,12 @@
 //! The search.
-ghost use Rattle.std.specs.Prelude.{◌≡◌, ◌<◌, ◌≤◌, ◌+◌, ◌^◌, [], List, ℕ, IfOk, IfErr, IfSome, OnOk, false, length, map, slice_index_or, true};
-ghost use Rattle.std.specs.List.{list_any};
+ghost use Rattle.std.specs.Prelude.{◌≡◌, ◌<◌, ◌≤◌, ◌^◌, ℕ, IfOk, IfErr, OnOk, false, length, true};
 ghost use Rattle.rs_model.specs.declared.limits.TheConstants.{MOST_CANDIDATES};
 ghost use Rattle.rs_derive.specs.Derivations.{IsProper};
-ghost use Rattle.rs_search.specs.Canonical.{IsCanonical, SearchRefuses};
-ghost use Rattle.rs_search.specs.Candidates.{start_spot};
-ghost use Rattle.rs_search.specs.Costs.{Costs, IsWithinCost};
-ghost use Rattle.rs_graph.specs.Discovery.{IsDiscovery};
 ghost use Rattle.rs_graph.specs.Ranks.{Edge};
+ghost use Rattle.rs_search.specs.Canonical.{IsCanonical, SearchRefuses};
+ghost use Rattle.rs_search.specs.Costs.{Costs, IsWithinCost};
 ghost use Rattle.rs_search.specs.Forward.{AreForward};
-ghost use Rattle.rs_search.specs.Turns.{is_any, is_cut, is_keeping, nexts_within};
+ghost use Rattle.rs_search.specs.Found.{AreFound};
 
 use crate::SearchFault;
 use crate::forward::forward_ranks;
@@ -123,12 +120,8 @@ fn search_among<L: Ledger>(
     steps: &mut Steps<L>,
 ) -> Result<Derivation, SearchFault>
     requires theirs { IsProper above.now }
-    requires found { IsDiscovery (nexts_within sub.now above.now bound) (start_spot sub.now above.now) found.table.spots found.table.rows }
+    requires found { AreFound sub.now above.now bound found }
     requires few { length found.table.spots ≤ MOST_CANDIDATES }
-    requires short { (n : ℕ) → length (slice_index_or found.table.rows n []) ≤ 2 ^ 16 }
-    requires anys { found.anys.items ≡ map (is_any sub.now above.now bound) found.table.spots }
-    requires keeps { found.keeps.items ≡ map (is_keeping sub.now above.now bound) found.table.spots }
-    requires cut { found.cut ≡ list_any (is_cut sub.now above.now bound) found.table.spots }
     ensures ok { IfOk result (λ d. IsCanonical sub.now above.now bound d) }
     ensures err { IfErr result (λ e. SearchRefuses sub.now above.now bound e) }
     ensures steps { OnOk result (IsWithinCost sub.now above.now bound steps.old steps.new) }

@@ -1,15 +1,12 @@
 //! The candidates, their graph and what is left of it.
-ghost use Rattle.std.specs.Prelude.{◌≡◌, ◌<◌, ◌≤◌, ◌+◌, ◌^◌, [], List, ℕ, IfOk, IfErr, length, map, slice_index_or};
-ghost use Rattle.std.specs.List.{list_any, sum_by};
+ghost use Rattle.std.specs.Prelude.{◌≡◌, ◌<◌, ◌≤◌, ◌+◌, ℕ, IfOk, IfErr, length};
+ghost use Rattle.std.specs.List.{sum_by};
 ghost use Rattle.rs_derive.specs.Derivations.{IsProper};
 ghost use Rattle.rs_graph.specs.Built.{IsBuilt};
-ghost use Rattle.rs_search.specs.Candidates.{start_spot};
+ghost use Rattle.rs_graph.specs.Removal.{IsRemoval, at, cost_of, moves_at};
 ghost use Rattle.rs_search.specs.Canonical.{SearchRefuses};
 ghost use Rattle.rs_search.specs.Costs.{Costs};
-ghost use Rattle.rs_graph.specs.Discovery.{IsDiscovery};
-ghost use Rattle.rs_search.specs.Turns.{is_any, is_choosing, is_cut, is_keeping};
-ghost use Rattle.rs_graph.specs.Removal.{IsRemoval, at, cost_of, moves_at};
-ghost use Rattle.rs_search.specs.Turns.{nexts_within};
+ghost use Rattle.rs_search.specs.Found.{AreFound};
 
 use crate::SearchFault;
 use crate::found::{Candidates, Fault, find_all};
@@ -35,13 +32,8 @@ pub fn candidates_of(
 ) -> Result<Candidates, SearchFault>
     requires ours { IsProper sub.now }
     requires theirs { IsProper above.now }
-    ensures found { IfOk result (λ d. IsDiscovery (nexts_within sub.now above.now bound) (start_spot sub.now above.now) d.table.spots d.table.rows) }
+    ensures found { IfOk result (AreFound sub.now above.now bound) }
     ensures few { IfOk result (λ d. length d.table.spots ≤ MOST_CANDIDATES) }
-    ensures short { IfOk result (λ d. (n : ℕ) → length (slice_index_or d.table.rows n []) ≤ 2 ^ 16) }
-    ensures anys { IfOk result (λ d. d.anys.items ≡ map (is_any sub.now above.now bound) d.table.spots) }
-    ensures keeps { IfOk result (λ d. d.keeps.items ≡ map (is_keeping sub.now above.now bound) d.table.spots) }
-    ensures cut { IfOk result (λ d. d.cut ≡ list_any (is_cut sub.now above.now bound) d.table.spots) }
-    ensures choosing { IfOk result (λ d. d.choosing ≡ list_any (is_choosing sub.now above.now bound) d.table.spots) }
     ensures err { IfErr result (λ e. SearchRefuses sub.now above.now bound e) }
     ensures cost { IfErr result (λ e. (steps : ℕ) → Costs sub.now above.now bound e steps steps) }
 {
@@ -61,17 +53,10 @@ pub fn explore<L: Ledger>(
     found: Candidates,
     steps: &mut Steps<L>,
 ) -> Result<Survey, SearchFault>
-    requires found { IsDiscovery (nexts_within sub.now above.now bound) (start_spot sub.now above.now) found.table.spots found.table.rows }
+    requires found { AreFound sub.now above.now bound found }
     requires few { length found.table.spots ≤ MOST_CANDIDATES }
-    requires short { (n : ℕ) → length (slice_index_or found.table.rows n []) ≤ 2 ^ 16 }
-    requires anys { found.anys.items ≡ map (is_any sub.now above.now bound) found.table.spots }
-    requires keeps { found.keeps.items ≡ map (is_keeping sub.now above.now bound) found.table.spots }
-    requires cut { found.cut ≡ list_any (is_cut sub.now above.now bound) found.table.spots }
-    ensures found { IfOk result (λ s. IsDiscovery (nexts_within sub.now above.now bound) (start_spot sub.now above.now) s.found.table.spots s.found.table.rows) }
-    ensures short { IfOk result (λ s. (n : ℕ) → length (slice_index_or s.found.table.rows n []) ≤ 2 ^ 16) }
-    ensures keeps { IfOk result (λ s. s.found.keeps.items ≡ map (is_keeping sub.now above.now bound) s.found.table.spots) }
+    ensures found { IfOk result (λ s. AreFound sub.now above.now bound s.found) }
     ensures small { IfOk result (λ s. length s.found.table.spots ≤ MOST_CANDIDATES) }
-    ensures anys { IfOk result (λ s. s.found.anys.items ≡ map (is_any sub.now above.now bound) s.found.table.spots) }
     ensures built { IfOk result (λ s. IsBuilt s.found.anys.items s.found.table.rows (length s.found.table.rows) s.graph) }
     ensures left { IfOk result (λ s. IsRemoval s.graph.outs s.left.current.items s.left.order.items) }
     ensures start { IfOk result (λ s. at s.left.current.items 0 < moves_at s.graph.outs 0) }

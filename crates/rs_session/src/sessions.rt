@@ -9,7 +9,7 @@ ghost use Rattle.rs_session.specs.Acts.{SendsBy};
 ghost use Rattle.rs_session.specs.Stages.{AreFirst, IsOf, IsReceiving, first_stage, sight_of_stage, state_at};
 ghost use Rattle.rs_session.specs.Standing.{IsFirst, RingsAreWhole, SendsTo};
 
-use crate::stages::{Ended, Receiving, Sending, Stage};
+use crate::stages::{Ended, Left, Receiving, Sending, Stage};
 use crate::standing::Standing;
 use rs_model::{Arm, Machine, NoMemory, Role, State};
 use rs_rings::{Pass, Rings};
@@ -54,7 +54,7 @@ impl Session {
         match Rings::begin(alloc, machines, capacity) {
             Ok((rings, pass)) => {
                 let session = Session { rings };
-                let stages = session.first_stages(count as u8, pass, stages);
+                let stages = session.first_stages(alloc, count as u8, pass, stages)?;
                 Ok((session, stages))
             }
             Err(refused) => {
@@ -148,20 +148,27 @@ impl Session {
         }
     }
 
-    /// The stage of a role that has done nothing.
-    fn first(&self, pass: Pass, role: Role) -> Stage
+    /// The stage of a role that has done nothing. Where memory is refused the pass is given up.
+    fn first(&self, alloc: Global, pass: Pass, role: Role) -> Result<Stage, NoMemory>
         requires table { pass.table ≡ self.now.table }
         requires well_formed { AreWellFormed self.now.machines }
         requires first { IsFirst self.now.machines role.0 pass.view }
-        ensures of { IsOf self.now result }
-        ensures first { sight_of_stage result ≡ first_stage self.now role.0 }
+        ensures of { IfOk result (IsOf self.now) }
+        ensures first { IfOk result (λ s. sight_of_stage s ≡ first_stage self.now role.0) }
     {
         let start = self.machine(role).start;
-        self.stage(Standing::first(pass, role, start))
+        let standing = Standing::first(alloc, pass, role, start)?;
+        Ok(self.stage(standing))
     }
 
-    /// The first stage of each role, in role order, into `stages`.
-    fn first_stages(&self, count: u8, pass: Pass, stages: Vec<Stage>) -> Vec<Stage>
+    /// The first stage of each role, in role order, into `stages`. Where memory is refused all are given up.
+    fn first_stages(
+        &self,
+        alloc: Global,
+        count: u8,
+        pass: Pass,
+        stages: Vec<Stage>,
+    ) -> Result<Vec<Stage>, NoMemory>
         requires count { count ≡ length self.now.machines }
         requires some { 2 ≤ count }
         requires well_formed { AreWellFormed self.now.machines }
@@ -169,7 +176,7 @@ impl Session {
         requires pass { pass.view ≡ starting self.now.machines }
         requires none { stages.items ≡ [] }
         requires room { length self.now.machines ≤ vec_capacity stages }
-        ensures { AreFirst self.now result.items }
+        ensures { IfOk result (λ v. AreFirst self.now v.items) }
     {
         let mut pass = pass;
         let mut stages = stages;
@@ -177,11 +184,35 @@ impl Session {
         for number in 0..last {
             let role = Role(number);
             let own = self.rings.split(&mut pass, role);
-            push_stage(&mut stages, self.first(own, role));
+            match self.first(alloc, own, role) {
+                Ok(stage) => push_stage(&mut stages, stage),
+                Err(refused) => {
+                    pass.leave();
+                    leave_stages(stages);
+                    return Err(refused);
+                }
+            }
         }
-        push_stage(&mut stages, self.first(pass, Role(last)));
-        stages
+        match self.first(alloc, pass, Role(last)) {
+            Ok(stage) => {
+                push_stage(&mut stages, stage);
+                Ok(stages)
+            }
+            Err(refused) => {
+                leave_stages(stages);
+                Err(refused)
+            }
+        }
     }
+}
+
+/// Gives the stages up.
+fn leave_stages(mut stages: Vec<Stage>) {
+    while let Some(stage) = stages.pop() {
+        let Left { standing } = stage.leave();
+        standing.into_pass().leave();
+    }
+    stages.destroy_empty();
 }
 
 /// Appends a stage, for which there is room.

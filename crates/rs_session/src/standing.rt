@@ -1,5 +1,5 @@
 // What is behind a stage of any kind.
-ghost use Rattle.std.specs.Prelude.{◌≡◌, ◌<◌, ◌^◌, ℕ, [], Some, length, slice_get};
+ghost use Rattle.std.specs.Prelude.{◌≡◌, ◌<◌, ◌^◌, ℕ, [], IfOk, Some, length, slice_get};
 ghost use Rattle.rs_core.specs.Choices.{AreWellFormed};
 ghost use Rattle.rs_core.specs.Configurations.{state_of};
 ghost use Rattle.rs_model.specs.declared.machines.State.TheVariants.{Takes};
@@ -8,14 +8,16 @@ ghost use Rattle.rs_rings.specs.Views.{SpeaksFor, part_of, state_in, history_in}
 ghost use Rattle.rs_session.specs.Standing.{FoundTells, StagePutTells, sight_of_pass};
 
 use rs_core::place_by_label;
-use rs_model::{Arm, Role, Value};
+use rs_model::{Arm, NoMemory, Role, Value};
 use rs_rings::{Got, Pass, Put, Rings};
 use rs_slots::Parcel;
+use std::alloc::{AllocFailed, Global};
 use std::marker::Model;
 
-/// The pass of one role, the state in which the role stands, and how many acts it has made.
+/// The pass of one role, the state in which the role stands, and how many acts it has made. The pass is large, and lies in a box
+/// so that a stage is moved fast.
 pub(crate) struct Standing {
-    pass: Pass,
+    pass: Box<Pass>,
     role: Role,
     state: u32,
     acts: u64,
@@ -27,9 +29,9 @@ impl Model for Standing {
 
     ghost Value = { Stage_data };
 
-    ghost view = { λ s. sight_of_pass s.pass s.role };
+    ghost view = { λ s. sight_of_pass s.pass.value s.role };
 
-    ghost invariant = { λ s. IsOne s.pass.view s.role s.state s.acts };
+    ghost invariant = { λ s. IsOne s.pass.value.view s.role s.state s.acts };
 }
 
 /// What a look for a parcel found: the arm by which it came, or nothing.
@@ -40,19 +42,31 @@ pub(crate) enum Found {
 }
 
 impl Standing {
-    /// A role that has done nothing.
-    pub(crate) fn first(pass: Pass, role: Role, state: u32) -> Standing
+    /// A role that has done nothing. Where memory is refused the pass is given up.
+    pub(crate) fn first(
+        alloc: Global,
+        pass: Pass,
+        role: Role,
+        state: u32,
+    ) -> Result<Standing, NoMemory>
         requires speaks { SpeaksFor pass.view role.0 }
         requires only { (r : ℕ) → SpeaksFor pass.view r → r ≡ role.0 }
         requires state { state ≡ state_in pass.view role.0 }
         requires nothing { history_in pass.view role.0 ≡ [] }
-        ensures { result ≡ sight_of_pass pass role }
+        ensures { IfOk result (λ s. s ≡ sight_of_pass pass role) }
     {
-        Standing {
-            pass,
-            role,
-            state,
-            acts: 0,
+        match Box::new(alloc, pass) {
+            Ok(pass) => Ok(Standing {
+                pass,
+                role,
+                state,
+                acts: 0,
+            }),
+            Err(refused) => {
+                let AllocFailed { value } = refused;
+                value.leave();
+                Err(NoMemory)
+            }
         }
     }
 
@@ -86,7 +100,7 @@ impl Standing {
             state: _,
             acts: _,
         } = self;
-        pass
+        Box::into_inner(pass)
     }
 
     /// Puts the parcel into the ring to the peer; the role then stands in the state `next`.
@@ -97,7 +111,7 @@ impl Standing {
         requires acts { length self.old.part.history < 2 ^ 63 }
         ensures told { StagePutTells rings.now peer.0 parcel next self.old self.new result }
     {
-        match rings.put(&mut self.pass, self.role, peer, parcel) {
+        match rings.put(&mut *self.pass, self.role, peer, parcel) {
             Put::Done => {
                 self.state = next;
                 self.acts += 1;
@@ -123,7 +137,7 @@ impl Standing {
         requires acts { length self.old.part.history < 2 ^ 63 }
         ensures told { FoundTells rings.now peer.0 arms.now self.old self.new result }
     {
-        match rings.look_take(&mut self.pass, self.role, peer) {
+        match rings.look_take(&mut *self.pass, self.role, peer) {
             Got::One(parcel) => {
                 let arm = place_by_label(arms, parcel.label);
                 self.state = arms[arm as usize].next;

@@ -1,21 +1,15 @@
-use Rattle.std.proofs.Common.{rules, arith, ◌≡◌, ◌++◌, List, ◌∷◌, [], ◌∙◌, length, sym, ap}
-use Rattle.rs_model.specs.Data.{Machine_data}
+use Rattle.std.proofs.Common.{arith, ◌++◌, List, ◌∷◌, [], ◌∙◌, length, sym, ap}
 use Rattle.rs_derive.specs.Data.{DNode_data}
+use Rattle.rs_derive.specs.Moves.{Spot}
 use Rattle.rs_graph.proofs.Growth.{in_at, reads_at}
-use Rattle.rs_search.specs.Itself.{even}
-use Rattle.rs_search.proofs.Alike.{first_spot, made_all, made_fresh, made_none, made_on, spot_in}
+use Rattle.rs_search.proofs.Alike.{made_all, made_fresh, made_none, made_on, spot_in}
 use Rattle.rs_search.proofs.itself.nodes_itself.Goals as goal
 
 pub loop-alloc-init : goal.loop-alloc-init
 loop-alloc-init c =
-    let e = c.in_ok-come_to.ensures in
-    let f = first_spot c.in_ok-found.found.items c.come_to.new.found.items (even c.machine.inside.start) c.in_ok-come_to.field-0 c.in_ok-found.ensures.items e.adds e.at in
-    let l : length c.in_ok-places.places.items ≡ length c.machine.inside.states.items = search (rules, c.in_ok-places.ensures.len, c.len.ensures) in (
-      made_none c.args.machine.now c.requires.proper c.come_to.new.found.items c.in_ok-nodes.nodes.items (f ∙ ap (λ (z : Machine_data). even z.start ∷ []) c.machine.view_is) c.in_ok-nodes.ensures.items,
-      e.few,
-      e.placed,
-      e.size ∙ l ∙ ap (λ (z : Machine_data). length z.states) c.machine.view_is,
-    )
+    let e = c.in_ok-places.ensures in
+    let one = ap (λ (z : List Spot). length z) e.found in
+    (made_none c.args.machine.now c.requires.proper c.in_ok-places.found.items c.in_ok-places.nodes.items e.found e.none, omega arith, e.placed, e.size)
 
 pub nexts_of-requires-clause-kind : goal.nexts_of-requires-clause-kind
 nexts_of-requires-clause-kind c =

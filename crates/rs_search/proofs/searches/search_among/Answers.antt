@@ -18,15 +18,15 @@ use Rattle.rs_search.proofs.searches.search_among.Goals as goal
 pub kept_rows-requires-clause-within : goal.kept_rows-requires-clause-within
 kept_rows-requires-clause-within g c = λ n m.
     let s = c.in-Ok.survey in let e = c.in-Ok.ensures in
-    let pic = pictures c.args.sub.now c.args.above.now c.args.bound s.found.table.spots s.found.table.rows s.found.anys.items s.graph e.found e.anys e.built in
+    let pic = pictures c.args.sub.now c.args.above.now c.args.bound s.found.table.spots s.found.table.rows s.found.anys.items s.graph e.found.discovery e.found.anys e.built in
     let w = all_within c.args.sub.now c.args.above.now c.args.bound s.found.table.spots s.graph c.as_slice-current.result.now c.in-Ok-number_all.numbers.items.items c.as_slice-items.result.now pic c.in-Ok-number_all.ensures.stay c.as_slice-items.ensures.value n m in
-    let l : length c.as_slice.result.now ≡ length s.found.table.spots = ap (λ (z : List Bool). length z) (c.as_slice.ensures.value ∙ e.keeps) ∙ length-map (is_keeping c.args.sub.now c.args.above.now c.args.bound) s.found.table.spots in
+    let l : length c.as_slice.result.now ≡ length s.found.table.spots = ap (λ (z : List Bool). length z) (c.as_slice.ensures.value ∙ e.found.keeps) ∙ length-map (is_keeping c.args.sub.now c.args.above.now c.args.bound) s.found.table.spots in
     omega arith
 
 pub rank_rows-requires-clause-few : goal.rank_rows-requires-clause-few
 rank_rows-requires-clause-few g c = λ n.
     let s = c.in-Ok.survey in let e = c.in-Ok.ensures in let d = c.in-Ok-number_all in
-    let f = nexts_few s.found.anys.items s.found.table.rows s.graph c.as_slice-current.result.now d.numbers.items.items d.numbers.nexts.items MOST_CANDIDATES e.built e.short d.ensures.found in
+    let f = nexts_few s.found.anys.items s.found.table.rows s.graph c.as_slice-current.result.now d.numbers.items.items d.numbers.nexts.items MOST_CANDIDATES e.built e.found.short d.ensures.found in
     let a = same_kept c.as_slice.result.now c.as_slice.result.now d.numbers.items.items c.as_slice-items.result.now d.numbers.nexts.items c.as_slice-nexts.result.now c.in-Ok-kept_rows.kept.items refl c.as_slice-items.ensures.value c.as_slice-nexts.ensures.value c.in-Ok-kept_rows.ensures in
     let k = kept_few c.as_slice.result.now d.numbers.items.items d.numbers.nexts.items c.in-Ok-kept_rows.kept.items 65537 a d.ensures.found.all f n in
     let l : length (slice_index_or c.as_slice-2.result.now n []) ≡ length (slice_index_or c.in-Ok-kept_rows.kept.items n []) = ap (λ (z : List (List ℕ)). length (slice_index_or z n [])) c.as_slice-2.ensures.value in
@@ -43,7 +43,7 @@ pub returns-in-Err-OnCycle-clause-err : goal.returns-in-Err-OnCycle-clause-err
 returns-in-Err-OnCycle-clause-err g c =
     let s = c.in-Ok.survey in let e = c.in-Ok.ensures in let d = c.in-Ok-number_all in
     let a = same_kept (map (is_keeping c.args.sub.now c.args.above.now c.args.bound) s.found.table.spots) c.as_slice.result.now d.numbers.items.items c.as_slice-items.result.now d.numbers.nexts.items c.as_slice-nexts.result.now c.in-Ok-kept_rows.kept.items
-    (c.as_slice.ensures.value ∙ e.keeps) c.as_slice-items.ensures.value c.as_slice-nexts.ensures.value c.in-Ok-kept_rows.ensures in
+    (c.as_slice.ensures.value ∙ e.found.keeps) c.as_slice-items.ensures.value c.as_slice-nexts.ensures.value c.in-Ok-kept_rows.ensures in
     let y : Unranks c.as_slice-2.result.now c.in-Err-OnCycle.field-0 = c.in-Err-OnCycle.ensures.cycle in
     let w = forgets c.args.sub.now c.args.above.now c.args.bound (record {
       found = s.found.table.spots;
@@ -56,9 +56,9 @@ returns-in-Err-OnCycle-clause-err g c =
       ranks = [];
       nodes = unranked s.found.table.spots d.numbers.items.items d.numbers.nexts.items;
       proper = c.requires.theirs;
-      discovery = e.found;
+      discovery = e.found.discovery;
       few = e.small;
-      pictures = pictures c.args.sub.now c.args.above.now c.args.bound s.found.table.spots s.found.table.rows s.found.anys.items s.graph e.found e.anys e.built;
+      pictures = pictures c.args.sub.now c.args.above.now c.args.bound s.found.table.spots s.found.table.rows s.found.anys.items s.graph e.found.discovery e.found.anys e.built;
       left = subst (λ (z : List ℕ). IsRemoval s.graph.outs z s.left.order.items) (sym c.as_slice-current.ensures.value) e.left;
       numbers = d.ensures.found;
       stay = d.ensures.stay;
@@ -71,7 +71,7 @@ returns-in-Err-OnCycle-clause-err g c =
 pub nodes_of-requires-clause-within : goal.nodes_of-requires-clause-within
 nodes_of-requires-clause-within g c = λ n m.
     let s = c.in-Ok.survey in let e = c.in-Ok.ensures in
-    let pic = pictures c.args.sub.now c.args.above.now c.args.bound s.found.table.spots s.found.table.rows s.found.anys.items s.graph e.found e.anys e.built in
+    let pic = pictures c.args.sub.now c.args.above.now c.args.bound s.found.table.spots s.found.table.rows s.found.anys.items s.graph e.found.discovery e.found.anys e.built in
     let w = all_within c.args.sub.now c.args.above.now c.args.bound s.found.table.spots s.graph c.as_slice-current.result.now c.in-Ok-number_all.numbers.items.items c.as_slice-items.result.now pic c.in-Ok-number_all.ensures.stay c.as_slice-items.ensures.value n m in
     w
 
@@ -83,7 +83,7 @@ pub returns-in-Ok-nodes_of-clause-ok : goal.returns-in-Ok-nodes_of-clause-ok
 returns-in-Ok-nodes_of-clause-ok g c =
     let s = c.in-Ok.survey in let e = c.in-Ok.ensures in let d = c.in-Ok-number_all in
     let a = same_kept (map (is_keeping c.args.sub.now c.args.above.now c.args.bound) s.found.table.spots) c.as_slice.result.now d.numbers.items.items c.as_slice-items.result.now d.numbers.nexts.items c.as_slice-nexts.result.now c.in-Ok-kept_rows.kept.items
-    (c.as_slice.ensures.value ∙ e.keeps) c.as_slice-items.ensures.value c.as_slice-nexts.ensures.value c.in-Ok-kept_rows.ensures in
+    (c.as_slice.ensures.value ∙ e.found.keeps) c.as_slice-items.ensures.value c.as_slice-nexts.ensures.value c.in-Ok-kept_rows.ensures in
     let r = c.in-Ok-rank_rows.ensures.ranks in
     let w = is_found c.args.sub.now c.args.above.now c.args.bound (record {
       found = s.found.table.spots;
@@ -96,9 +96,9 @@ returns-in-Ok-nodes_of-clause-ok g c =
       ranks = c.in-Ok-rank_rows.ranks.items;
       nodes = c.in-Ok-nodes_of.nodes.items;
       proper = c.requires.theirs;
-      discovery = e.found;
+      discovery = e.found.discovery;
       few = e.small;
-      pictures = pictures c.args.sub.now c.args.above.now c.args.bound s.found.table.spots s.found.table.rows s.found.anys.items s.graph e.found e.anys e.built;
+      pictures = pictures c.args.sub.now c.args.above.now c.args.bound s.found.table.spots s.found.table.rows s.found.anys.items s.graph e.found.discovery e.found.anys e.built;
       left = subst (λ (z : List ℕ). IsRemoval s.graph.outs z s.left.order.items) (sym c.as_slice-current.ensures.value) e.left;
       numbers = d.ensures.found;
       stay = d.ensures.stay;
@@ -112,7 +112,7 @@ pub returns-in-Err-OnCycle-clause-cost : goal.returns-in-Err-OnCycle-clause-cost
 returns-in-Err-OnCycle-clause-cost g c =
     let s = c.in-Ok.survey in let e = c.in-Ok.ensures in let d = c.in-Ok-number_all in
     whole_cost c.args.sub.now c.args.above.now c.args.bound s.found.table.spots s.found.table.rows s.found.anys.items s.graph c.as_slice-current.result.now s.left.order.items d.numbers.items.items d.numbers.nexts.items
-    c.args.steps.now c.explore.new.steps c.number_all.new.steps e.found e.built
+    c.args.steps.now c.explore.new.steps c.number_all.new.steps e.found.discovery e.built
     (subst (λ (z : List ℕ). IsRemoval s.graph.outs z s.left.order.items) (sym c.as_slice-current.ensures.value) e.left)
     d.ensures.found d.ensures.stay e.steps d.ensures.steps
 
@@ -120,10 +120,10 @@ pub returns-in-Ok-nodes_of-clause-steps : goal.returns-in-Ok-nodes_of-clause-ste
 returns-in-Ok-nodes_of-clause-steps g c =
     let s = c.in-Ok.survey in let e = c.in-Ok.ensures in let d = c.in-Ok-number_all in
     whole_cost c.args.sub.now c.args.above.now c.args.bound s.found.table.spots s.found.table.rows s.found.anys.items s.graph c.as_slice-current.result.now s.left.order.items d.numbers.items.items d.numbers.nexts.items
-    c.args.steps.now c.explore.new.steps c.number_all.new.steps e.found e.built
+    c.args.steps.now c.explore.new.steps c.number_all.new.steps e.found.discovery e.built
     (subst (λ (z : List ℕ). IsRemoval s.graph.outs z s.left.order.items) (sym c.as_slice-current.ensures.value) e.left)
     d.ensures.found d.ensures.stay e.steps d.ensures.steps
 
 pub number_all-requires-clause-short : goal.number_all-requires-clause-short
 number_all-requires-clause-short g c = λ n. (let s = c.in-Ok.survey in let e = c.in-Ok.ensures in
-    let k = next_few s.found.anys.items s.found.table.rows s.graph c.as_slice-current.result.now MOST_CANDIDATES e.built e.short n in omega arith)
+    let k = next_few s.found.anys.items s.found.table.rows s.graph c.as_slice-current.result.now MOST_CANDIDATES e.built e.found.short n in omega arith)

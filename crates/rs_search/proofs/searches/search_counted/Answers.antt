@@ -12,25 +12,17 @@ use Rattle.rs_search.proofs.Verdicts.{rows_within}
 use Rattle.rs_search.proofs.searches.search_counted.Goals as goal
 
 pub has_plain_ranks-requires-clause-within : goal.has_plain_ranks-requires-clause-within
-has_plain_ranks-requires-clause-within g c = rows_within (nexts_within c.args.sub.now c.args.above.now c.args.bound) (start_spot c.args.sub.now c.args.above.now) c.in-Ok.found.table.spots c.in-Ok.found.table.rows c.in-Ok.ensures.found
+has_plain_ranks-requires-clause-within g c = rows_within (nexts_within c.args.sub.now c.args.above.now c.args.bound) (start_spot c.args.sub.now c.args.above.now) c.in-Ok.found.table.spots c.in-Ok.found.table.rows c.in-Ok.ensures.found.discovery
 
 pub search_among-requires-clause-found : goal.search_among-requires-clause-found
-search_among-requires-clause-found g c = rw (c.has_plain_ranks.ensures.spots, c.has_plain_ranks.ensures.rows) c.in-Ok.ensures.found
+search_among-requires-clause-found g c =
+    let e = c.in-Ok.ensures.found in
+    let es = c.has_plain_ranks.ensures.spots in
+    let er = c.has_plain_ranks.ensures.rows in
+    record { discovery = rw (es, er) e.discovery; short = rw er e.short; anys = rw es e.anys; keeps = rw es e.keeps; cut = rw es e.cut; choosing = rw es e.choosing }
 
 pub search_among-requires-clause-few : goal.search_among-requires-clause-few
 search_among-requires-clause-few g c = rw c.has_plain_ranks.ensures.spots c.in-Ok.ensures.few
-
-pub search_among-requires-clause-short : goal.search_among-requires-clause-short
-search_among-requires-clause-short g c = rw c.has_plain_ranks.ensures.rows c.in-Ok.ensures.short
-
-pub search_among-requires-clause-anys : goal.search_among-requires-clause-anys
-search_among-requires-clause-anys g c = rw c.has_plain_ranks.ensures.spots c.in-Ok.ensures.anys
-
-pub search_among-requires-clause-keeps : goal.search_among-requires-clause-keeps
-search_among-requires-clause-keeps g c = rw c.has_plain_ranks.ensures.spots c.in-Ok.ensures.keeps
-
-pub search_among-requires-clause-cut : goal.search_among-requires-clause-cut
-search_among-requires-clause-cut g c = rw c.has_plain_ranks.ensures.spots c.in-Ok.ensures.cut
 
 pub returns-then-has_plain_ranks-clause-ok : goal.returns-then-has_plain_ranks-clause-ok
 returns-then-has_plain_ranks-clause-ok g c =
@@ -38,14 +30,14 @@ returns-then-has_plain_ranks-clause-ok g c =
     let t = c.has_plain_ranks.new.table in
     let es = c.has_plain_ranks.ensures.spots in
     let er = c.has_plain_ranks.ensures.rows in
-    let d : IsDiscovery (nexts_within c.args.sub.now c.args.above.now c.args.bound) (start_spot c.args.sub.now c.args.above.now) t.spots t.rows = rw (es, er) e.found in
+    let d : IsDiscovery (nexts_within c.args.sub.now c.args.above.now c.args.bound) (start_spot c.args.sub.now c.args.above.now) t.spots t.rows = rw (es, er) e.found.discovery in
     let w = forward_found c.args.sub.now c.args.above.now c.args.bound t.spots t.rows c.in-Ok.found.keeps.items t.ranks c.into_nodes.result.items c.in-Ok.found.choosing
-    c.requires.theirs d (rw es e.few) (rw es e.keeps) (rw es e.choosing) (c.has_plain_ranks.ensures.choosing c.if-has_plain_ranks.true) (subst (λ (z : List Bool). AreForward z t.rows t.ranks 0) c.deref.ensures.value (c.has_plain_ranks.ensures.ranks c.if-has_plain_ranks.true)) c.into_nodes.ensures in
+    c.requires.theirs d (rw es e.few) (rw es e.found.keeps) (rw es e.found.choosing) (c.has_plain_ranks.ensures.choosing c.if-has_plain_ranks.true) (subst (λ (z : List Bool). AreForward z t.rows t.ranks 0) c.deref.ensures.value (c.has_plain_ranks.ensures.ranks c.if-has_plain_ranks.true)) c.into_nodes.ensures in
     subst (λ (q : Role). IsCanonical c.args.sub.now c.args.above.now c.args.bound (record { role = q; bound = c.args.bound; nodes = c.into_nodes.result.items })) (sym (ap (λ (m : Machine_data). m.role) c.sub.view_is)) w
 
 pub returns-then-has_plain_ranks-clause-steps : goal.returns-then-has_plain_ranks-clause-steps
 returns-then-has_plain_ranks-clause-steps g c = record {
   spots = c.in-Ok.found.table.spots;
-  are = candidates_are c.args.sub.now c.args.above.now c.args.bound c.in-Ok.found.table.spots c.in-Ok.found.table.rows c.in-Ok.ensures.found;
+  are = candidates_are c.args.sub.now c.args.above.now c.args.bound c.in-Ok.found.table.spots c.in-Ok.found.table.rows c.in-Ok.ensures.found.discovery;
   most = omega arith;
 }

@@ -9,27 +9,27 @@ use Rattle.rs_search.proofs.Verdicts.{few_rows, rows_within, moves_few, not_foun
 use Rattle.rs_search.proofs.survey.explore.Goals as goal
 
 pub graph_of-requires-clause-few : goal.graph_of-requires-clause-few
-graph_of-requires-clause-few g c = λ n. rw (c.as_slice-2.ensures.value ∙ c.in-Ok.ensures) (few_rows c.args.found.table.rows c.requires.short n)
+graph_of-requires-clause-few g c = λ n. rw (c.as_slice-2.ensures.value ∙ c.in-Ok.ensures) (few_rows c.args.found.table.rows c.requires.found.short n)
 
 pub graph_of-requires-clause-within : goal.graph_of-requires-clause-within
-graph_of-requires-clause-within g c = rw (c.as_slice-2.ensures.value ∙ c.in-Ok.ensures) (rows_within (nexts_within c.args.sub.now c.args.above.now c.args.bound) (start_spot c.args.sub.now c.args.above.now) c.args.found.table.spots c.args.found.table.rows c.requires.found)
+graph_of-requires-clause-within g c = rw (c.as_slice-2.ensures.value ∙ c.in-Ok.ensures) (rows_within (nexts_within c.args.sub.now c.args.above.now c.args.bound) (start_spot c.args.sub.now c.args.above.now) c.args.found.table.spots c.args.found.table.rows c.requires.found.discovery)
 
 pub remove-requires-clause-few : goal.remove-requires-clause-few
 remove-requires-clause-few g c = λ n. moves_few c.as_slice.result.now c.as_slice-2.result.now c.in-Ok-graph_of.graph 4294967296 c.in-Ok-graph_of.ensures (omega arith)
-    (λ m. rw (c.as_slice-2.ensures.value ∙ c.in-Ok.ensures) (few_rows c.args.found.table.rows c.requires.short m)) n
+    (λ m. rw (c.as_slice-2.ensures.value ∙ c.in-Ok.ensures) (few_rows c.args.found.table.rows c.requires.found.short m)) n
 
 pub returns-then-index-moves-clause-err : goal.returns-then-index-moves-clause-err
 returns-then-index-moves-clause-err g c =
     let b1 : IsBuilt c.args.found.anys.items c.as_slice-2.result.now (length c.as_slice-2.result.now) c.in-Ok-graph_of.graph = subst (λ (z : List Bool). IsBuilt z c.as_slice-2.result.now (length c.as_slice-2.result.now) c.in-Ok-graph_of.graph) c.as_slice.ensures.value c.in-Ok-graph_of.ensures in
     let b2 : IsBuilt c.args.found.anys.items c.args.found.table.rows (length c.args.found.table.rows) c.in-Ok-graph_of.graph = subst (λ (z : List (List ℕ)). IsBuilt c.args.found.anys.items z (length z) c.in-Ok-graph_of.graph) (c.as_slice-2.ensures.value ∙ c.in-Ok.ensures) b1 in
-    let f = at_short c.args.found.table.spots 0 (start_spot c.args.sub.now c.args.above.now) c.requires.found.first in
-    let some : 0 < length c.in-Ok-remove.left.current.items = (let a = c.in-Ok-remove.ensures.removal.size in let b = b2.size in let d = c.requires.found.all in omega arith) in
+    let f = at_short c.args.found.table.spots 0 (start_spot c.args.sub.now c.args.above.now) c.requires.found.discovery.first in
+    let some : 0 < length c.in-Ok-remove.left.current.items = (let a = c.in-Ok-remove.ensures.removal.size in let b = b2.size in let d = c.requires.found.discovery.all in omega arith) in
     not_found c.args.sub.now c.args.above.now c.args.bound c.args.found.table.spots c.args.found.table.rows c.args.found.anys.items c.in-Ok-graph_of.graph c.in-Ok-remove.left.current.items c.in-Ok-remove.left.order.items c.args.found.cut
-    c.requires.found c.requires.few c.requires.anys c.requires.cut b2 c.in-Ok-remove.ensures.removal (index_at c.in-Ok-remove.left.current.items 0 c.index.result.now some c.index.ensures ∙ c.if-index-moves.true ∙ c.moves.ensures)
+    c.requires.found.discovery c.requires.few c.requires.found.anys c.requires.found.cut b2 c.in-Ok-remove.ensures.removal (index_at c.in-Ok-remove.left.current.items 0 c.index.result.now some c.index.ensures ∙ c.if-index-moves.true ∙ c.moves.ensures)
 
 pub returns-then-index-moves-clause-cost : goal.returns-then-index-moves-clause-cost
 returns-then-index-moves-clause-cost g c =
     let b1 : IsBuilt c.args.found.anys.items c.as_slice-2.result.now (length c.as_slice-2.result.now) c.in-Ok-graph_of.graph = subst (λ (z : List Bool). IsBuilt z c.as_slice-2.result.now (length c.as_slice-2.result.now) c.in-Ok-graph_of.graph) c.as_slice.ensures.value c.in-Ok-graph_of.ensures in
     let b2 : IsBuilt c.args.found.anys.items c.args.found.table.rows (length c.args.found.table.rows) c.in-Ok-graph_of.graph = subst (λ (z : List (List ℕ)). IsBuilt c.args.found.anys.items z (length z) c.in-Ok-graph_of.graph) (c.as_slice-2.ensures.value ∙ c.in-Ok.ensures) b1 in
     removal_cost c.args.sub.now c.args.above.now c.args.bound c.args.found.table.spots c.args.found.table.rows c.args.found.anys.items c.in-Ok-graph_of.graph c.in-Ok-remove.left.current.items c.in-Ok-remove.left.order.items
-    c.args.steps.now c.remove.new.steps c.requires.found b2 c.in-Ok-remove.ensures.removal c.in-Ok-remove.ensures.steps
+    c.args.steps.now c.remove.new.steps c.requires.found.discovery b2 c.in-Ok-remove.ensures.removal c.in-Ok-remove.ensures.steps

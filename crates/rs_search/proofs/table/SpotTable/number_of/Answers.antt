@@ -1,5 +1,5 @@
-use Rattle.std.proofs.Common.{arith, ◌≡◌, ◌≢◌, ◌<◌, ◌∙◌, ℕ, List, length, slice_get, Some, ap, sym, subst}
-use Rattle.std.proofs.lemmas.List.{get_or_default, length-map}
+use Rattle.std.proofs.Common.{arith, ◌≡◌, ◌≢◌, ◌<◌, ◌≤◌, ◌++◌, ◌∷◌, [], ◌∙◌, ℕ, List, length, slice_get, take, Some, ap, sym, subst}
+use Rattle.std.proofs.lemmas.List.{get_or_default, length-map, map_push, take-append-le}
 use Rattle.std.proofs.lemmas.Option.{same_Some}
 use Rattle.rs_model.specs.declared.machines.Act.{Act}
 use Rattle.rs_derive.specs.Checks.{target_spot}
@@ -10,10 +10,16 @@ use Rattle.rs_derive.specs.Within.{IsPlaceWithin}
 use Rattle.rs_graph.proofs.Growth.{at_short}
 use Rattle.rs_search.specs.Buckets.{acts_code, bucket_by, bucket_of}
 use Rattle.rs_search.specs.Index.{Chained}
-use Rattle.rs_search.specs.Table.{SpotTable_data, links_of, spots_of}
+use Rattle.rs_search.specs.Table.{SpotTable_data, links_of, nexts_of, spots_of}
 use Rattle.rs_search.specs.declared.table.Entry.{Entry}
-use Rattle.rs_search.proofs.Filing.{added_at, code_at, entry_there, is_added, node_there, spot_there}
+use Rattle.rs_search.proofs.Filing.{added_at, code_at, entry_there, is_added, node_there, spot_there, table_push}
 use Rattle.rs_search.proofs.table.SpotTable.number_of.Goals as goal
+
+-- the known rows stay with one node more
+rows_push : (nodes new : List DNode_data) (known : ℕ) (node : DNode_data) → known ≤ length nodes → new ≡ nodes ++ node ∷ [] → take known (nexts_of new) ≡ take known (nexts_of nodes)
+rows_push nodes new known node h e =
+    let l = length-map nodes (λ (n : DNode_data). n.next) in
+    ap (λ (z : List DNode_data). take known (nexts_of z)) e ∙ ap (take known) (map_push (λ (n : DNode_data). n.next) nodes node) ∙ take-append-le known (nexts_of nodes) (node.next ∷ []) (omega arith)
 
 pub code_behind-code-requires-clause-within : goal.code_behind-code-requires-clause-within
 code_behind-code-requires-clause-within c =
@@ -168,3 +174,21 @@ add-requires-clause-link c =
     let heads = c.self.inside.index.heads.items in
     let el : c.len.result ≡ length heads = grind (arith, c.len.ensures) in
     c.index-link.ensures ∙ get_or_default heads c.bucket_by-bucket.result c.index-link.result.now 0 (let b = c.bucket_by-bucket.ensures.within in omega arith)
+
+pub invariant_of-self-then-n-limit : goal.invariant_of-self-then-n-limit
+invariant_of-self-then-n-limit c =
+    let ep : spot_of c.in_ok-node.node ≡ target_spot c.as_slice-pending.result.now c.args.target = c.in_ok-node.ensures.spot ∙ ap (λ (z : List Act). target_spot z c.args.target) (sym c.as_slice-pending.ensures) in
+    table_push c.self.inside.nodes.items c.add.new.nodes.items c.self.inside.index.heads.items c.add.new.index.heads.items c.self.inside.index.entries.items c.add.new.index.entries.items c.self.inside.known c.code_behind-code.result c.in_ok-node.node
+    c.in_ok-add.ensures.nodes c.in_ok-add.ensures.codes (c.code_behind-code.ensures ∙ ap (λ (z : Spot). acts_code 0 z.pending) (sym ep)) c.in_ok-add.ensures.size c.in_ok-add.ensures.chained c.self.invariant
+
+pub invariant_of-self-2 : goal.invariant_of-self-2
+invariant_of-self-2 c =
+    let ep : spot_of c.in_ok-node.node ≡ target_spot c.as_slice-pending.result.now c.args.target = c.in_ok-node.ensures.spot ∙ ap (λ (z : List Act). target_spot z c.args.target) (sym c.as_slice-pending.ensures) in
+    table_push c.self.inside.nodes.items c.add.new.nodes.items c.self.inside.index.heads.items c.add.new.index.heads.items c.self.inside.index.entries.items c.add.new.index.entries.items c.self.inside.known c.code_behind-code.result c.in_ok-node.node
+    c.in_ok-add.ensures.nodes c.in_ok-add.ensures.codes (c.code_behind-code.ensures ∙ ap (λ (z : Spot). acts_code 0 z.pending) (sym ep)) c.in_ok-add.ensures.size c.in_ok-add.ensures.chained c.self.invariant
+
+pub returns-then-n-limit-clause-rows : goal.returns-then-n-limit-clause-rows
+returns-then-n-limit-clause-rows c = rows_push c.self.inside.nodes.items c.add.new.nodes.items c.self.inside.known c.in_ok-node.node c.self.invariant.within c.in_ok-add.ensures.nodes ∙ ap (λ (t : SpotTable_data). t.rows) c.self.view_is
+
+pub returns-clause-rows : goal.returns-clause-rows
+returns-clause-rows c = rows_push c.self.inside.nodes.items c.add.new.nodes.items c.self.inside.known c.in_ok-node.node c.self.invariant.within c.in_ok-add.ensures.nodes ∙ ap (λ (t : SpotTable_data). t.rows) c.self.view_is
