@@ -2,14 +2,8 @@
 #![tactic(auto)]
 
 mod counting;
-#[cfg(test)]
-mod demo_tests;
 mod runs;
 mod session;
-#[cfg(test)]
-mod stage_tests;
-#[cfg(test)]
-mod tests;
 
 use rs_core::Outcome;
 use runs::{End, Told, run_of};

@@ -1,0 +1,31 @@
+//! The documents whose sessions are tried.
+
+/// Double buffering, one ready ahead.
+pub(crate) const BUFFERING: &[u8] =
+    b"roles K, S, T\nprotocol rec X. K->S:ready(). T->K:ready(). S->K{copy(bytes). K->T:copy(bytes). X, stop(). K->S:ready(). K->T:stop(). end}\nmachine K: S!ready(). rec X. S!ready(). T?ready(). S?{copy(bytes). T!copy(bytes). X, stop(). T!stop(). end}\n";
+
+/// The same without an end.
+pub(crate) const ENDLESS_BUFFERING: &[u8] =
+    b"roles K, S, T\nprotocol rec X. K->S:ready(). T->K:ready(). S->K:copy(bytes). K->T:copy(bytes). X\nmachine K: S!ready(). rec X. S!ready(). T?ready(). S?copy(bytes). T!copy(bytes). X\n";
+
+/// B sends before it receives.
+pub(crate) const SWAPPED: &[u8] =
+    b"roles A, B\nprotocol A->B:x(). B->A:y(). end\nmachine B: A!y(). A?x(). end\n";
+
+/// Both send twice before they receive: rings of one message are too small.
+pub(crate) const TWICE: &[u8] =
+    b"roles A, B\nprotocol A->B:x(). A->B:x(). B->A:y(). B->A:y(). end\nmachine B: A!y(). A!y(). A?x(). A?x(). end\n";
+
+/// A waits first, where the protocol lets it send.
+pub(crate) const WAITS: &[u8] =
+    b"roles A, B\nprotocol A->B:x(). B->A:y(). end\nmachine A: B?y(). B!x(). end\n";
+
+pub(crate) const LISTS: &[u8] = b"roles A, B\nprotocol A->B:x(list). end\n";
+
+pub(crate) const ONCE: &[u8] = b"roles A, B\nprotocol A->B:x(nat). end\n";
+
+/// A goes on for ever, as B does.
+pub(crate) const ENDLESS: &[u8] = b"roles A, B\nprotocol rec X. A->B:x(). B->A:y(). X\n";
+
+/// A alone sends, for ever.
+pub(crate) const ENDLESS_SENDS: &[u8] = b"roles A, B\nprotocol rec X. A->B:x(). X\n";

@@ -1,0 +1,115 @@
+//! What rings do after two sends.
+
+ghost use Rattle.std.specs.Prelude.{◌≡◌, length};
+ghost use Rattle.rs_model.specs.Limits.{IsCapacity};
+ghost use Rattle.rs_core.specs.Configurations.{role_of};
+ghost use Rattle.rs_documents.specs.Reading.{DocumentIsReady};
+
+use crate::documents::TWICE;
+use rs_answers::{DerivedSession, accept_derived, derived_session};
+use rs_core::Event;
+use rs_documents::{Document, read_document};
+use rs_model::{Role, Value};
+use rs_room::{Bounded, BoundedFault};
+use rs_safety::Accepted;
+use rs_words::DEFAULT_BOUND;
+use std::alloc::Global;
+
+/// The room, who can go on after both roles have sent once by their first arms, and why the first one can't send again.
+#[derive(Drop)]
+struct RingsTold {
+    room: u64,
+    movable: Option<Role>,
+    fault: Option<BoundedFault>,
+}
+
+fn sends(number: u8) -> Event
+    ensures { role_of result ≡ number }
+{
+    Event::Send {
+        role: Role(number),
+        arm: 0,
+        value: Value::Unit,
+    }
+}
+
+fn told_of(alloc: Global, accepted: &Accepted, capacity: u16) -> Option<RingsTold>
+    requires { IsCapacity capacity }
+{
+    if accepted.machines().len() < 2 {
+        return None;
+    }
+    let Ok(mut rings) = Bounded::begin(alloc, accepted, capacity) else {
+        return None;
+    };
+    let Ok(_) = rings.step(sends(0)) else {
+        return None;
+    };
+    let Ok(_) = rings.step(sends(1)) else {
+        return None;
+    };
+    let room = rings.room();
+    let movable = rings.movable();
+    let fault = match rings.step(sends(0)) {
+        Ok(_) => None,
+        Err(refused) => Some(refused.fault),
+    };
+    Some(RingsTold {
+        room,
+        movable,
+        fault,
+    })
+}
+
+fn document_told(alloc: Global, document: &Document, capacity: u16) -> Option<RingsTold>
+    requires ready { DocumentIsReady document.now }
+    requires roles { length document.now.names.roles ≡ document.now.protocol.roles }
+    requires capacity { IsCapacity capacity }
+{
+    let DerivedSession {
+        projections,
+        machines,
+        derivations,
+    } = match derived_session(alloc, document, DEFAULT_BOUND) {
+        Ok(session) => session,
+        Err(_refusal) => return None,
+    };
+    let accepted = accept_derived(
+        &document.protocol,
+        projections.as_slice(),
+        machines,
+        derivations.as_slice(),
+    );
+    told_of(alloc, &accepted, capacity)
+}
+
+/// What is told of the text's session over rings of that capacity: none where it isn't accepted, the two roles can't send,
+/// or memory was refused.
+fn rings_of(alloc: Global, text: &[u8], capacity: u16) -> Option<RingsTold>
+    requires { IsCapacity capacity }
+{
+    match read_document(alloc, text) {
+        Ok(document) => document_told(alloc, &document, capacity),
+        Err(_fault) => None,
+    }
+}
+
+#[test]
+fn rings_of_the_room_are_enough(rt: HostRuntime) {
+    let full = BoundedFault::QueueFull { sent: 1, taken: 0 };
+    match rings_of(rt.alloc(), TWICE, 1) {
+        Some(told) => {
+            assert!(rt; told.room == 11);
+            assert!(rt; told.movable.is_none());
+            assert!(rt; told.fault == Some(full));
+        }
+        None => assert!(rt; false, "not accepted"),
+    }
+    match rings_of(rt.alloc(), TWICE, 11) {
+        Some(told) => {
+            assert!(rt; told.movable == Some(Role(0)));
+            assert!(rt; told.fault.is_none());
+        }
+        None => assert!(rt; false, "not accepted"),
+    }
+}

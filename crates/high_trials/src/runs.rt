@@ -1,0 +1,267 @@
+//! How a text's session runs.
+
+ghost use Rattle.std.specs.Prelude.{◌≡◌, ◌≤◌, length, IfOk};
+ghost use Rattle.rs_model.specs.declared.limits.TheConstants.{MOST_WORKERS};
+ghost use Rattle.rs_documents.specs.Reading.{DocumentIsReady};
+
+use rs_answers::{DerivedSession, accept_derived, derived_session};
+use rs_core::{Actor, Run, RunFault, SeededActor, run_bounded, run_plain};
+use rs_documents::{Document, read_document};
+use rs_exec::{ExecFault, Ran, run_inline};
+use rs_model::{MOST_CAPACITY, Machine, NoMemory, Role};
+use rs_pool::{Gate, run_pool};
+use rs_safety::Accepted;
+use rs_words::DEFAULT_BOUND;
+use std::alloc::Global;
+use std::sync::Wait;
+use std::thread::Threads;
+
+/// By how many workers a session is run, and how many acts a role may make.
+#[derive(Clone, Copy)]
+pub(crate) struct HowToRun {
+    pub workers: u8,
+    pub limit: u32,
+}
+
+/// The run of an accepted session by workers, over rings of the room that it needs: none where that is more than a ring can hold,
+/// or memory was refused.
+fn pooled<R: Threads + Wait + Sync, A: Actor + Send, G: Gate + Sync>(
+    rt: &R,
+    alloc: Global,
+    accepted: &Accepted,
+    actors: Vec<A>,
+    how: HowToRun,
+    gate: &G,
+) -> Option<Run<A>>
+    requires { (1 ≤ how.workers) × (how.workers ≤ MOST_WORKERS) }
+{
+    let room = accepted.room();
+    if actors.len() != accepted.machines().len() || room < 1 || room > u64::from(MOST_CAPACITY) {
+        return None;
+    }
+    let capacity = room as u16;
+    match run_pool(
+        rt,
+        alloc,
+        accepted,
+        actors,
+        capacity,
+        how.limit,
+        how.workers,
+        gate,
+    ) {
+        Ok(Ran { run, closed: _ }) => Some(run),
+        Err(_) => None,
+    }
+}
+
+pub(crate) fn copies_of(alloc: Global, machines: &[Machine]) -> Result<Vec<Machine>, NoMemory>
+    ensures { IfOk result (λ copies. copies.items ≡ machines.now) }
+{
+    let mut copies = Vec::with_capacity(alloc, machines.len())?;
+    for machine in machines {
+        copies.push(machine.copy(alloc)?)?;
+    }
+    Ok(copies)
+}
+
+/// The queues of a run on one thread: without a bound, bounded ones, or rings, of a capacity or of the room that the session needs.
+#[derive(Clone, Copy)]
+pub(crate) enum Queues {
+    Unbounded,
+    Bounded(usize),
+    Rings(u16),
+    RingsOfTheRoom,
+}
+
+/// The run over unbounded queues.
+fn plainly<A: Actor>(
+    alloc: Global,
+    accepted: &Accepted,
+    actors: Vec<A>,
+    limit: u32,
+) -> Option<Result<Run<A>, ExecFault>> {
+    if actors.len() != accepted.machines().len() {
+        return None;
+    }
+    match copies_of(alloc, accepted.machines()) {
+        Ok(machines) => match run_plain(alloc, machines, actors, limit) {
+            Ok(run) => Some(Ok(run)),
+            Err(NoMemory) => None,
+        },
+        Err(_) => None,
+    }
+}
+
+/// The run over queues of that capacity.
+fn boundedly<A: Actor>(
+    alloc: Global,
+    accepted: &Accepted,
+    actors: Vec<A>,
+    capacity: usize,
+    limit: u32,
+) -> Option<Result<Run<A>, ExecFault>> {
+    if actors.len() != accepted.machines().len() {
+        return None;
+    }
+    match copies_of(alloc, accepted.machines()) {
+        Ok(machines) => match run_bounded(alloc, machines, actors, capacity, limit) {
+            Ok(run) => Some(Ok(run)),
+            Err(fault) => Some(Err(with_rings(fault))),
+        },
+        Err(_) => None,
+    }
+}
+
+/// The same fault of a run over rings.
+fn with_rings(fault: RunFault) -> ExecFault {
+    match fault {
+        RunFault::Full {
+            sender,
+            receiver,
+            sent,
+            taken,
+        } => ExecFault::Full {
+            sender,
+            receiver,
+            sent,
+            taken,
+        },
+        RunFault::NoMemory => ExecFault::NoMemory,
+    }
+}
+
+/// The run over rings of that capacity: none where there can be no such rings.
+fn inlined<A: Actor>(
+    alloc: Global,
+    accepted: &Accepted,
+    actors: Vec<A>,
+    capacity: u64,
+    limit: u32,
+) -> Option<Result<Run<A>, ExecFault>> {
+    if actors.len() != accepted.machines().len()
+        || capacity < 1
+        || capacity > u64::from(MOST_CAPACITY)
+    {
+        return None;
+    }
+    match run_inline(alloc, accepted, actors, capacity as u16, limit) {
+        Ok(Ran { run, closed: _ }) => Some(Ok(run)),
+        Err(fault) => Some(Err(fault)),
+    }
+}
+
+fn run_over<A: Actor>(
+    alloc: Global,
+    accepted: &Accepted,
+    actors: Vec<A>,
+    queues: Queues,
+    limit: u32,
+) -> Option<Result<Run<A>, ExecFault>> {
+    match queues {
+        Queues::Unbounded => plainly(alloc, accepted, actors, limit),
+        Queues::Bounded(capacity) => boundedly(alloc, accepted, actors, capacity, limit),
+        Queues::Rings(capacity) => inlined(alloc, accepted, actors, u64::from(capacity), limit),
+        Queues::RingsOfTheRoom => inlined(alloc, accepted, actors, accepted.room(), limit),
+    }
+}
+
+/// The run of the document's session by workers.
+fn document_by<R: Threads + Wait + Sync, A: Actor + Send, G: Gate + Sync>(
+    rt: &R,
+    alloc: Global,
+    document: &Document,
+    actors: Vec<A>,
+    how: HowToRun,
+    gate: &G,
+) -> Option<Run<A>>
+    requires ready { DocumentIsReady document.now }
+    requires roles { length document.now.names.roles ≡ document.now.protocol.roles }
+    requires workers { (1 ≤ how.workers) × (how.workers ≤ MOST_WORKERS) }
+{
+    let DerivedSession {
+        projections,
+        machines,
+        derivations,
+    } = match derived_session(alloc, document, DEFAULT_BOUND) {
+        Ok(session) => session,
+        Err(_refusal) => return None,
+    };
+    let accepted = accept_derived(
+        &document.protocol,
+        projections.as_slice(),
+        machines,
+        derivations.as_slice(),
+    );
+    pooled(rt, alloc, &accepted, actors, how, gate)
+}
+
+/// The run of the document's session on this thread.
+fn document_run<A: Actor>(
+    alloc: Global,
+    document: &Document,
+    actors: Vec<A>,
+    queues: Queues,
+    limit: u32,
+) -> Option<Result<Run<A>, ExecFault>>
+    requires ready { DocumentIsReady document.now }
+    requires roles { length document.now.names.roles ≡ document.now.protocol.roles }
+{
+    let DerivedSession {
+        projections,
+        machines,
+        derivations,
+    } = match derived_session(alloc, document, DEFAULT_BOUND) {
+        Ok(session) => session,
+        Err(_refusal) => return None,
+    };
+    let accepted = accept_derived(
+        &document.protocol,
+        projections.as_slice(),
+        machines,
+        derivations.as_slice(),
+    );
+    run_over(alloc, &accepted, actors, queues, limit)
+}
+
+/// The run of the text's session by workers: none where the text is refused, there isn't an actor for each role, or memory was
+/// refused.
+pub(crate) fn pool_run<R: Threads + Wait + Sync, A: Actor + Send, G: Gate + Sync>(
+    rt: &R,
+    alloc: Global,
+    text: &[u8],
+    actors: Vec<A>,
+    how: HowToRun,
+    gate: &G,
+) -> Option<Run<A>>
+    requires { (1 ≤ how.workers) × (how.workers ≤ MOST_WORKERS) }
+{
+    match read_document(alloc, text) {
+        Ok(document) => document_by(rt, alloc, &document, actors, how, gate),
+        Err(_) => None,
+    }
+}
+
+/// The run of the text's session on this thread, or why it has no outcome: none where the text is refused, there isn't an actor for
+/// each role, there are no such rings, or memory was refused.
+pub(crate) fn session_run<A: Actor>(
+    alloc: Global,
+    text: &[u8],
+    actors: Vec<A>,
+    queues: Queues,
+    limit: u32,
+) -> Option<Result<Run<A>, ExecFault>> {
+    match read_document(alloc, text) {
+        Ok(document) => document_run(alloc, &document, actors, queues, limit),
+        Err(_) => None,
+    }
+}
+
+/// An actor for each of so many roles, from one seed.
+pub(crate) fn seeded(alloc: Global, roles: u8, seed: u32) -> Result<Vec<SeededActor>, NoMemory> {
+    let mut actors = Vec::new(alloc);
+    for number in 0..roles {
+        actors.push(SeededActor::new(seed, Role(number)))?;
+    }
+    Ok(actors)
+}

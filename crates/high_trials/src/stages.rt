@@ -1,0 +1,350 @@
+// Stages and tasks on documents.
+ghost use Rattle.std.specs.Prelude.{◌≡◌, ◌++◌, ◌∷◌, [], None, IfOk, IfSome, length};
+ghost use Rattle.rs_model.specs.Limits.{IsCapacity};
+ghost use Rattle.rs_documents.specs.Reading.{DocumentIsReady};
+ghost use Rattle.rs_exec.specs.Polling.{HasStopped};
+ghost use Rattle.rs_exec.specs.Tasks.{IsTaskOf};
+ghost use Rattle.rs_session.specs.Stages.{AreFirst, IsEnded, sight_of_stage};
+ghost use Rattle.rs_session.specs.declared.stages.Stage.TheVariants as kind;
+
+use crate::documents::{ONCE, TWICE};
+use crate::transcripts::push_entries;
+use futures::executor::block_on;
+use rs_answers::{DerivedSession, accept_derived, derived_session};
+use rs_core::{Entry, SeededActor};
+use rs_documents::{Document, read_document};
+use rs_exec::{RoleFuture, RoleTask, SessionName, SessionTask, Turn, Why};
+use rs_model::{Label, NoMemory, Role, Value};
+use rs_rings::{Closed, Loose};
+use rs_safety::Accepted;
+use rs_session::{CloseFault, Ended, Left, LeftFault, LeftOver, Session, Stage};
+use rs_text::Text;
+use rs_words::DEFAULT_BOUND;
+use std::alloc::{AllocGlobal, Global};
+use std::io;
+use std::marker::Brand;
+use std::process::Abort;
+use std::random::RandomSource;
+use std::sync::Wait;
+use std::test::Fail;
+
+/// The session of accepted machines, and its first stages.
+fn begun(alloc: Global, accepted: &Accepted, capacity: u16) -> Option<(Session, Vec<Stage>)>
+    requires { IsCapacity capacity }
+    ensures { IfSome result (λ begun. AreFirst begun.0 begun.1.items) }
+{
+    match Session::begin(alloc, accepted, capacity) {
+        Ok(begun) => Some(begun),
+        Err(_refused) => None,
+    }
+}
+
+fn document_begun(
+    alloc: Global,
+    document: &Document,
+    capacity: u16,
+) -> Option<(Session, Vec<Stage>)>
+    requires ready { DocumentIsReady document.now }
+    requires roles { length document.now.names.roles ≡ document.now.protocol.roles }
+    requires capacity { IsCapacity capacity }
+    ensures { IfSome result (λ begun. AreFirst begun.0 begun.1.items) }
+{
+    let DerivedSession {
+        projections,
+        machines,
+        derivations,
+    } = match derived_session(alloc, document, DEFAULT_BOUND) {
+        Ok(session) => session,
+        Err(_refusal) => return None,
+    };
+    let accepted = accept_derived(
+        &document.protocol,
+        projections.as_slice(),
+        machines,
+        derivations.as_slice(),
+    );
+    begun(alloc, &accepted, capacity)
+}
+
+/// The session of a text, and its first stages.
+fn begun_of(alloc: Global, text: &[u8], capacity: u16) -> Option<(Session, Vec<Stage>)>
+    requires { IsCapacity capacity }
+    ensures { IfSome result (λ begun. AreFirst begun.0 begun.1.items) }
+{
+    match read_document(alloc, text) {
+        Ok(document) => document_begun(alloc, &document, capacity),
+        Err(_fault) => None,
+    }
+}
+
+/// A session of two roles with a task for each.
+struct Pair {
+    session: Session,
+    a: RoleTask<SeededActor>,
+    b: RoleTask<SeededActor>,
+}
+
+/// A task with an actor for the role of a first stage.
+fn task_of(rt: &impl Abort, alloc: Global, stage: Stage) -> RoleTask<SeededActor>
+    requires nothing { (sight_of_stage stage).part.history ≡ [] }
+    ensures stage { result.stage ≡ stage }
+    ensures kept { result.kept ≡ None }
+{
+    let role = stage.role();
+    match RoleTask::new(alloc, stage, SeededActor::new(0, role), 100) {
+        Ok(task) => task,
+        Err(_) => panic!(rt; "no memory"),
+    }
+}
+
+fn pair_of(rt: &impl Abort, alloc: Global, text: &[u8], capacity: u16) -> Pair
+    requires { IsCapacity capacity }
+    ensures a { IsTaskOf result.session result.a }
+    ensures b { IsTaskOf result.session result.b }
+{
+    let Some((session, stages)) = begun_of(alloc, text, capacity) else {
+        panic!(rt; "not accepted");
+    };
+    let mut stages = stages;
+    if stages.len() != 2 {
+        panic!(rt; "not two roles");
+    }
+    match (stages.pop(), stages.pop()) {
+        (Some(b), Some(a)) => {
+            stages.destroy_empty();
+            Pair {
+                session,
+                a: task_of(rt, alloc, a),
+                b: task_of(rt, alloc, b),
+            }
+        }
+        _ => panic!(rt; "not two stages"),
+    }
+}
+
+fn push_left(rt: &impl Abort, left: &mut Vec<Left>, one: Left)
+    ensures { left.new.items ≡ left.old.items ++ one ∷ [] }
+{
+    match left.push(one) {
+        Ok(()) => {}
+        Err(_) => panic!(rt; "no memory"),
+    }
+}
+
+/// What is left of a session whose two roles leave. The role A is handed in alone at first.
+fn left_of(rt: &impl Abort, alloc: Global, pair: Pair) -> LeftOver
+    requires a { IsTaskOf pair.session pair.a }
+    requires b { IsTaskOf pair.session pair.b }
+{
+    let Pair { session, a, b } = pair;
+    let (a, _, _) = a.leave();
+    let (b, _, _) = b.leave();
+    let mut left = Vec::new(alloc);
+    push_left(rt, &mut left, a);
+    match session.close_left(alloc, left) {
+        Err(
+            LeftFault::Missing {
+                session,
+                left,
+                missing,
+            },
+        ) => {
+            assert!(rt; missing == Role(1));
+            let mut left = left;
+            push_left(rt, &mut left, b);
+            match session.close_left(alloc, left) {
+                Ok(over) => over,
+                Err(_) => panic!(rt; "a role is missing, or memory"),
+            }
+        }
+        _ => panic!(rt; "no role is missing"),
+    }
+}
+
+/// The loose parcels as `0 to 1 label 0.`.
+fn is_loose(loose: &Loose, sender: u8, receiver: u8, label: u16) -> bool {
+    loose.sender == Role(sender)
+        && loose.receiver == Role(receiver)
+        && loose.parcel.label == Label(label)
+        && matches!(loose.parcel.value, Value::Unit)
+}
+
+#[test]
+fn what_is_under_way_is_handed_out(rt: HostRuntime) {
+    let alloc = rt.alloc();
+    let mut pair = pair_of(&rt, alloc, TWICE, 2);
+    assert!(rt; pair.a.turn(alloc, &pair.session) == Turn::Moved);
+    assert!(rt; pair.b.turn(alloc, &pair.session) == Turn::Moved);
+    let over = left_of(&rt, alloc, pair);
+    assert!(rt; over.closed.roles() == 2);
+    match over.loose.as_slice() {
+        [x, y] => {
+            assert!(rt; is_loose(x, 0, 1, 0));
+            assert!(rt; is_loose(y, 1, 0, 1));
+        }
+        _ => assert!(rt; false, "two are under way"),
+    }
+}
+
+#[test]
+fn full_and_empty_rings_are_told(rt: HostRuntime) {
+    let alloc = rt.alloc();
+    let mut pair = pair_of(&rt, alloc, TWICE, 1);
+    let moved = pair.a.turn(alloc, &pair.session);
+    assert!(rt; moved == Turn::Moved);
+    let full = pair.a.turn(alloc, &pair.session);
+    let wanted = Turn::Waits(Why::Full {
+        peer: Role(1),
+        sent: 1,
+        taken: 0,
+    });
+    assert!(rt; full == wanted);
+    let over = left_of(&rt, alloc, pair);
+    assert!(rt; over.loose.len() == 1);
+}
+
+fn ended_of(rt: &impl Abort, stage: Stage) -> Ended
+    ensures { stage ≡ kind.Ended result }
+{
+    match stage {
+        Stage::Ended(ended) => ended,
+        _ => panic!(rt; "the role has not ended"),
+    }
+}
+
+fn push_ended(rt: &impl Abort, ended: &mut Vec<Ended>, one: Ended)
+    ensures { ended.new.items ≡ ended.old.items ++ one ∷ [] }
+{
+    match ended.push(one) {
+        Ok(()) => {}
+        Err(_) => panic!(rt; "no memory"),
+    }
+}
+
+/// Closes the session of two roles that have ended. The role A is handed in alone at first.
+fn closed_of(rt: &impl Abort, alloc: Global, session: Session, a: Ended, b: Ended) -> Closed
+    requires a { IsEnded session a }
+    requires b { IsEnded session b }
+{
+    let mut ended = Vec::new(alloc);
+    push_ended(rt, &mut ended, a);
+    match session.close(ended) {
+        Err(fault) => {
+            let CloseFault {
+                session,
+                ended,
+                missing,
+            } = fault;
+            assert!(rt; missing == Role(1));
+            let mut ended = ended;
+            push_ended(rt, &mut ended, b);
+            match session.close(ended) {
+                Ok(closed) => closed,
+                Err(_) => panic!(rt; "a role is missing"),
+            }
+        }
+        Ok(_) => panic!(rt; "no role is missing"),
+    }
+}
+
+/// One act of each role.
+fn both_move(rt: &impl Abort, alloc: Global, pair: &mut Pair)
+    requires a { IsTaskOf pair.old.session pair.old.a }
+    requires b { IsTaskOf pair.old.session pair.old.b }
+    ensures a { IsTaskOf pair.new.session pair.new.a }
+    ensures b { IsTaskOf pair.new.session pair.new.b }
+{
+    assert!(rt; pair.a.turn(alloc, &pair.session) == Turn::Moved);
+    assert!(rt; pair.b.turn(alloc, &pair.session) == Turn::Moved);
+}
+
+fn did(alloc: Global, entries: &[Entry]) -> Result<Text, NoMemory> {
+    let mut text = Text::new(alloc);
+    push_entries(&mut text, entries, &["A", "B", "none"], &["x", "y", "none"])?;
+    Ok(text)
+}
+
+#[test]
+fn a_session_closes(rt: HostRuntime) -> Result<(), Fail> {
+    let alloc = rt.alloc();
+    let mut pair = pair_of(&rt, alloc, TWICE, 2);
+    both_move(&rt, alloc, &mut pair);
+    both_move(&rt, alloc, &mut pair);
+    both_move(&rt, alloc, &mut pair);
+    both_move(&rt, alloc, &mut pair);
+    assert!(rt; pair.a.turn(alloc, &pair.session) == Turn::Ended);
+    assert!(rt; pair.b.turn(alloc, &pair.session) == Turn::Ended);
+    let Pair { session, a, b } = pair;
+    let (a, _, a_did) = a.into_parts();
+    let (b, _, b_did) = b.into_parts();
+    let closed = closed_of(&rt, alloc, session, ended_of(&rt, a), ended_of(&rt, b));
+    assert!(rt; closed.roles() == 2);
+    assert!(rt; did(alloc, a_did.as_slice())?.as_slice() == b"B!x.B!x.B?y.B?y.".as_slice());
+    assert!(rt; did(alloc, b_did.as_slice())?.as_slice() == b"A!y.A!y.A?x.A?x.".as_slice());
+    Ok(())
+}
+
+/// A session that is given up before any role has made an act.
+fn given_up(session: Session, stages: Vec<Stage>) -> Closed
+    requires { AreFirst session stages.items }
+    ensures { result.machines ≡ session.machines }
+{
+    session.abandon(stages)
+}
+
+#[test]
+fn a_session_is_given_up(rt: HostRuntime) {
+    let alloc = rt.alloc();
+    let Some((session, stages)) = begun_of(alloc, TWICE, 1) else {
+        panic!(rt; "not accepted");
+    };
+    let closed = given_up(session, stages);
+    assert!(rt; closed.roles() == 2);
+}
+
+/// An executor polls the task until it doesn't go on. It hands back the task, which is still of the session.
+fn blocked_on<R: Wait + RandomSource + AllocGlobal, N: SessionName>(
+    rt: &R,
+    alloc: Global,
+    session: &Session,
+    task: RoleTask<SeededActor>,
+) -> (io::Result<Turn>, RoleTask<SeededActor>)
+    requires session { session.now ≡ N.session }
+    requires of { IsTaskOf session.now task }
+    ensures stopped { IfOk result.0 HasStopped }
+    ensures of { IsTaskOf session.now result.1 }
+{
+    let mut task = SessionTask::<SeededActor, N>::new(task);
+    let turn = block_on(rt, RoleFuture::new(alloc, &mut task, session));
+    (turn, task.into_task())
+}
+
+/// The role A plays to its end as a future, while B does nothing: the turn with which it is ready, and what is left.
+fn polled<R: Wait + RandomSource + AllocGlobal + Abort>(
+    rt: &R,
+    alloc: Global,
+    pair: Pair,
+) -> (io::Result<Turn>, LeftOver)
+    requires a { IsTaskOf pair.session pair.a }
+    requires b { IsTaskOf pair.session pair.b }
+{
+    let Pair { session, a, b } = pair;
+    let (turn, a) = blocked_on::<R, Brand>(rt, alloc, &session, a);
+    (turn, left_of(rt, alloc, Pair { session, a, b }))
+}
+
+#[test]
+fn an_executor_plays_a_role(rt: HostRuntime) -> Result<(), Fail> {
+    let alloc = rt.alloc();
+    let pair = pair_of(&rt, alloc, ONCE, 1);
+    let (turn, over) = polled(&rt, alloc, pair);
+    assert!(rt; turn? == Turn::Ended);
+    match over.loose.as_slice() {
+        [x] => {
+            assert!(rt; x.sender == Role(0) && x.receiver == Role(1));
+            assert!(rt; matches!(x.parcel.value, Value::Natural(_)));
+        }
+        _ => assert!(rt; false, "one is under way"),
+    }
+    Ok(())
+}
