@@ -8,6 +8,7 @@ pub mod Verified
 pub mod Owed
 pub mod Printables
 pub mod AcceptedSessions
+pub mod Agreeing
 pub mod OneReason
 pub mod SomeSession
 pub mod SpeltFaults

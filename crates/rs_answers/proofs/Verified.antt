@@ -30,11 +30,11 @@ use Rattle.rs_answers.specs.declared.refusals.Refusal.TheVariants as refusal
 use Rattle.rs_answers.specs.declared.verifying.Blame.{Blame}
 use Rattle.rs_answers.specs.declared.verifying.Blame.TheVariants as blame
 
-none_first : (b : Option Blame) (r : Role) (later : Option RoleBlame) → blame_or b r later ≡ None → (b ≡ None) × (later ≡ None)
+pub none_first : (b : Option Blame) (r : Role) (later : Option RoleBlame) → blame_or b r later ≡ None → (b ≡ None) × (later ≡ None)
 none_first None r later e = (refl, e)
 none_first (Some b) r later e = absurd cc
 
-none_blamed : (f : Option DeriveFault) → blame_by f ≡ None → f ≡ None
+pub none_blamed : (f : Option DeriveFault) → blame_by f ≡ None → f ≡ None
 none_blamed None e = refl
 none_blamed (Some f) e = absurd cc
 

@@ -11,7 +11,7 @@ use rs_model::{Arm, Machine, Node, Protocol, Role, State};
 use std::marker::Model;
 
 /// A head with its arms, where they stand.
-#[derive(Drop, Debug)]
+#[derive(Drop)]
 pub struct PointRef<'a> {
     pub head: Head,
     pub arms: &'a [Arm],
@@ -26,7 +26,7 @@ impl<'a> Model for PointRef<'a> {
 }
 
 /// What stands at a number of a graph: an end, or a head with its arms.
-#[derive(Drop, Debug)]
+#[derive(Drop)]
 pub enum Place<'a> {
     End,
     Point(PointRef<'a>),

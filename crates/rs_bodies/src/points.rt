@@ -8,7 +8,7 @@ use std::alloc::Global;
 use std::marker::Model;
 
 /// A head with its arms.
-#[derive(Drop, Debug)]
+#[derive(Drop)]
 pub struct Point {
     pub head: Head,
     pub arms: Arms,
@@ -24,7 +24,7 @@ impl Model for Point {
 
 /// What a part spells: the role of a machine, the heads in order of text, whether an end stands behind them, and the
 /// number with which the body begins. The end has the number behind the last head.
-#[derive(Drop, Debug)]
+#[derive(Drop)]
 pub struct Spelling {
     pub role: Role,
     pub points: Vec<Point>,

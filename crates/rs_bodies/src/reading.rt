@@ -23,7 +23,7 @@ use std::alloc::Global;
 use std::marker::Model;
 
 /// An open brace: its act, the count of names bound round it, and the nesting within it.
-#[derive(Clone, Copy, Debug, PartialEq, Eq)]
+#[derive(Clone, Copy)]
 pub(crate) struct Frame {
     pub act: u32,
     pub bound: usize,
@@ -31,14 +31,14 @@ pub(crate) struct Frame {
 }
 
 /// What leads to the body that is read: nothing, or an arm of an act.
-#[derive(Clone, Copy, Debug, PartialEq, Eq)]
+#[derive(Clone, Copy)]
 pub(crate) enum Link {
     Start,
     OfArm { act: u32, label: Label, sort: Sort },
 }
 
 /// The place in the grammar.
-#[derive(Clone, Copy, Debug, PartialEq, Eq)]
+#[derive(Clone, Copy)]
 pub(crate) enum Mode {
     /// At `roles`.
     Roles,
@@ -115,6 +115,17 @@ fn is_turn(dialect: Dialect, token: &TextToken) -> bool
         Terminal::Arrow => dialect == Dialect::Talks,
         Terminal::Bang | Terminal::Question => dialect == Dialect::Acts,
         _ => false,
+    }
+}
+
+/// Whether the token is this plain word.
+#[inline(always)]
+fn is_text(token: &TextToken, word: &[u8]) -> bool
+    ensures { result ≡ is_text word.now (plain_text token.now.sign) }
+{
+    match token.plain() {
+        Some(text) => text == word,
+        None => false,
     }
 }
 
@@ -195,13 +206,11 @@ impl<'a> Reader<'a> {
     fn roles(&mut self, token: &TextToken) -> Result<(), Stop>
         ensures { spec.Feeds result (spec.feed_roles token.now.sign token.now.from self.old) self.old self.new }
     {
-        match token.plain() {
-            Some(word) if word == b"roles".as_slice() => {
-                self.mode = Mode::FirstRole;
-                Ok(())
-            }
-            _ => expected(Wanted::Roles, token.from()),
+        if !is_text(token, b"roles".as_slice()) {
+            return expected(Wanted::Roles, token.from());
         }
+        self.mode = Mode::FirstRole;
+        Ok(())
     }
 
     #[inline(always)]
@@ -249,13 +258,11 @@ impl<'a> Reader<'a> {
         ensures kept { OnErr result (names_read self.new ≡ names_read self.old) }
         ensures fault { IfErr result (λ e. e ≡ Stop.Fault (record { kind = TextKind.Expected Wanted.CommaOrProtocol; at = token.now.from })) }
     {
-        match token.plain() {
-            Some(word) if word == b"protocol".as_slice() => {
-                self.mode = Mode::Body { from: Link::Start };
-                Ok(())
-            }
-            _ => expected(Wanted::CommaOrProtocol, token.from()),
+        if !is_text(token, b"protocol".as_slice()) {
+            return expected(Wanted::CommaOrProtocol, token.from());
         }
+        self.mode = Mode::Body { from: Link::Start };
+        Ok(())
     }
 
     /// The word `machine`.
@@ -263,13 +270,11 @@ impl<'a> Reader<'a> {
     fn machine(&mut self, token: &TextToken) -> Result<(), Stop>
         ensures { spec.Feeds result (spec.feed_machine token.now.sign token.now.from self.old) self.old self.new }
     {
-        match token.plain() {
-            Some(word) if word == b"machine".as_slice() => {
-                self.mode = Mode::AtRole;
-                Ok(())
-            }
-            _ => expected(Wanted::PartOrEnd, token.from()),
+        if !is_text(token, b"machine".as_slice()) {
+            return expected(Wanted::PartOrEnd, token.from());
         }
+        self.mode = Mode::AtRole;
+        Ok(())
     }
 
     #[inline(always)]

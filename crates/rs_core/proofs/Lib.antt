@@ -26,3 +26,4 @@ pub mod Filled
 pub mod Shown
 pub mod Drawing
 pub mod Guards
+pub mod Apart

@@ -11,7 +11,7 @@ use rs_model::{Arm, Label, Machine, Role, State, Value};
 use std::marker::Model;
 
 /// Where a step goes: the peer, the label, and the next state.
-#[derive(Clone, Copy, Debug)]
+#[derive(Clone, Copy)]
 pub(crate) struct Way {
     pub peer: Role,
     pub label: Label,

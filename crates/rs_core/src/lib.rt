@@ -12,8 +12,6 @@ mod rows;
 mod runs;
 mod seeded;
 mod steps;
-#[cfg(test)]
-mod tests;
 mod transcripts;
 mod turns;
 

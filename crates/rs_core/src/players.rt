@@ -1,4 +1,4 @@
-ghost use Rattle.std.specs.Prelude.{◌≡◌, ◌≢◌, [], map, IfOk, OnOk};
+ghost use Rattle.std.specs.Prelude.{◌≡◌, ◌≢◌, ◌+◌, ◌<◌, ◌≤◌, ◌++◌, ◌∷◌, [], map, vec_capacity, vec_len, IfOk, OnOk};
 ghost use Rattle.rs_core.specs.Plain.{offer_of};
 
 use crate::Actor;
@@ -28,6 +28,19 @@ impl<A: Actor> Player<A> {
             None => self.actor.choose(alloc, arms),
         }
     }
+
+    /// The actor and the transcript.
+    fn into_parts(self) -> (A, Transcript)
+        ensures actor { result.0 ≡ self.actor }
+        ensures transcript { result.1 ≡ self.transcript }
+    {
+        let Player {
+            actor,
+            transcript,
+            ..
+        } = self;
+        (actor, transcript)
+    }
 }
 
 /// A player for each actor, which has done nothing yet.
@@ -56,11 +69,39 @@ pub(crate) fn parts_of<A: Actor>(
     ensures actors { IfOk result (λ r. r.0.items ≡ map (λ x. x.actor) players.items) }
     ensures transcripts { IfOk result (λ r. r.1.items ≡ map (λ x. x.transcript) players.items) }
 {
-    let mut actors = Vec::with_capacity(alloc, players.len())?;
-    let mut transcripts = Vec::with_capacity(alloc, players.len())?;
+    let actors = Vec::with_capacity(alloc, players.len())?;
+    let transcripts = Vec::with_capacity(alloc, players.len())?;
+    Ok(taken_apart(players, actors, transcripts))
+}
+
+/// The actors and the transcripts of the players, in the empty lists, which have room for them.
+fn taken_apart<A: Actor>(
+    players: Vec<Player<A>>,
+    mut actors: Vec<A>,
+    mut transcripts: Vec<Transcript>,
+) -> (Vec<A>, Vec<Transcript>)
+    requires empty { (actors.items ≡ []) × (transcripts.items ≡ []) }
+    requires room { (vec_len players ≤ vec_capacity actors) × (vec_len players ≤ vec_capacity transcripts) }
+    ensures actors { result.0.items ≡ map (λ x. x.actor) players.items }
+    ensures transcripts { result.1.items ≡ map (λ x. x.transcript) players.items }
+{
     for player in players {
-        actors.push(player.actor)?;
-        transcripts.push(player.transcript)?;
+        let (actor, transcript) = player.into_parts();
+        put(&mut actors, actor);
+        put(&mut transcripts, transcript);
     }
-    Ok((actors, transcripts))
+    (actors, transcripts)
+}
+
+/// Appends an item for which there is room.
+fn put<T>(list: &mut Vec<T>, item: T)
+    requires room { vec_len list.old < vec_capacity list.old }
+    ensures items { list.new.items ≡ list.old.items ++ item ∷ [] }
+    ensures count { vec_len list.new ≡ vec_len list.old + 1 }
+    ensures room { vec_capacity list.old ≤ vec_capacity list.new }
+{
+    match list.push(item) {
+        Ok(()) => {}
+        Err(_) => unreachable!(),
+    }
 }

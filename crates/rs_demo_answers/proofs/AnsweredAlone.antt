@@ -11,7 +11,7 @@ use Rattle.rs_demo_answers.proofs.Opening.{HasOpening}
 use Rattle.rs_demos.specs.Starts.{HasNoNumbers}
 use Rattle.rs_demos.specs.Texts.{document_of}
 use Rattle.rs_demos.specs.declared.actors.DemoActor.{DemoActor}
-use Rattle.rs_demos.specs.declared.kinds.Demo.{Demo}
+use Rattle.rs_model.specs.declared.demos.Demo.{Demo}
 use Rattle.rs_documents.specs.Data.{Document_data}
 use Rattle.rs_documents.specs.Documents.{SpellsDocument}
 use Rattle.rs_words.specs.declared.limits.TheConstants.{DEFAULT_BOUND}

@@ -20,7 +20,6 @@ use Rattle.rs_demos.specs.Sessions.{demo_machines, demo_protocol, has_line, has_
 use Rattle.rs_demos.specs.Starts.{StartsWithActors}
 use Rattle.rs_demos.specs.Texts.{document_of}
 use Rattle.rs_demos.specs.declared.actors.DemoActor.{DemoActor}
-use Rattle.rs_demos.specs.declared.kinds.Demo.{Demo}
 use Rattle.rs_demos.proofs.Computing.{ended-run}
 use Rattle.rs_demos.proofs.Projected.{projected}
 use Rattle.rs_demos.proofs.SpeltDocuments.{in-place-at, machines-many, spelt_document}
@@ -29,6 +28,7 @@ use Rattle.rs_documents.specs.Documents.{SpellsDocument}
 use Rattle.rs_documents.proofs.OneDocument.{one_document}
 use Rattle.rs_model.specs.Data.{Machine_data, Names_data}
 use Rattle.rs_model.specs.declared.graph.Role.{Role}
+use Rattle.rs_model.specs.declared.demos.Demo.{Demo}
 use Rattle.rs_project.specs.Data.{Projection_data}
 use Rattle.rs_project.specs.Numbered.{AreNumberedProjections}
 use Rattle.rs_project.specs.declared.projecting.ProjFault.{ProjFault}

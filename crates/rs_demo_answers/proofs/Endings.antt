@@ -19,13 +19,13 @@ use Rattle.rs_demo_answers.specs.declared.limits.TheConstants.{DEMO_LIMIT}
 use Rattle.rs_demos.specs.Acting.{by_demo}
 use Rattle.rs_demos.specs.Choosing.{chooses-well}
 use Rattle.rs_demos.specs.declared.actors.DemoActor.{DemoActor}
-use Rattle.rs_demos.specs.declared.kinds.Demo.{Demo}
 use Rattle.rs_derive.specs.Data.{Derivation_data}
 use Rattle.rs_documents.specs.Data.{Document_data}
 use Rattle.rs_documents.specs.Documents.{SpellsDocument}
 use Rattle.rs_exec.proofs.Ends.{comes-to-an-end}
 use Rattle.rs_exec.proofs.NeverFull.{never-stuck}
 use Rattle.rs_model.specs.Data.{Machine_data, Names_data}
+use Rattle.rs_model.specs.declared.demos.Demo.{Demo}
 use Rattle.rs_project.specs.Data.{Projection_data}
 use Rattle.rs_safety.specs.Accepting.{Accepted_data}
 use Rattle.rs_safety.specs.Room.{room_of}

@@ -9,7 +9,6 @@ use Rattle.rs_demo_answers.proofs.Endings.{one_performing}
 use Rattle.rs_demo_answers.proofs.Opening.{has_session_for}
 use Rattle.rs_demos.specs.Texts.{IsDemoText, document_of}
 use Rattle.rs_demos.specs.declared.actors.DemoActor.{DemoActor}
-use Rattle.rs_demos.specs.declared.kinds.Demo.{Demo}
 use Rattle.rs_demos.proofs.Deciding.{not-both, one-start}
 use Rattle.rs_demos.proofs.Printable.{printable}
 use Rattle.rs_derive.specs.Data.{Derivation_data}
@@ -19,6 +18,7 @@ use Rattle.rs_documents.proofs.OneCanonical.{one_text}
 use Rattle.rs_documents.proofs.OneDocument.{one_document}
 use Rattle.rs_documents.proofs.SpeltSessions.{spelt_session}
 use Rattle.rs_model.specs.Data.{Machine_data}
+use Rattle.rs_model.specs.declared.demos.Demo.{Demo}
 use Rattle.rs_words.specs.declared.limits.TheConstants.{DEFAULT_BOUND}
 
 -- a demo opens in one way

@@ -14,10 +14,10 @@ use Rattle.rs_demo_answers.proofs.Opening.{role_each, some_opening}
 use Rattle.rs_demo_answers.proofs.Stopping.{never_stopped}
 use Rattle.rs_demos.specs.Starts.{StartsWithActors}
 use Rattle.rs_demos.specs.Texts.{document_of}
-use Rattle.rs_demos.specs.declared.kinds.Demo.{Demo}
 use Rattle.rs_documents.specs.Data.{Document_data}
 use Rattle.rs_documents.specs.Documents.{SpellsDocument}
 use Rattle.rs_model.specs.declared.limits.TheConstants.{MOST_BYTES}
+use Rattle.rs_model.specs.declared.demos.Demo.{Demo}
 use Rattle.rs_rings.specs.Closed.{Closed_data}
 use Rattle.rs_safety.specs.Accepting.{IsAcceptedSession}
 use Rattle.rs_words.specs.declared.limits.TheConstants.{DEFAULT_BOUND}

@@ -9,8 +9,8 @@ use Rattle.rs_demos.specs.Numbers.{takes_numbers}
 use Rattle.rs_demos.specs.Sessions.{has_session, demo_protocol}
 use Rattle.rs_demos.specs.Starts.{StartsWithActors, ring_member, butterfly_member}
 use Rattle.rs_demos.specs.declared.actors.DemoActor.{DemoActor}
-use Rattle.rs_demos.specs.declared.kinds.Demo.{Demo}
-use Rattle.rs_demos.specs.declared.kinds.Demo.TheVariants as demo
+use Rattle.rs_model.specs.declared.demos.Demo.{Demo}
+use Rattle.rs_model.specs.declared.demos.Demo.TheVariants as demo
 use Rattle.rs_demos.specs.Texts.{document_of}
 use Rattle.rs_demos.proofs.Printable.{printable}
 use Rattle.rs_demos.proofs.SpeltDocuments.{spelt_document}

@@ -20,10 +20,10 @@ use Rattle.rs_demo_answers.specs.declared.limits.TheConstants.{DEMO_LIMIT}
 use Rattle.rs_demos.specs.Acting.{by_demo}
 use Rattle.rs_demos.specs.declared.actors.DemoActor.{DemoActor}
 use Rattle.rs_demos.specs.declared.actors.DemoActor.TheVariants as actor
-use Rattle.rs_demos.specs.declared.kinds.Demo.{Demo}
 use Rattle.rs_derive.specs.Data.{Derivation_data}
 use Rattle.rs_model.specs.Data.{Machine_data, Names_data}
 use Rattle.rs_model.specs.declared.memory.NoMemory.{NoMemory}
+use Rattle.rs_model.specs.declared.demos.Demo.{Demo}
 use Rattle.rs_safety.specs.Room.{room_of}
 
 -- the actor of each role is the one that stands in its place

@@ -11,7 +11,7 @@ use Rattle.rs_demo_answers.proofs.Opening.{some_opening}
 use Rattle.rs_demos.specs.Starts.{StartsWithActors}
 use Rattle.rs_demos.specs.Texts.{document_of}
 use Rattle.rs_demos.specs.declared.actors.DemoActor.{DemoActor}
-use Rattle.rs_demos.specs.declared.kinds.Demo.{Demo}
+use Rattle.rs_model.specs.declared.demos.Demo.{Demo}
 use Rattle.rs_demos.proofs.Deciding.{actors-or-none}
 use Rattle.rs_documents.specs.Data.{Document_data}
 use Rattle.rs_documents.specs.Documents.{SpellsDocument}

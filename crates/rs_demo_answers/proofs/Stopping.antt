@@ -10,7 +10,6 @@ use Rattle.rs_demo_answers.proofs.Performing.{given}
 use Rattle.rs_demos.specs.Acting.{by_demo}
 use Rattle.rs_demos.specs.Texts.{document_of}
 use Rattle.rs_demos.specs.declared.actors.DemoActor.{DemoActor}
-use Rattle.rs_demos.specs.declared.kinds.Demo.{Demo}
 use Rattle.rs_demos.proofs.FewActs.{low-limit}
 use Rattle.rs_demos.proofs.SpeltDocuments.{spelt_document}
 use Rattle.rs_documents.specs.Data.{Document_data}
@@ -18,6 +17,7 @@ use Rattle.rs_documents.specs.Documents.{SpellsDocument}
 use Rattle.rs_documents.proofs.OneDocument.{one_document}
 use Rattle.rs_model.specs.Data.{Machine_data}
 use Rattle.rs_model.specs.declared.limits.TheConstants.{MOST_BYTES}
+use Rattle.rs_model.specs.declared.demos.Demo.{Demo}
 use Rattle.rs_project.specs.Data.{Projection_data}
 
 pub never_stopped : (kind : Demo) (bytes : List ℕ) (actors : List DemoActor) (text : List ℕ) (d : Document_data) (ps : List Projection_data) (ms : List Machine_data) (capacity : Option ℕ) (role : ℕ) (end : Moment DemoActor)

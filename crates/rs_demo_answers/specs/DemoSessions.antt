@@ -11,11 +11,11 @@ use Rattle.rs_demo_answers.specs.Demos.{Opens, actor_at, demo_outcome_answer}
 use Rattle.rs_demo_answers.specs.declared.limits.TheConstants.{DEMO_LIMIT}
 use Rattle.rs_demos.specs.Acting.{by_demo}
 use Rattle.rs_demos.specs.declared.actors.DemoActor.{DemoActor}
-use Rattle.rs_demos.specs.declared.kinds.Demo.{Demo}
 use Rattle.rs_documents.specs.Data.{Document_data}
 use Rattle.rs_documents.specs.Documents.{SpellsDocument}
 use Rattle.rs_exec.specs.Runs.{IsOutcomeOf}
 use Rattle.rs_model.specs.Data.{Machine_data, Names_data}
+use Rattle.rs_model.specs.declared.demos.Demo.{Demo}
 use Rattle.rs_project.specs.Data.{Projection_data}
 use Rattle.rs_rings.specs.Closed.{Closed_data}
 

@@ -19,11 +19,11 @@ use Rattle.rs_demos.specs.Starts.{HasNoNumbers, StartsWithActors}
 use Rattle.rs_demos.specs.Texts.{IsDemoText}
 use Rattle.rs_demos.specs.declared.actors.DemoActor.{DemoActor}
 use Rattle.rs_demos.specs.declared.actors.DemoActor.TheVariants as actor
-use Rattle.rs_demos.specs.declared.kinds.Demo.{Demo}
 use Rattle.rs_derive.specs.Data.{Derivation_data}
 use Rattle.rs_documents.specs.Data.{Document_data}
 use Rattle.rs_documents.specs.Documents.{SpellsDocument}
 use Rattle.rs_model.specs.Data.{Machine_data, Names_data}
+use Rattle.rs_model.specs.declared.demos.Demo.{Demo}
 use Rattle.rs_project.specs.Data.{Projection_data}
 use Rattle.rs_safety.specs.Room.{room_of}
 use Rattle.rs_words.specs.declared.limits.TheConstants.{DEFAULT_BOUND}

@@ -11,9 +11,9 @@ use Rattle.rs_demo_answers.specs.declared.openings.Opening.TheVariants as openin
 use Rattle.rs_demo_answers.specs.declared.openings.ReadyDemo.{ReadyDemo}
 use Rattle.rs_demos.specs.Acting.{by_demo}
 use Rattle.rs_demos.specs.declared.actors.DemoActor.{DemoActor}
-use Rattle.rs_demos.specs.declared.kinds.Demo.{Demo}
 use Rattle.rs_documents.specs.Documents.{SpellsDocument}
 use Rattle.rs_model.specs.Data.{Machine_data}
+use Rattle.rs_model.specs.declared.demos.Demo.{Demo}
 use Rattle.rs_words.specs.declared.limits.TheConstants.{DEFAULT_BOUND}
 
 -- the actors are those that the bytes ask for, the document is the demo's own, and its session has these derivations

@@ -17,9 +17,9 @@ use rs_answers::{
     stopped_answer, too_small,
 };
 use rs_core::{Outcome, Run};
-use rs_demos::{Demo, DemoActor, into_demo_output};
+use rs_demos::{DemoActor, into_demo_output};
 use rs_exec::{ExecFault, Ran, run_inline};
-use rs_model::{Names, NoMemory};
+use rs_model::{Demo, Names, NoMemory};
 use rs_safety::Accepted;
 use std::alloc::Global;
 

@@ -11,12 +11,12 @@ ghost use Rattle.rs_demo_answers.specs.declared.limits.TheConstants.{DEMO_LIMIT}
 ghost use Rattle.rs_demos.specs.Acting.{by_demo};
 ghost use Rattle.rs_demos.specs.Results.{Computes};
 ghost use Rattle.rs_demos.specs.declared.actors.DemoActor.{DemoActor};
-ghost use Rattle.rs_demos.specs.declared.kinds.Demo.{Demo};
 ghost use Rattle.rs_derive.specs.Data.{Derivation_data};
 ghost use Rattle.rs_documents.specs.Data.{Document_data};
 ghost use Rattle.rs_documents.specs.Documents.{SpellsDocument};
 ghost use Rattle.rs_model.specs.Data.{Machine_data};
 ghost use Rattle.rs_model.specs.declared.limits.TheConstants.{MOST_BYTES};
+ghost use Rattle.rs_model.specs.declared.demos.Demo.{Demo};
 ghost use Rattle.rs_project.specs.Data.{Projection_data};
 ghost use Rattle.rs_safety.specs.Room.{room_of};
 ghost use Rattle.rs_words.specs.declared.limits.TheConstants.{DEFAULT_BOUND};

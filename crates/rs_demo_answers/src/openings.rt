@@ -8,9 +8,9 @@ use rs_answers::Piece::Words;
 use rs_answers::{
     Answer, DerivedSession, Verdict, derived_session, line_of_answer, refusal_answer,
 };
-use rs_demos::{Demo, DemoActor, DemoFault, demo_actors, demo_session_document};
+use rs_demos::{DemoActor, DemoFault, demo_actors, demo_session_document};
 use rs_documents::Document;
-use rs_model::NoMemory;
+use rs_model::{Demo, NoMemory};
 use rs_words::DEFAULT_BOUND;
 use std::alloc::Global;
 

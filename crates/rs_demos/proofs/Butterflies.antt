@@ -7,6 +7,7 @@ use Rattle.std.proofs.lemmas.Bool.Decides.{eqb_tells}
 use Rattle.std.proofs.lemmas.Int.{ints, int_wrap_fits}
 use Rattle.rs_model.specs.Data.{Machine_data}
 use Rattle.rs_model.specs.declared.machines.State.{State}
+use Rattle.rs_model.specs.declared.demos.Demo.TheVariants as demo
 use Rattle.rs_core.specs.Plain.{Moment, Ended, IsPlain}
 use Rattle.rs_core.specs.Runs.{IsGiven, HasActors}
 use Rattle.rs_demos.specs.Acting.{by_demo}
@@ -16,7 +17,6 @@ use Rattle.rs_demos.specs.Results.{Computes, results_text, transform_at, transfo
 use Rattle.rs_demos.specs.Sessions.{demo_machines, butterfly_machine, butterfly_pairs, states_from, Exchange}
 use Rattle.rs_demos.specs.Starts.{StartsWithActors, butterfly_member}
 use Rattle.rs_demos.specs.declared.actors.DemoActor.{DemoActor}
-use Rattle.rs_demos.specs.declared.kinds.Demo.TheVariants as demo
 use Rattle.rs_demos.proofs.Exchanged.{member, pairs_of, are_good, Silent, Queues, Stage, held_at_end, at-the-end, sum_at_end, wrapped-at-end}
 use Rattle.rs_demos.proofs.Ran.{Ran, ran, playing}
 use Rattle.rs_demos.proofs.Ranges.{mapped-at}

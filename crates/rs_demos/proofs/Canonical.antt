@@ -6,6 +6,7 @@ use Rattle.std.specs.Fmt.{decimal}
 use Rattle.rs_model.specs.Data.{Names_data, Protocol_data, Machine_data}
 use Rattle.rs_model.specs.declared.graph.Arm.{Arm}
 use Rattle.rs_model.specs.declared.values.Sort.TheVariants as sort
+use Rattle.rs_model.specs.declared.demos.Demo.TheVariants as demo
 use Rattle.rs_global.specs.Canonical as protocol
 use Rattle.rs_global.specs.Canonical.{IsCanonicalText}
 use Rattle.rs_global.specs.Texts as protocol_texts
@@ -29,7 +30,6 @@ use Rattle.rs_demos.specs.Sessions.{role, arm, double_protocol, double_kernel, s
 use Rattle.rs_documents.proofs.Lines.{without}
 use Rattle.rs_demos.specs.Texts.{IsDemoText}
 use Rattle.rs_demos.specs.declared.documents.TheConstants.{DOUBLE, STREAM}
-use Rattle.rs_demos.specs.declared.kinds.Demo.TheVariants as demo
 
 -- no arm goes back
 

@@ -9,8 +9,8 @@ use Rattle.rs_demos.specs.Sessions.{demo_machines, double_kernel, double_source,
 use Rattle.rs_demos.specs.Starts.{StartsWithActors}
 use Rattle.rs_demos.specs.declared.actors.DemoActor.{DemoActor}
 use Rattle.rs_demos.specs.declared.actors.DemoActor.TheVariants as actor
-use Rattle.rs_demos.specs.declared.kinds.Demo.{Demo}
-use Rattle.rs_demos.specs.declared.kinds.Demo.TheVariants as demo
+use Rattle.rs_model.specs.declared.demos.Demo.{Demo}
+use Rattle.rs_model.specs.declared.demos.Demo.TheVariants as demo
 use Rattle.rs_demos.proofs.Butterflies.{butterfly-run}
 use Rattle.rs_demos.proofs.Rings.{ring-run}
 use Rattle.rs_demos.proofs.Feeding.{kernel_with, double-computes, stream-computes}

@@ -12,8 +12,8 @@ use Rattle.rs_demos.specs.Reading.{behind_blanks, word_len}
 use Rattle.rs_demos.specs.Starts.{HasNoNumbers, StartsWithActors, butterfly_member, ring_member}
 use Rattle.rs_demos.specs.declared.actors.DemoActor.{DemoActor}
 use Rattle.rs_demos.specs.declared.actors.DemoActor.TheVariants as actor
-use Rattle.rs_demos.specs.declared.kinds.Demo.{Demo}
-use Rattle.rs_demos.specs.declared.kinds.Demo.TheVariants as demo
+use Rattle.rs_model.specs.declared.demos.Demo.{Demo}
+use Rattle.rs_model.specs.declared.demos.Demo.TheVariants as demo
 use Rattle.rs_demos.proofs.Spelt.{StartsAWord, asks_none, before-of, behind-of, behind-starts, fewer, next-word, number-length, one-spelling, some-word}
 
 less-or-not : (a b : ℕ) → (a < b) ⊎ (a < b → ⊥)

@@ -13,6 +13,8 @@ use Rattle.rs_model.specs.declared.limits.TheConstants.{MOST_BYTES}
 use Rattle.rs_model.specs.declared.machines.State.TheVariants.{Puts, Takes}
 use Rattle.rs_model.specs.declared.values.Sort.TheVariants as sort
 use Rattle.rs_model.specs.declared.values.Value.{Value}
+use Rattle.rs_model.specs.declared.demos.Demo.{Demo}
+use Rattle.rs_model.specs.declared.demos.Demo.TheVariants as demo
 use Rattle.rs_bodies.specs.declared.dialects.Mark.TheVariants as mark
 use Rattle.rs_core.specs.Actors.{PlaysAction, PlaysSent, PlaysGot}
 use Rattle.rs_core.specs.declared.messages.Message.{Message}
@@ -28,8 +30,6 @@ use Rattle.rs_demos.specs.Sessions.{Exchange, role, arm, machine, states_from, n
 use Rattle.rs_demos.specs.Starts.{StartsWithActors, ring_member}
 use Rattle.rs_demos.specs.declared.actors.DemoActor.{DemoActor}
 use Rattle.rs_demos.specs.declared.actors.DemoActor.TheVariants as actor
-use Rattle.rs_demos.specs.declared.kinds.Demo.{Demo}
-use Rattle.rs_demos.specs.declared.kinds.Demo.TheVariants as demo
 use Rattle.rs_demos.proofs.Feeding.{Plays, moved, zero-of, not-one, double_arms, kernel_arms, sink_arms, stream_arms, sink_machine, kernel_with}
 use Rattle.rs_demos.proofs.Playing.{sent-at, got-at, no-got, no-sent, nowhere, over, only-arm, First, Second, one-of, sents-cons, gots-cons, gots-skip}
 use Rattle.rs_demos.proofs.Ran.{there}

@@ -11,6 +11,8 @@ use Rattle.rs_model.specs.declared.graph.Node.TheVariants.{Finished, Talk}
 use Rattle.rs_model.specs.declared.graph.Role.{Role}
 use Rattle.rs_model.specs.declared.machines.State.{State}
 use Rattle.rs_model.specs.declared.machines.State.TheVariants.{Done, Puts, Takes}
+use Rattle.rs_model.specs.declared.demos.Demo.{Demo}
+use Rattle.rs_model.specs.declared.demos.Demo.TheVariants as demo
 use Rattle.rs_text.specs.Sound.{are_sound}
 use Rattle.rs_text.proofs.Naming.{decides_sound}
 use Rattle.rs_global.specs.Shapes.{is_shaped}
@@ -25,8 +27,6 @@ use Rattle.rs_documents.proofs.Parts.{none_there}
 use Rattle.rs_documents.specs.Canonical.{AreShown, CanBeShown}
 use Rattle.rs_demos.specs.Sessions.{has_session, demo_names, demo_protocol, written_machines}
 use Rattle.rs_demos.specs.Texts.{document_of}
-use Rattle.rs_demos.specs.declared.kinds.Demo.{Demo}
-use Rattle.rs_demos.specs.declared.kinds.Demo.TheVariants as demo
 use Rattle.rs_demos.proofs.Ranges.{in-range}
 
 -- tests

@@ -4,11 +4,11 @@ use Rattle.std.specs.List.{flat_map, list_all, range_with_len}
 use Rattle.std.proofs.lemmas.Bool.{and_parts, false≢true, leb-true}
 use Rattle.std.proofs.lemmas.Bool.Decides.{eqb_tells, leb_tells}
 use Rattle.rs_model.specs.Data.{Machine_data}
+use Rattle.rs_model.specs.declared.demos.Demo.{Demo}
+use Rattle.rs_model.specs.declared.demos.Demo.TheVariants as demo
 use Rattle.rs_project.specs.Data.{Projection_data}
 use Rattle.rs_project.specs.Numbered.{IsNumberedProjection}
 use Rattle.rs_demos.specs.Sessions.{role, demo_protocol, demo_machines, has_line, has_session, double_protocol, double_source, double_sink, stream_protocol, stream_sink, ring_machine, butterfly_machine}
-use Rattle.rs_demos.specs.declared.kinds.Demo.{Demo}
-use Rattle.rs_demos.specs.declared.kinds.Demo.TheVariants as demo
 use Rattle.rs_demos.proofs.Ranges.{in-range}
 use Rattle.rs_demos.proofs.Numbered.{is_numbered_projection, numbered-is}
 

@@ -7,10 +7,10 @@ use Rattle.rs_documents.proofs.Parts.{none_there}
 use Rattle.rs_documents.specs.Reading.{AreShort, DocumentIsReady}
 use Rattle.rs_model.specs.Data.{Machine_data}
 use Rattle.rs_model.specs.declared.limits.TheConstants.{MOST_ACTS, MOST_ROLES, MOST_TALKS}
+use Rattle.rs_model.specs.declared.demos.Demo.{Demo}
+use Rattle.rs_model.specs.declared.demos.Demo.TheVariants as demo
 use Rattle.rs_demos.specs.Sessions.{demo_names, demo_protocol, has_session, written_machines}
 use Rattle.rs_demos.specs.Texts.{document_of}
-use Rattle.rs_demos.specs.declared.kinds.Demo.{Demo}
-use Rattle.rs_demos.specs.declared.kinds.Demo.TheVariants as demo
 use Rattle.rs_demos.proofs.Ranges.{within}
 use Rattle.rs_demos.proofs.Printable.{at-all, printable}
 use Rattle.rs_demos.proofs.SpeltDocuments.{can-be-read}

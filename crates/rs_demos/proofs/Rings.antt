@@ -7,6 +7,7 @@ use Rattle.std.proofs.lemmas.Bool.Decides.{eqb_tells}
 use Rattle.std.proofs.lemmas.Int.{ints, int_wrap-add_left}
 use Rattle.rs_model.specs.declared.values.Value.{Value}
 use Rattle.rs_model.specs.declared.values.Value.TheVariants as value
+use Rattle.rs_model.specs.declared.demos.Demo.TheVariants as demo
 use Rattle.rs_core.specs.declared.messages.Message.{Message}
 use Rattle.rs_core.specs.Plain.{Moment, Ended, IsPlain}
 use Rattle.rs_core.specs.Runs.{IsGiven, HasActors}
@@ -20,7 +21,6 @@ use Rattle.rs_demos.specs.Sessions.{demo_machines, next_in_ring, previous_in_rin
 use Rattle.rs_demos.specs.Starts.{StartsWithActors, ring_member}
 use Rattle.rs_demos.specs.declared.actors.DemoActor.{DemoActor}
 use Rattle.rs_demos.specs.declared.actors.DemoActor.TheVariants as actor
-use Rattle.rs_demos.specs.declared.kinds.Demo.TheVariants as demo
 use Rattle.rs_demos.specs.declared.parts.RingMember.{RingMember}
 use Rattle.rs_demos.proofs.Butterflies.{same-lists, mapped, many-mapped, start-states, whole-numbers}
 use Rattle.rs_demos.proofs.Playing.{sents-cons, gots-cons}

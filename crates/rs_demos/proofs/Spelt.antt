@@ -8,7 +8,7 @@ use Rattle.std.proofs.lemmas.Bool.Decides.{eqb_tells, nat_tests}
 use Rattle.std.proofs.lemmas.List.Sums.{prefix_len-le-length}
 use Rattle.std.proofs.lemmas.Str.Parse.{digit_from_value}
 use Rattle.rs_demos.specs.Numbers.{is_blank, AreBlanks, AreAsked, IsNumber, EndsNumber, SpellsNumbers, minus_text, takes_numbers, with_sign}
-use Rattle.rs_demos.specs.declared.kinds.Demo.{Demo}
+use Rattle.rs_model.specs.declared.demos.Demo.{Demo}
 use Rattle.rs_demos.specs.Reading.{behind_blanks, blanks_before, word_len}
 
 -- lists

@@ -13,10 +13,10 @@ use Rattle.rs_model.specs.Data.{Machine_data, Protocol_data}
 use Rattle.rs_model.specs.declared.graph.Node.{Node}
 use Rattle.rs_model.specs.declared.graph.Node.TheVariants.{Finished, Talk}
 use Rattle.rs_model.specs.declared.values.Sort.TheVariants as sort
+use Rattle.rs_model.specs.declared.demos.Demo.{Demo}
+use Rattle.rs_model.specs.declared.demos.Demo.TheVariants as demo
 use Rattle.rs_demos.specs.Sessions.{arm, role, demo_machines, demo_names, demo_protocol, double_kernel, double_sink, double_source, has_line, has_session, stream_sink, stream_source, machine_with_line, ring_machine, butterfly_machine, role_name, numbers_from}
 use Rattle.rs_demos.specs.Texts.{IsDemoText, document_of}
-use Rattle.rs_demos.specs.declared.kinds.Demo.{Demo}
-use Rattle.rs_demos.specs.declared.kinds.Demo.TheVariants as demo
 use Rattle.rs_demos.proofs.Printable.{printable}
 use Rattle.rs_demos.proofs.Ranges.{in-range, mapped-at}
 

@@ -3,9 +3,9 @@ use Rattle.std.specs.Prelude.{ℕ, ℤ, List, not, drop, ◌≤◌, length}
 use Rattle.std.specs.List.{prefix_len}
 use Rattle.std.specs.Str.Parse.{IsNumeral}
 use Rattle.rs_demos.specs.Numbers.{is_blank, AreAsked, SpellsNumbers}
-use Rattle.rs_demos.specs.declared.kinds.Demo.{Demo}
-use Rattle.rs_demos.specs.declared.kinds.DemoFault.{DemoFault}
-use Rattle.rs_demos.specs.declared.kinds.DemoFault.TheVariants as fault
+use Rattle.rs_model.specs.declared.demos.Demo.{Demo}
+use Rattle.rs_demos.specs.declared.faults.DemoFault.{DemoFault}
+use Rattle.rs_demos.specs.declared.faults.DemoFault.TheVariants as fault
 
 -- how many blanks stand in front
 abbrev pub blanks_before : List ℕ → ℕ

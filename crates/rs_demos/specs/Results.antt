@@ -4,8 +4,8 @@ use Rattle.std.specs.List.{enumerate_from, join_with_byte}
 use Rattle.std.specs.Fmt.{signed_decimal}
 use Rattle.std.specs.Int.{w64, int_wrap}
 use Rattle.rs_demos.specs.Numbers.{AreAsked}
-use Rattle.rs_demos.specs.declared.kinds.Demo.{Demo}
-use Rattle.rs_demos.specs.declared.kinds.Demo.TheVariants as demo
+use Rattle.rs_model.specs.declared.demos.Demo.{Demo}
+use Rattle.rs_model.specs.declared.demos.Demo.TheVariants as demo
 
 -- each byte b as 255 - b
 abbrev pub inverse_bytes : List ℕ → List ℕ

@@ -11,9 +11,9 @@ use Rattle.rs_model.specs.declared.machines.State.{State}
 use Rattle.rs_model.specs.declared.machines.State.TheVariants.{Done, Puts, Takes}
 use Rattle.rs_model.specs.declared.values.Sort.{Sort}
 use Rattle.rs_model.specs.declared.values.Sort.TheVariants as sort
+use Rattle.rs_model.specs.declared.demos.Demo.{Demo}
+use Rattle.rs_model.specs.declared.demos.Demo.TheVariants as demo
 use Rattle.rs_demos.specs.Numbers.{takes_numbers}
-use Rattle.rs_demos.specs.declared.kinds.Demo.{Demo}
-use Rattle.rs_demos.specs.declared.kinds.Demo.TheVariants as demo
 
 -- a demo has a session for so many roles; the counts of double buffering and of the stream mean nothing
 abbrev pub has_session : Demo → ℕ → Bool

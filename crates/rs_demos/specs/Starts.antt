@@ -4,10 +4,10 @@ use Rattle.std.specs.List.{enumerate_from}
 use Rattle.rs_demos.specs.Numbers.{AreAsked}
 use Rattle.rs_demos.specs.declared.actors.DemoActor.{DemoActor}
 use Rattle.rs_demos.specs.declared.actors.DemoActor.TheVariants as actor
-use Rattle.rs_demos.specs.declared.kinds.Demo.{Demo}
-use Rattle.rs_demos.specs.declared.kinds.Demo.TheVariants as demo
-use Rattle.rs_demos.specs.declared.kinds.DemoFault.{DemoFault}
-use Rattle.rs_demos.specs.declared.kinds.DemoFault.TheVariants as fault
+use Rattle.rs_model.specs.declared.demos.Demo.{Demo}
+use Rattle.rs_model.specs.declared.demos.Demo.TheVariants as demo
+use Rattle.rs_demos.specs.declared.faults.DemoFault.{DemoFault}
+use Rattle.rs_demos.specs.declared.faults.DemoFault.TheVariants as fault
 
 -- a member of a ring holds its own number, which is also its sum so far
 abbrev pub ring_member : ℤ → DemoActor

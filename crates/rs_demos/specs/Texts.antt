@@ -4,7 +4,7 @@ use Rattle.rs_documents.specs.Canonical.{IsCanonicalDocument}
 use Rattle.rs_documents.specs.Data.{Document_data}
 use Rattle.rs_documents.specs.Parts.{no_parts}
 use Rattle.rs_demos.specs.Sessions.{demo_names, demo_protocol, written_machines}
-use Rattle.rs_demos.specs.declared.kinds.Demo.{Demo}
+use Rattle.rs_model.specs.declared.demos.Demo.{Demo}
 
 -- the document of a demo for so many roles
 abbrev pub document_of : Demo → ℕ → Document_data

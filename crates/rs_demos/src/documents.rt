@@ -7,8 +7,7 @@ ghost use Rattle.rs_demos.specs.Sessions.{both_ways, butterfly_exchanges, butter
 ghost use Rattle.rs_demos.specs.Texts.{IsDemoText};
 ghost use Rattle.rs_demos.specs.Writing.{acts_text, butterfly_line, butterfly_text, exchange_text, exchanges_text, machine_line, other_name, pairs_text, ring_line, ring_text, roles_text};
 
-use crate::kinds::Demo;
-use rs_model::NoMemory;
+use rs_model::{Demo, NoMemory};
 use rs_text::Text;
 use std::alloc::Global;
 

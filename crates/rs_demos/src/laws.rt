@@ -3,6 +3,7 @@
 ghost use Rattle.std.specs.Prelude.{◌≡◌, ◌⊎◌, ◌<◌, ◌≤◌, ℕ, ℤ, List, Option, Some, false, length, slice_get, true};
 ghost use Rattle.rs_model.specs.Data.{Machine_data};
 ghost use Rattle.rs_model.specs.declared.limits.TheConstants.{MOST_BYTES};
+ghost use Rattle.rs_model.specs.declared.demos.Demo.{Demo};
 ghost use Rattle.rs_project.specs.Numbered.{IsNumberedProjection};
 ghost use Rattle.rs_core.specs.Plain.{Ended, IsPlain, Moment, Stopped};
 ghost use Rattle.rs_core.specs.Runs.{HasActors, IsGiven};
@@ -17,7 +18,6 @@ ghost use Rattle.rs_demos.specs.Sessions.{demo_machines, demo_protocol, has_line
 ghost use Rattle.rs_demos.specs.Starts.{HasNoNumbers, StartsWithActors};
 ghost use Rattle.rs_demos.specs.Texts.{IsDemoText, document_of};
 ghost use Rattle.rs_demos.specs.declared.actors.DemoActor.{DemoActor};
-ghost use Rattle.rs_demos.specs.declared.kinds.Demo.{Demo};
 
 /// Bytes spell one list of numbers at most.
 pub fn bytes_spell_one_list_of_numbers()

@@ -5,19 +5,17 @@
 mod actors;
 mod documents;
 mod exchanges;
-mod kinds;
+mod faults;
 pub mod laws;
 mod numbers;
 mod outputs;
 mod parts;
 mod sessions;
 mod starts;
-#[cfg(test)]
-mod tests;
 
 pub use actors::DemoActor;
 pub use documents::demo_document;
-pub use kinds::{Demo, DemoFault};
+pub use faults::DemoFault;
 pub use outputs::{demo_output, into_demo_output};
 pub use parts::{ButterflyMember, Kernel, PIECE_BYTES, RingMember, Sink, Source};
 pub use sessions::demo_session_document;

@@ -6,7 +6,7 @@ ghost use Rattle.std.specs.Str.Parse.{digits_value};
 ghost use Rattle.rs_demos.specs.Numbers.{IsNumber, SpellsNumbers, is_blank, with_sign};
 ghost use Rattle.rs_demos.specs.Reading.{AreDigits, SpellsNone, behind_blanks, blanks_before, word_len};
 
-use crate::kinds::DemoFault;
+use crate::faults::DemoFault;
 use rs_model::NoMemory;
 use std::alloc::Global;
 

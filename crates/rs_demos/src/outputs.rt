@@ -7,8 +7,7 @@ ghost use Rattle.rs_demos.specs.Printing.{joined_text, others_text};
 ghost use Rattle.rs_demos.specs.Results.{results_text};
 
 use crate::actors::DemoActor;
-use crate::kinds::Demo;
-use rs_model::NoMemory;
+use rs_model::{Demo, NoMemory};
 use rs_text::Text;
 use std::alloc::Global;
 

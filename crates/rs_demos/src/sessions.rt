@@ -6,18 +6,17 @@ ghost use Rattle.rs_documents.specs.Reading.{DocumentIsReady};
 ghost use Rattle.rs_model.specs.declared.limits.TheConstants.{MOST_ROLES};
 ghost use Rattle.rs_model.specs.declared.graph.Node.TheVariants as node;
 ghost use Rattle.rs_model.specs.declared.machines.State.TheVariants as state;
+ghost use Rattle.rs_model.specs.declared.demos.Demo.TheVariants as demo;
 ghost use Rattle.rs_demos.specs.Sessions as spec;
 ghost use Rattle.rs_demos.specs.Sessions.{has_session};
 ghost use Rattle.rs_demos.specs.Texts.{document_of};
-ghost use Rattle.rs_demos.specs.declared.kinds.Demo.TheVariants as demo;
 
 use crate::documents::push_role;
 use crate::exchanges::{butterfly_exchanges, butterfly_pairs, ring_exchanges, ring_pairs};
-use crate::kinds::Demo;
 use rs_derive::Derivation;
 use rs_documents::Document;
 use rs_model::{
-    Arm, Arms, Label, Machine, Name, Names, NoMemory, Node, Protocol, Role, Sort, State,
+    Arm, Arms, Demo, Label, Machine, Name, Names, NoMemory, Node, Protocol, Role, Sort, State,
 };
 use rs_text::Text;
 use std::alloc::Global;

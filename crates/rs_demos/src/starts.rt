@@ -8,10 +8,10 @@ ghost use Rattle.rs_demos.specs.Starts.{StartRefuses, StartsWithActors, butterfl
 ghost use Rattle.rs_demos.specs.declared.actors.DemoActor.TheVariants as actor;
 
 use crate::actors::DemoActor;
-use crate::kinds::{Demo, DemoFault};
+use crate::faults::DemoFault;
 use crate::numbers::numbers_of;
 use crate::parts::{ButterflyMember, Kernel, RingMember, Sink, Source};
-use rs_model::NoMemory;
+use rs_model::{Demo, NoMemory};
 use std::alloc::Global;
 
 /// The actors of a demo, in role order: each starts with the input's part of its role, and with nothing else.

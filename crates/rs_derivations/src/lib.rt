@@ -5,8 +5,6 @@ mod derivations;
 pub mod laws;
 mod printing;
 mod reading;
-#[cfg(test)]
-mod tests;
 
 pub use derivations::read_derivation;
 pub use printing::print_derivation;

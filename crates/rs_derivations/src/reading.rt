@@ -25,7 +25,7 @@ use std::marker::Model;
 use std::mem;
 
 /// The place in the grammar.
-#[derive(Clone, Copy, Debug, PartialEq, Eq)]
+#[derive(Clone, Copy, PartialEq, Eq)]
 pub(crate) enum Mode {
     /// At `derivation`.
     Derivation,

@@ -8,8 +8,6 @@ pub mod laws;
 mod nexts;
 mod rules;
 mod targets;
-#[cfg(test)]
-mod tests;
 
 pub use checks::check;
 pub use derivations::{DNode, Derivation, longest, top_rank};

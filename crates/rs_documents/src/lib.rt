@@ -7,6 +7,3 @@ mod printing;
 
 pub use documents::{Document, read_document};
 pub use printing::print_document;
-
-#[cfg(test)]
-mod tests;

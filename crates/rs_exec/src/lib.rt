@@ -9,8 +9,6 @@ mod rounds;
 mod running;
 mod runs;
 mod tasks;
-#[cfg(test)]
-mod tests;
 
 pub use inline::{ExecFault, run_inline};
 pub use polling::{RoleFuture, SessionName, SessionTask};

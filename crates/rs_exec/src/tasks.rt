@@ -11,7 +11,7 @@ ghost use Rattle.rs_model.specs.declared.machines.State.TheVariants.{Puts, Takes
 use rs_core::{Actor, Entry, Transcript};
 use rs_model::{Arm, NoMemory, Role, State, Value};
 use rs_session::{Left, Receiving, Sending, Sent, Session, Stage, Taken};
-use std::alloc::Global;
+use std::alloc::{AllocFailed, Global};
 use std::marker::Model;
 
 /// Why a task waits.
@@ -49,9 +49,11 @@ pub(crate) struct Player<A: Drop> {
 }
 
 /// A role of a session with the actor that plays it, and with a limit on its acts. It must be spent.
+///
+/// What plays it lies in a box, so that a task is moved fast.
 pub struct RoleTask<A: Drop> {
     stage: Option<Stage>,
-    player: Player<A>,
+    player: Box<Player<A>>,
 }
 
 impl<A: Drop> Model for RoleTask<A> {
@@ -60,9 +62,9 @@ impl<A: Drop> Model for RoleTask<A> {
 
     ghost Value = { Task_data A };
 
-    ghost view = { λ t. task_of (stage_in t.stage) t.player };
+    ghost view = { λ t. task_of (stage_in t.stage) t.player.value };
 
-    ghost invariant = { λ t. PlayerIsWhole t.stage t.player };
+    ghost invariant = { λ t. PlayerIsWhole t.stage t.player.value };
 }
 
 impl<A: Actor> RoleTask<A> {
@@ -78,16 +80,25 @@ impl<A: Actor> RoleTask<A> {
         ensures back { IfErr result (λ e. (e.0 ≡ stage) × (e.1 ≡ actor)) }
     {
         match Vec::with_capacity(alloc, limit as usize) {
-            Ok(entries) => Ok(RoleTask {
-                stage: Some(stage),
-                player: Player {
+            Ok(entries) => {
+                let player = Player {
                     actor,
                     limit,
                     kept: None,
                     entries,
                     failed: false,
-                },
-            }),
+                };
+                match Box::new(alloc, player) {
+                    Ok(player) => Ok(RoleTask {
+                        stage: Some(stage),
+                        player,
+                    }),
+                    Err(refused) => {
+                        let AllocFailed { value } = refused;
+                        Err((stage, value.actor, NoMemory))
+                    }
+                }
+            }
             Err(_) => Err((stage, actor, NoMemory)),
         }
     }
@@ -117,6 +128,7 @@ impl<A: Actor> RoleTask<A> {
         ensures transcript { self.transcript ≡ transcript_of (sight_of_stage self.stage).part.history }
     {
         let RoleTask { stage, player } = self;
+        let player = Box::into_inner(player);
         match stage {
             Some(stage) => (stage, player.actor, Transcript::of(player.entries)),
             None => unreachable!(),

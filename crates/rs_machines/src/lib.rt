@@ -7,13 +7,9 @@ pub mod laws;
 mod machines;
 mod printing;
 pub mod printing_laws;
-#[cfg(test)]
-mod printing_tests;
 mod shapes;
 pub mod spelling_laws;
 mod tables;
-#[cfg(test)]
-mod tests;
 
 pub use machines::read_machine;
 pub use printing::print_machine;

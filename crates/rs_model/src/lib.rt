@@ -1,18 +1,18 @@
-//! The types of Rumpsteak: protocols, machines, sorts and values, and the test of a machine.
+//! The types of Rumpsteak: protocols, machines, sorts, values and demos, and the test of a machine.
 #![tactic(auto)]
 
 mod checks;
+mod demos;
 mod graph;
 pub mod laws;
 mod limits;
 mod machines;
 mod memory;
-#[cfg(test)]
-mod tests;
 mod values;
 mod words;
 
 pub use checks::{MachineFault, first_repeat, has_next_from};
+pub use demos::Demo;
 pub use graph::{Arm, Arms, Label, Node, Protocol, Role};
 pub use limits::{
     MOST_ACTS, MOST_ARMS, MOST_BOUND, MOST_BYTES, MOST_CANDIDATES, MOST_CAPACITY, MOST_LABELS,

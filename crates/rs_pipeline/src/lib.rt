@@ -2,8 +2,6 @@
 #![tactic(auto)]
 
 mod pipelines;
-#[cfg(test)]
-mod tests;
 mod texts;
 
 pub use pipelines::{Pipeline, pipeline_of};

@@ -5,8 +5,6 @@
 mod earliest;
 pub mod laws;
 mod owed;
-#[cfg(test)]
-mod tests;
 
 pub use earliest::{Found, Kind};
 pub use owed::Pending;

@@ -16,7 +16,5 @@ mod searching;
 mod spreading;
 mod straight;
 mod surveying;
-#[cfg(test)]
-mod tests;
 
 pub use projecting::{ProjFault, Projection, project};

@@ -18,3 +18,10 @@ impl Model for Pass {
 
     ghost invariant = { λ p. IsBetweenCalls p.seat.me p.rows.items };
 }
+
+impl Pass {
+    /// Gives the pass up: nobody can act for its roles any more.
+    pub fn leave(self) {
+        let Pass { seat: _, rows: _ } = self;
+    }
+}

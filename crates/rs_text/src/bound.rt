@@ -5,7 +5,7 @@ use crate::names::is_same;
 use std::marker::Model;
 
 /// A recursion name, and the number of what its body begins with.
-#[derive(Drop, Debug)]
+#[derive(Drop)]
 pub struct Binding<'a> {
     pub name: &'a [u8],
     pub number: u32,

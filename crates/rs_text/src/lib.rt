@@ -14,8 +14,6 @@ pub mod seen;
 pub mod shown;
 mod tables;
 mod terminals;
-#[cfg(test)]
-mod tests;
 mod tokens;
 
 pub use bound::{Binding, bound_number, unbind};

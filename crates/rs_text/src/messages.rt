@@ -12,7 +12,7 @@ use rs_model::{Label, MOST_LABELS, Sort};
 use std::alloc::Global;
 
 /// The place within a message, with what was read of it.
-#[derive(Clone, Copy, Debug, PartialEq, Eq)]
+#[derive(Clone, Copy, PartialEq, Eq)]
 pub enum MessagePlace {
     /// At the label.
     Label,
@@ -25,7 +25,7 @@ pub enum MessagePlace {
 }
 
 /// What a token makes of a message.
-#[derive(Clone, Copy, Debug, PartialEq, Eq)]
+#[derive(Clone, Copy, PartialEq, Eq)]
 pub enum MessageStep {
     /// It goes on at this place.
     GoesOn { place: MessagePlace },

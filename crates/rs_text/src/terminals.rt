@@ -8,7 +8,7 @@ use crate::tokens::{FaultKind, Kind};
 use std::marker::Model;
 
 /// What the grammars see of a token.
-#[derive(Clone, Copy, Debug)]
+#[derive(Clone, Copy)]
 pub enum Terminal<'a> {
     /// `rec`
     Rec,
@@ -49,7 +49,7 @@ pub enum Terminal<'a> {
 }
 
 /// A token of a text with what it says, or what stands in place of one. It is seen as its sign and its place.
-#[derive(Debug, Drop)]
+#[derive(Drop)]
 pub struct TextToken<'a> {
     pub(crate) terminal: Terminal<'a>,
     pub(crate) from: usize,

@@ -7,13 +7,13 @@ use Rattle.std.specs.Io.KnownBytes.{Appends, Keeps, IsAtEnd}
 use Rattle.rs_io.specs.Prefix.{AppendsPrefix}
 use Rattle.rs_model.specs.declared.limits.TheConstants.{MOST_BYTES}
 use Rattle.rs_model.specs.declared.memory.NoMemory.{NoMemory}
+use Rattle.rs_model.specs.declared.demos.Demo.{Demo}
 use Rattle.rs_text.specs.declared.faults.TextFault.{TextFault}
 use Rattle.rs_text.specs.declared.faults.TextKind.TheVariants as kind
 use Rattle.rs_tool.specs.declared.statuses.Status.{Status}
 use Rattle.rs_tool.specs.declared.statuses.Status.TheVariants as status
 use Rattle.rs_answers.specs.declared.verdicts.Verdict.{Verdict}
 use Rattle.rs_answers.specs.declared.verdicts.Verdict.TheVariants as verdict
-use Rattle.rs_demos.specs.declared.kinds.Demo.{Demo}
 use Rattle.rs_words.specs.declared.tasks.Task.{Task}
 use Rattle.rs_words.specs.declared.tasks.Task.TheVariants as task
 use Rattle.rs_words.specs.Meaning.{IsMeaning, SpellsTask}

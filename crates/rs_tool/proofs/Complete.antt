@@ -4,7 +4,10 @@ use Rattle.rs_derive.specs.Data.{Derivation_data}
 use Rattle.rs_documents.proofs.SpeltSessions.{spelt_session}
 use Rattle.rs_model.proofs.Faults as of_machines
 use Rattle.rs_model.specs.Data.{Machine_data}
-use Rattle.rs_search.proofs.Deciding.{not_refused}
+use Rattle.rs_safety.proofs.Accepts.{machine-proper, projection-proper}
+use Rattle.rs_safety.specs.Sessions.{IsSession}
+use Rattle.rs_search.proofs.Determined.{not_both_ways}
+use Rattle.rs_search.proofs.Remembering.{followed_is_found}
 use Rattle.rs_wellformed.proofs.Faults as of_protocols
 use Rattle.rs_tool.specs.Answers.{Answers, CarriesOut, IsDocument, ReadsDocument}
 use Rattle.rs_tool.specs.Calls.{Ends, Tells, TellsAll, TellsPart, TellsReadFault, TellsNoMemory}
@@ -43,15 +46,24 @@ has_machines bound bytes s = record {
 
 -- .. and their derivations
 pub derived : (bound : ℕ) (bytes : List ℕ) (s : SpellsDerivableSession bound bytes) → (derivations : List Derivation_data) × AreCanonical bound (machines_of s.document.machines s.projections) s.projections derivations
-derived bound bytes s =
-    let ms = machines_of s.document.machines s.projections in
-    let h = has_machines bound bytes s in
-    let session = session_of s.document s.projections ms (spelt_session bytes s.document s.spells) h.projections_are.well_formed s.projected refl h.well_formed in
-    go (found_first bound s.document.protocol s.projections ms session (length ms) (omega arith))
+derived bound bytes s = go (found_first bound s.document.protocol s.projections ms session (length ms) (omega arith))
   where
-    go : Searched bound (machines_of s.document.machines s.projections) s.projections (length (machines_of s.document.machines s.projections)) → (derivations : List Derivation_data) × AreCanonical bound (machines_of s.document.machines s.projections) s.projections derivations
+    ms : List Machine_data
+    ms = machines_of s.document.machines s.projections
+
+    session : IsSession s.document.protocol s.projections ms
+    session =
+        let h = has_machines bound bytes s in
+        session_of s.document s.projections ms (spelt_session bytes s.document s.spells) h.projections_are.well_formed s.projected refl h.well_formed
+
+    go : Searched bound ms s.projections (length ms) → (derivations : List Derivation_data) × AreCanonical bound ms s.projections derivations
     go (AllFound derivations found) = (derivations, found)
-    go (OneIsnt role fault u) = absurd (not_refused u.machine u.projection.machine bound (s.derivable role.0 u.machine u.projection u.runs u.projects) fault u.cause u.refused)
+    go (OneIsnt role fault u) =
+        let k = s.derivable role.0 u.machine u.projection u.runs u.projects in
+        let ours = machine-proper s.document.protocol s.projections ms session role.0 u.machine u.runs in
+        let theirs = projection-proper s.document.protocol s.projections ms session role.0 u.projection u.projects in
+        let f = (followed_is_found u.machine u.projection.machine bound ours theirs).1 (k.1, k.0) in
+        absurd (u.cause (not_both_ways u.machine u.projection.machine bound f.0 fault f.1 u.refused))
 
 -- the answer to such a text is fine
 answers : (words : List (List ℕ)) (bound : ℕ) (bytes : List ℕ) → SpellsDerivableSession bound bytes → SpellsCheck words bound → (a : Answer_data) × Answers words bytes a × (status_of a.verdict ≡ status.Fine)

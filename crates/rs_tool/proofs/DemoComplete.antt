@@ -11,7 +11,6 @@ use Rattle.rs_demo_answers.proofs.OneAnswer.{one_opening}
 use Rattle.rs_demo_answers.proofs.Stopping.{never_stopped}
 use Rattle.rs_demos.specs.Acting.{by_demo}
 use Rattle.rs_demos.specs.declared.actors.DemoActor.{DemoActor}
-use Rattle.rs_demos.specs.declared.kinds.Demo.{Demo}
 use Rattle.rs_demos.proofs.Deciding.{not-both}
 use Rattle.rs_derive.specs.Data.{Derivation_data}
 use Rattle.rs_documents.specs.Data.{Document_data}
@@ -19,6 +18,7 @@ use Rattle.rs_documents.specs.Documents.{SpellsDocument}
 use Rattle.rs_documents.proofs.OneDocument.{one_document}
 use Rattle.rs_model.specs.Data.{Machine_data}
 use Rattle.rs_model.specs.declared.limits.TheConstants.{MOST_BYTES}
+use Rattle.rs_model.specs.declared.demos.Demo.{Demo}
 use Rattle.rs_project.specs.Data.{Projection_data}
 use Rattle.rs_safety.specs.Room.{room_of}
 use Rattle.rs_tool.specs.Answers.{AnswersData, DataIsTooLong, DataIsShort}

@@ -6,8 +6,8 @@ use Rattle.rs_answers.specs.Refusals.{refusal_answer}
 use Rattle.rs_demo_answers.specs.Demos.{AnswersDemo, HasBadNumbers, IsDocument, IsRefused, IsAccepted, IsTooSmall, IsRun, TellsDemoEnd, HasEnded, IsStopped}
 use Rattle.rs_core.specs.Plain.{Ending}
 use Rattle.rs_demos.specs.declared.actors.DemoActor.{DemoActor}
-use Rattle.rs_demos.specs.declared.kinds.Demo.{Demo}
 use Rattle.rs_model.specs.Data.{Names_data}
+use Rattle.rs_model.specs.declared.demos.Demo.{Demo}
 use Rattle.rs_tool.specs.Answers.{AnswersData, DataIsTooLong, DataIsShort, AnswersTask, ReadsDocument, RunsDemo, MakesPipeline}
 use Rattle.rs_tool.specs.Calls.{ForInput, Tells, TellsAll, TellsPart, TellsReadFault, TellsNoMemory}
 use Rattle.rs_tool.specs.DemoHeadline.{HasSafeDemo}

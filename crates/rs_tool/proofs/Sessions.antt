@@ -4,8 +4,8 @@ use Rattle.std.specs.Prelude.{IfOk}
 use Rattle.rs_answers.specs.Data.{Answer_data}
 use Rattle.rs_answers.specs.RunSessions.{HasCome, IsThereWhere, WasRunOf}
 use Rattle.rs_demo_answers.specs.DemoSessions.{WasPerformed}
-use Rattle.rs_demos.specs.declared.kinds.Demo.{Demo}
 use Rattle.rs_model.specs.declared.memory.NoMemory.{NoMemory}
+use Rattle.rs_model.specs.declared.demos.Demo.{Demo}
 use Rattle.rs_documents.specs.Data.{Document_data}
 use Rattle.rs_documents.specs.Documents.{SpellsDocument}
 use Rattle.rs_rings.specs.Closed.{Closed_data}

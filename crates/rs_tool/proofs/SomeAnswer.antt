@@ -4,6 +4,7 @@ use Rattle.std.specs.Prelude.{codes}
 use Rattle.std.proofs.lemmas.Bool.Decides.{leb_tells}
 use Rattle.rs_model.specs.Data.{Names_data, Machine_data}
 use Rattle.rs_model.specs.declared.limits.TheConstants.{MOST_BYTES}
+use Rattle.rs_model.specs.declared.demos.Demo.{Demo}
 use Rattle.rs_global.specs.Texts.{protocol_text}
 use Rattle.rs_global.proofs.Existence.{canonical_is_there}
 use Rattle.rs_project.specs.Data.{Projection_data}
@@ -18,7 +19,6 @@ use Rattle.rs_wellformed.specs.declared.checks.WfFault.{WfFault}
 use Rattle.rs_wellformed.proofs.Faults.{no_fault}
 use Rattle.rs_answers.specs.declared.verdicts.Verdict.TheVariants.{Fine}
 use Rattle.rs_demo_answers.proofs.SomeAnswer.{some_demo}
-use Rattle.rs_demos.specs.declared.kinds.Demo.{Demo}
 use Rattle.rs_words.specs.declared.tasks.Task.{Task}
 use Rattle.rs_words.specs.declared.tasks.Task.TheVariants as task
 use Rattle.rs_tool.specs.Answers.{Answers, SpellsNothing, CarriesOut, AnswersText, IsTooLong, IsFaulty, IsDocument, AnswersDocument, AnswersTask, AnswersData, DataIsTooLong, DataIsShort, ReadsDocument, RunsDemo, MakesPipeline}

@@ -4,6 +4,7 @@ use Rattle.std.specs.Prelude.{◌==◌, not}
 use Rattle.std.proofs.lemmas.Option.{same_Some}
 use Rattle.rs_model.specs.Data.{Names_data, Machine_data}
 use Rattle.rs_model.specs.declared.limits.TheConstants.{MOST_BYTES}
+use Rattle.rs_model.specs.declared.demos.Demo.{Demo}
 use Rattle.rs_global.proofs.CanonOne.{canonical_text_is_one}
 use Rattle.rs_global.specs.Canonical.{IsTextShaped}
 use Rattle.rs_project.specs.Data.{Projection_data}
@@ -14,7 +15,6 @@ use Rattle.rs_words.proofs.Exact.{words_spell_one_task}
 use Rattle.rs_wellformed.proofs.Faults.{no_fault}
 use Rattle.rs_answers.specs.declared.verdicts.Verdict.TheVariants.{Fine, Stopped}
 use Rattle.rs_demo_answers.proofs.OneAnswer.{one_demo}
-use Rattle.rs_demos.specs.declared.kinds.Demo.{Demo}
 use Rattle.rs_words.specs.declared.tasks.Task.{Task}
 use Rattle.rs_words.specs.declared.tasks.Task.TheVariants as task
 use Rattle.rs_tool.specs.Answers.{Answers, SpellsNothing, CarriesOut, AnswersText, IsTooLong, IsFaulty, IsDocument, AnswersDocument, AnswersPipeline, AnswersTask, AnswersData, DataIsTooLong, DataIsShort, ReadsDocument, RunsDemo, MakesPipeline}

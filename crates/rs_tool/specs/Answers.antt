@@ -1,10 +1,10 @@
 -- Believed: what the program answers to its words and its input.
 use Rattle.std.specs.Prelude.{◌≡◌, ℕ, ◌<◌, ◌≤◌, ◌++◌, codes, length, List, Option, true, false, None}
 use Rattle.rs_model.specs.declared.limits.TheConstants.{MOST_BYTES}
+use Rattle.rs_model.specs.declared.demos.Demo.{Demo}
 use Rattle.rs_pipeline.specs.Pipelines.{pipeline_text, pipeline_of, pipeline_summary}
 use Rattle.rs_text.specs.declared.faults.TextKind.{TextKind}
 use Rattle.rs_demo_answers.specs.Demos.{AnswersDemo}
-use Rattle.rs_demos.specs.declared.kinds.Demo.{Demo}
 use Rattle.rs_answers.specs.Checks.{Checks}
 use Rattle.rs_documents.specs.Data.{Document_data}
 use Rattle.rs_answers.specs.Data.{Answer_data}

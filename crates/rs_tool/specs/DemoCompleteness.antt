@@ -5,9 +5,9 @@ use Rattle.rs_answers.specs.Machines.{machines_of}
 use Rattle.rs_answers.specs.Runs.{capacity_of}
 use Rattle.rs_demo_answers.specs.Demos.{Opens}
 use Rattle.rs_demos.specs.declared.actors.DemoActor.{DemoActor}
-use Rattle.rs_demos.specs.declared.kinds.Demo.{Demo}
 use Rattle.rs_derive.specs.Data.{Derivation_data}
 use Rattle.rs_model.specs.declared.limits.TheConstants.{MOST_BYTES}
+use Rattle.rs_model.specs.declared.demos.Demo.{Demo}
 use Rattle.rs_safety.specs.Room.{room_of}
 use Rattle.rs_tool.specs.Completeness.{SpellsDerivableSession}
 use Rattle.rs_tool.specs.Tasks.{SpellsDemo}

@@ -2,7 +2,7 @@
 use Rattle.std.specs.Prelude.{ℕ, List}
 use Rattle.rs_demo_answers.specs.Demos.{Opens}
 use Rattle.rs_demos.specs.declared.actors.DemoActor.{DemoActor}
-use Rattle.rs_demos.specs.declared.kinds.Demo.{Demo}
+use Rattle.rs_model.specs.declared.demos.Demo.{Demo}
 use Rattle.rs_tool.specs.Headline.{SpellsSafeMachines}
 
 -- the demo has actors for the bytes, and the text of its document for as many roles spells safe machines

@@ -1,6 +1,6 @@
 -- Believed: which tasks read the input, and which need workers.
 use Rattle.std.specs.Prelude.{◌≡◌, ◌==◌, ℕ, List, Option, Bool, not, true, false}
-use Rattle.rs_demos.specs.declared.kinds.Demo.{Demo}
+use Rattle.rs_model.specs.declared.demos.Demo.{Demo}
 use Rattle.rs_words.specs.Meaning.{SpellsTask}
 use Rattle.rs_answers.specs.declared.runs.RunOptions.{RunOptions}
 use Rattle.rs_words.specs.declared.tasks.Task.{Task}

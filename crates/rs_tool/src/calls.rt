@@ -4,7 +4,6 @@ ghost use Rattle.std.specs.Prelude.{◌≡◌, ◌≤◌, ◌<◌, ℕ, List, Op
 ghost use Rattle.rs_answers.specs.RefusalTexts as spec;
 ghost use Rattle.std.specs.Io.KnownBytes.{IsAtEnd};
 ghost use Rattle.rs_io.specs.Faults.{Rose};
-ghost use Rattle.rs_demos.specs.declared.kinds.Demo.{Demo};
 ghost use Rattle.rs_pipeline.specs.Pipelines.{pipeline_text, pipeline_of};
 ghost use Rattle.rs_tool.specs.Attempts.{AnswersTo, Attempts, Delivers, IsInput};
 ghost use Rattle.rs_tool.specs.Sessions.{Gives, HasItsSession};
@@ -18,6 +17,7 @@ ghost use Rattle.rs_tool.specs.Tasks.{SpellsCheck, SpellsDemo, SpellsRun, needs_
 ghost use Rattle.rs_answers.specs.declared.runs.RunOptions.{RunOptions};
 ghost use Rattle.rs_words.specs.Meaning.{IsInRange, SpellsTask};
 ghost use Rattle.rs_model.specs.declared.limits.TheConstants.{MOST_BYTES};
+ghost use Rattle.rs_model.specs.declared.demos.Demo.{Demo};
 ghost use Rattle.rs_words.specs.Words.{bytes_of_words};
 
 use crate::inputs::{answer_to_bytes, long_input};

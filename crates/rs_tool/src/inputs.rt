@@ -14,8 +14,7 @@ use crate::answers::answer_to_text;
 use rs_answers::Piece::Words;
 use rs_answers::{AnswerWithSession, too_large};
 use rs_demo_answers::demo;
-use rs_demos::Demo;
-use rs_model::{MOST_BYTES, NoMemory};
+use rs_model::{Demo, MOST_BYTES, NoMemory};
 use rs_words::Task;
 use std::alloc::Global;
 

@@ -15,8 +15,3 @@ pub use rs_documents::{Document, print_document, read_document};
 pub use rs_pool::{Gate, NoGate};
 pub use rs_words::DEFAULT_BOUND;
 pub use statuses::{Reply, Serial, Status};
-
-#[cfg(test)]
-mod limit_tests;
-#[cfg(test)]
-mod tests;

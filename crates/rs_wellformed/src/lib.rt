@@ -3,7 +3,5 @@
 
 mod checks;
 pub mod laws;
-#[cfg(test)]
-mod tests;
 
 pub use checks::{WfFault, well_formed};

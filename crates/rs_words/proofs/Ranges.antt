@@ -7,8 +7,8 @@ use Rattle.std.specs.Str.Parse.{digits_value}
 use Rattle.std.proofs.lemmas.Bool.Decides.{nat_tests}
 use Rattle.clap.proofs.WalkLemmas.{both}
 use Rattle.rs_model.specs.declared.limits.TheConstants.{MOST_BOUND, MOST_CAPACITY, MOST_WORKERS}
+use Rattle.rs_model.specs.declared.demos.Demo.{Demo}
 use Rattle.rs_words.specs.declared.limits.TheConstants.{DEFAULT_BOUND, DEFAULT_LIMIT, MOST_GEN, MOST_LIMIT, MOST_SEED}
-use Rattle.rs_demos.specs.declared.kinds.Demo.{Demo}
 use Rattle.rs_words.specs.declared.tasks.Task.{Task}
 use Rattle.rs_words.specs.declared.tasks.Task.TheVariants as task
 use Rattle.rs_words.specs.Grammar.{Bytes}

@@ -1,7 +1,7 @@
 //! The commands of the program, as clap is told them.
 
 ghost use Rattle.std.specs.Prelude.{◌≡◌, IfOk, true, false};
-ghost use Rattle.clap.specs.Words.{app_of, rule_of, with_rule, with_subcommand};
+ghost use Rattle.clap.specs.Words.{App, app_of, rule_of, with_rule, with_subcommand};
 ghost use Rattle.clap.specs.declared.builder.command.Command.TheViews.{out-Command};
 ghost use Rattle.rs_words.specs.Clap as spec;
 ghost use Rattle.rs_words.specs.Grammar.{check_form, demo_form, gen_form, run_form};
@@ -20,6 +20,20 @@ fn with_value<'a>(
 {
     let option = Arg::new(alloc, name).long(name).action(ArgAction::Set);
     command.arg(option)
+}
+
+/// The command with two more options that have a value.
+fn with_values<'a>(
+    alloc: Global,
+    command: Command<'a>,
+    first: &'a str,
+    second: &'a str,
+) -> Result<Command<'a>, AllocError>
+    ensures app { IfOk result (λ r. app_of r ≡ with_rule (with_rule (app_of command.entry) (spec.choice_rule first.entry.now true)) (spec.choice_rule second.entry.now true)) }
+    ensures local { IfOk result (λ r. (out-Command command.entry).has_globals ≡ false → (out-Command r).has_globals ≡ false) }
+{
+    let command = with_value(alloc, command, first)?;
+    with_value(alloc, command, second)
 }
 
 /// The command with one more option that has no value.
@@ -63,10 +77,8 @@ fn run_command<'a>(alloc: Global) -> Result<Command<'a>, AllocError>
     ensures local { IfOk result (λ r. (out-Command r).has_globals ≡ false) }
 {
     let command = with_value(alloc, Command::new(alloc, "run"), "bound")?;
-    let command = with_value(alloc, command, "ring")?;
-    let command = with_value(alloc, command, "workers")?;
-    let command = with_value(alloc, command, "limit")?;
-    with_value(alloc, command, "seed")
+    let command = with_values(alloc, command, "ring", "workers")?;
+    with_values(alloc, command, "limit", "seed")
 }
 
 /// The command `demo`.
@@ -74,8 +86,7 @@ fn demo_command<'a>(alloc: Global) -> Result<Command<'a>, AllocError>
     ensures app { IfOk result (λ r. app_of r ≡ spec.app_of_form demo_form) }
     ensures local { IfOk result (λ r. (out-Command r).has_globals ≡ false) }
 {
-    let command = with_value(alloc, Command::new(alloc, "demo"), "ring")?;
-    let command = with_value(alloc, command, "workers")?;
+    let command = with_values(alloc, Command::new(alloc, "demo"), "ring", "workers")?;
     with_word(alloc, command, "name")
 }
 
@@ -107,15 +118,26 @@ fn with_command<'a>(program: Command<'a>, command: Command<'a>) -> Result<Comman
     program.subcommand(command)
 }
 
+/// The program with one more command, where there was memory for it.
+fn with_made<'a>(
+    program: Command<'a>,
+    command: Result<Command<'a>, AllocError>,
+) -> Result<Command<'a>, AllocError>
+    requires { IfOk command (λ c. (out-Command c).has_globals ≡ false) }
+    ensures { IfOk result (λ r. (made : App) → IfOk command.entry (λ c. app_of c ≡ made) → app_of r ≡ with_subcommand (app_of program.entry) made.top) }
+{
+    with_command(program, command?)
+}
+
 /// The program with all of its commands.
 pub(crate) fn all_commands<'a>(alloc: Global) -> Result<Command<'a>, AllocError>
     ensures { IfOk result (λ r. app_of r ≡ spec.app) }
 {
-    let program = with_command(program(alloc), check_command(alloc)?)?;
+    let program = with_made(program(alloc), check_command(alloc))?;
     let program = with_command(program, Command::new(alloc, "verify"))?;
     let program = with_command(program, Command::new(alloc, "show"))?;
     let program = with_command(program, Command::new(alloc, "project"))?;
-    let program = with_command(program, run_command(alloc)?)?;
-    let program = with_command(program, demo_command(alloc)?)?;
-    with_command(program, gen_command(alloc)?)
+    let program = with_made(program, run_command(alloc))?;
+    let program = with_made(program, demo_command(alloc))?;
+    with_made(program, gen_command(alloc))
 }

@@ -13,6 +13,3 @@ mod tasks;
 pub use limits::{DEFAULT_BOUND, DEFAULT_LIMIT, MOST_GEN, MOST_LIMIT, MOST_SEED};
 pub use reading::read_words;
 pub use tasks::Task;
-
-#[cfg(test)]
-mod tests;

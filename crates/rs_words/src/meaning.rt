@@ -9,7 +9,7 @@ use crate::limits::MOST_GEN;
 use crate::numbers::{bound_in, limit_in, number_in, ring_in, seed_in, workers_in};
 use crate::tasks::Task;
 use clap::ArgMatches;
-use rs_demos::Demo;
+use rs_model::Demo;
 use std::alloc::{AllocError, Global};
 
 /// The demo of this name.

@@ -1,6 +1,6 @@
 //! What the words of the program can ask for.
 
-use rs_demos::Demo;
+use rs_model::Demo;
 
 /// What the words ask for, with the value of each option, or what stands in its place where it isn't given.
 #[derive(Clone, Copy, Debug, PartialEq, Eq)]

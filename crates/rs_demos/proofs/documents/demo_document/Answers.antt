@@ -1,7 +1,7 @@
 use Rattle.std.proofs.Common.{◌≡◌, ℕ, List, true, IfOk, sym, subst}
 use Rattle.rs_demos.specs.Sessions.{has_session}
 use Rattle.rs_demos.specs.Texts.{IsDemoText}
-use Rattle.rs_demos.specs.declared.kinds.Demo.{Demo}
+use Rattle.rs_model.specs.declared.demos.Demo.{Demo}
 use Rattle.rs_demos.proofs.Canonical.{double_is, stream_is}
 use Rattle.rs_demos.proofs.Printed.{if-ok}
 use Rattle.rs_demos.proofs.Straight.{ring_is, butterfly_is}

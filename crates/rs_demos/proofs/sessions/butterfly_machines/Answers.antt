@@ -2,8 +2,8 @@ use Rattle.std.proofs.Common.{◌≡◌, ◌<◌, ◌++◌, inl, inr, ℕ, Bool,
 use Rattle.std.proofs.lemmas.Bool.Decides.{eqb_tells}
 use Rattle.rs_demos.proofs.Ranges.{one-more}
 use Rattle.rs_demos.specs.Sessions.{butterfly_machine, machine_with_line}
-use Rattle.rs_demos.specs.declared.kinds.Demo.TheVariants as demo
 use Rattle.rs_model.specs.Data.{Machine_data}
+use Rattle.rs_model.specs.declared.demos.Demo.TheVariants as demo
 use Rattle.rs_demos.proofs.sessions.butterfly_machines.Goals as goal
 
 -- all roles but the first have a line

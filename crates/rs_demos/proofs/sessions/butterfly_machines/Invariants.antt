@@ -1,6 +1,6 @@
 use Rattle.std.proofs.Common.{◌≡◌, ◌<◌, ◌++◌, ◌-◌, map}
 use Rattle.rs_demos.specs.Sessions.{butterfly_machine, numbers_from, machine_with_line, written_machines}
-use Rattle.rs_demos.specs.declared.kinds.Demo.TheVariants as demo
+use Rattle.rs_model.specs.declared.demos.Demo.TheVariants as demo
 use Rattle.rs_demos.proofs.sessions.butterfly_machines.Given as goal
 
 abbrev pub invariant-loop-role : goal.invariant-loop-role
