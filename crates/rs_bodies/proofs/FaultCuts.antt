@@ -128,14 +128,14 @@ in_an_arm dia p m arm t g = elim g [
   | inr z ↦ (in_acts p m z.0 z.1 at_body, ap (λ o. plain p ∷ (turn_signs dia m ++ (lone_signs dia ++ o))) (append-nil (arm_signs z.0 z.1) ∙ z.2) ∙ lone_tail dia p m (arm_cut_signs arm) (t ∷ []))
 ]
 
+-- a label, or an open brace
+marked_grows : (p : List ℕ) (m : Turn Acts) (t : Sign) → IsProper t → takes wanted.LabelOrBrace t ≡ true → LoneGrows Acts p m at_label t
+marked_grows p m open_brace q h = (in_offers p m (in_head at_label), lone_tail Acts p m [] (open_brace ∷ []))
+marked_grows p m t q h = in_an_arm Acts p m at_label t (arm_grows Acts at_label t q h)
+
 first_grows : (dia : Dialect) (p : List ℕ) (m : Turn dia) (t : Sign) → IsProper t → takes (wanted_alone dia at_label) t ≡ true → LoneGrows dia p m at_label t
 first_grows Talks p m t q h = in_an_arm Talks p m at_label t (arm_grows Talks at_label t q h)
-first_grows Acts p (with_mark mark.Puts) open_brace q h = (in_offers p (with_mark mark.Puts) (in_head at_label), refl)
-first_grows Acts p (with_mark mark.Takes) open_brace q h = (in_offers p (with_mark mark.Takes) (in_head at_label), refl)
-first_grows Acts p m rec_word q h = in_an_arm Acts p m at_label rec_word (arm_grows Acts at_label rec_word q refl)
-first_grows Acts p m end_word q h = in_an_arm Acts p m at_label end_word (arm_grows Acts at_label end_word q refl)
-first_grows Acts p m (plain text) q h = in_an_arm Acts p m at_label (plain text) (arm_grows Acts at_label (plain text) q refl)
-first_grows Acts p m _ q h = cc
+first_grows Acts p m t q h = marked_grows p m t q h
 
 lone_grows : (dia : Dialect) (p : List ℕ) (m : Turn dia) (arm : ArmCut) (t : Sign) → IsProper t → takes (wanted_alone dia arm) t ≡ true → LoneGrows dia p m arm t
 lone_grows dia p m at_label t q h = first_grows dia p m t q h
@@ -145,20 +145,32 @@ lone_grows dia p m (behind_sort l s) t q h = in_an_arm dia p m (behind_sort l s)
 lone_grows dia p m (behind_head l s) t q h = in_an_arm dia p m (behind_head l s) t (arm_grows dia (behind_head l s) t q h)
 
 -- within a head
+arrow_grows : (x : List ℕ) (t : Sign) → takes wanted.Role t ≡ true → (d : Cut Talks) × (cut_signs Talks d ≡ plain x ∷ arrow ∷ t ∷ [])
+arrow_grows x (plain r) h = (in_turn x (behind_receiver r), refl)
+arrow_grows x _ h = cc
+
+receiver_grows : (x r : List ℕ) (t : Sign) → takes wanted.ColonOrBrace t ≡ true → (d : Cut Talks) × (cut_signs Talks d ≡ plain x ∷ arrow ∷ plain r ∷ t ∷ [])
+receiver_grows x r colon h = (in_arm x (sends_to r) at_label, refl)
+receiver_grows x r open_brace h = (in_offers x (sends_to r) (in_head at_label), refl)
+receiver_grows x r _ h = cc
+
 turn_grows : (dia : Dialect) (x : List ℕ) (y : TurnCut dia) (t : Sign) → takes (wanted_at dia (in_turn x y) wanted.PartOrEnd) t ≡ true → (d : Cut dia) × (cut_signs dia d ≡ cut_signs dia (in_turn x y) ++ t ∷ [])
-turn_grows Talks x behind_arrow (plain r) h = (in_turn x (behind_receiver r), refl)
-turn_grows Talks x behind_arrow _ h = cc
-turn_grows Talks x (behind_receiver r) colon h = (in_arm x (sends_to r) at_label, refl)
-turn_grows Talks x (behind_receiver r) open_brace h = (in_offers x (sends_to r) (in_head at_label), refl)
-turn_grows Talks x (behind_receiver r) _ h = cc
+turn_grows Talks x behind_arrow t h = arrow_grows x t h
+turn_grows Talks x (behind_receiver r) t h = receiver_grows x r t h
 turn_grows Acts x y t h = elim y [ ]
 
+talk_begins : (n : List ℕ) (u : Sign) → turns Talks u ≡ true → (d : Cut Talks) × (cut_signs Talks d ≡ plain n ∷ u ∷ [])
+talk_begins n arrow h = (in_turn n behind_arrow, refl)
+talk_begins n _ h = cc
+
+act_begins : (n : List ℕ) (u : Sign) → turns Acts u ≡ true → (d : Cut Acts) × (cut_signs Acts d ≡ plain n ∷ u ∷ [])
+act_begins n bang h = (in_arm n (with_mark mark.Puts) at_label, refl)
+act_begins n question h = (in_arm n (with_mark mark.Takes) at_label, refl)
+act_begins n _ h = cc
+
 turn_begins : (dia : Dialect) (n : List ℕ) (u : Sign) → turns dia u ≡ true → (d : Cut dia) × (cut_signs dia d ≡ plain n ∷ u ∷ [])
-turn_begins Talks n arrow h = (in_turn n behind_arrow, refl)
-turn_begins Acts n bang h = (in_arm n (with_mark mark.Puts) at_label, refl)
-turn_begins Acts n question h = (in_arm n (with_mark mark.Takes) at_label, refl)
-turn_begins Talks n _ h = cc
-turn_begins Acts n _ h = cc
+turn_begins Talks n u h = talk_begins n u h
+turn_begins Acts n u h = act_begins n u h
 
 turn_completes : (dia : Dialect) (x : List ℕ) (y : TurnCut dia) → (b : Body dia) × (rest : List Sign) × (body_signs dia b ≡ cut_signs dia (in_turn x y) ++ rest)
 turn_completes Talks x behind_arrow = (offers x (sends_to (codes "x")) (one (codes "x") None ends), plain (codes "x") ∷ open_brace ∷ ((arm_signs (codes "x") None ++ end_word ∷ []) ++ close_brace ∷ []), refl)
