@@ -32,7 +32,7 @@ fn unit(label: u16) -> Parcel
 
 /// A and B have swapped their labels and have ended: which labels they got, and what is left.
 #[tactic(auto, using(crate::proofs::Safe::is_swap_safe, crate::proofs::Safe::is_swap_fits, crate::proofs::Sends::swap_puts, crate::proofs::Sends::swap_takes))]
-fn swapped<R: Wait>(rt: &R, alloc: Global) -> Result<(u16, u16, Closed), NoMemory> {
+fn end_of_swap<R: Wait>(rt: &R, alloc: Global) -> Result<(u16, u16, Closed), NoMemory> {
     let machines = machines::swap(alloc)?;
     let (rings, pass) = begin(alloc, machines.as_slice(), 2)?;
     let (a, b) = pair_of(&rings, pass);
@@ -66,7 +66,7 @@ fn close(rings: Rings, a: Player, b: Player) -> Closed
 
 /// A and B have sent their labels and are left there: what is still in the rings.
 #[tactic(auto, using(crate::proofs::Safe::is_swap_safe, crate::proofs::Safe::is_swap_fits, crate::proofs::Sends::swap_puts, crate::proofs::Plays::all_of_two))]
-fn left<R: Wait>(rt: &R, alloc: Global) -> Result<Vec<Loose>, NoMemory> {
+fn loose_labels<R: Wait>(rt: &R, alloc: Global) -> Result<Vec<Loose>, NoMemory> {
     let loose = Vec::with_capacity(alloc, 4)?;
     let machines = machines::swap(alloc)?;
     let (rings, pass) = begin(alloc, machines.as_slice(), 2)?;
@@ -106,7 +106,7 @@ fn one_has_room(alloc: Global) -> Result<bool, NoMemory> {
 
 /// Whether A and B get each other's labels, and both roles have ended.
 fn swap_ends<R: Wait>(rt: &R, alloc: Global) -> Result<bool, NoMemory> {
-    let (y, x, closed) = swapped(rt, alloc)?;
+    let (y, x, closed) = end_of_swap(rt, alloc)?;
     Ok(y == 1 && x == 0 && closed.roles() == 2)
 }
 
@@ -119,7 +119,7 @@ fn is_loose(loose: &Loose, sender: u8, receiver: u8, label: u16) -> bool {
 
 /// Whether both labels are handed out where A and B are left.
 fn labels_are_left<R: Wait>(rt: &R, alloc: Global) -> Result<bool, NoMemory> {
-    let loose = left(rt, alloc)?;
+    let loose = loose_labels(rt, alloc)?;
     match loose.as_slice() {
         [x, y] => Ok(is_loose(x, 0, 1, 0) && is_loose(y, 1, 0, 1)),
         _ => Ok(false),
